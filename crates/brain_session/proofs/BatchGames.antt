@@ -18,7 +18,7 @@ use Rattle.game_rules.proofs.Positions.{IsBoard-put, stones_of-put}
 use Rattle.game_rules.proofs.Cells.{own_stone, other_stone}
 use Rattle.brain_session.specs.declared.batch.BatchStone.{BatchStone}
 use Rattle.brain_session.specs.States.{Batch, empty_board}
-use Rattle.brain_session.specs.Batches.{side_of, with_stones, colour_by, colour_in}
+use Rattle.brain_session.specs.Batches.{side_of, with_batch_stones, colour_by, colour_in}
 use Rattle.brain_session.specs.Running.{StonesFit}
 use Rattle.brain_session.proofs.Rounds.{empty-empty, no-stones}
 
@@ -68,9 +68,9 @@ side-other brain side opponent own fails e f = rw fails (e ∙ f)
 
 pub put-more : (brain side : Side) (start board next : Grid) (stones : List BatchStone) (i : ℕ) (d : BatchStone) → i < length stones
     → side ≡ side_of brain (get_or stones i d) → next ≡ put board side (get_or stones i d).at
-    → board ≡ with_stones brain start (take i stones) → next ≡ with_stones brain start (take (i + 1) stones)
+    → board ≡ with_batch_stones brain start (take i stones) → next ≡ with_batch_stones brain start (take (i + 1) stones)
 put-more brain side start board next stones i d less by put_here so_far =
-    let more : with_stones brain start (take (i + 1) stones) ≡ put (with_stones brain start (take i stones))
+    let more : with_batch_stones brain start (take (i + 1) stones) ≡ put (with_batch_stones brain start (take i stones))
     (side_of brain (get_or stones i d)) (get_or stones i d).at =
     fold_more (λ (c : Grid) (s : BatchStone). put c (side_of brain s) s.at) start stones i d less in
     put_here ∙ rw (by, so_far) (sym more)
@@ -78,14 +78,14 @@ put-more brain side start board next stones i d less by put_here so_far =
 -- the stones on the board after these were put are those before, and these
 stones_of-with : (brain s : Side) (stones : List BatchStone) (b : Grid) → IsBoard b → All (λ x. is_empty b x.at ≡ true) stones
     → AllPairs (λ x u. is_same_point x.at u.at ≡ false) stones
-    → stones_of (with_stones brain b stones) s ≡ stones_of b s + count_by (λ x. is_stone_of s (stone_of (side_of brain x))) stones
+    → stones_of (with_batch_stones brain b stones) s ≡ stones_of b s + count_by (λ x. is_stone_of s (stone_of (side_of brain x))) stones
 stones_of-with brain s [] b board empty distinct = omega arith
 stones_of-with brain s (x ∷ xs) b board empty distinct =
     let here : is_empty b x.at ≡ true = empty 0 x (omega arith) in
     let c : Grid = put b (side_of brain x) x.at in
     let one : stones_of c s ≡ stones_of b s + cond (is_stone_of s (stone_of (side_of brain x))) 1 0 =
     stones_of-put b (side_of brain x) s x.at board here in
-    let rest : stones_of (with_stones brain c xs) s ≡ stones_of c s + count_by (λ y. is_stone_of s (stone_of (side_of brain y))) xs =
+    let rest : stones_of (with_batch_stones brain c xs) s ≡ stones_of c s + count_by (λ y. is_stone_of s (stone_of (side_of brain y))) xs =
     stones_of-with brain s xs c (IsBoard-put b (side_of brain x) x.at board)
     (λ k d less.
     is_empty-put b (side_of brain x) x.at (get_or xs k d).at (is_empty-on b x.at here)
@@ -126,8 +126,8 @@ none n k e = omega arith
 -- the stones of either side on the board of a batch are those that the batch names as its own
 pub batch-counts : (brain : Side) (width height : ℕ) (stones : List BatchStone) (bad : Bool) → IsBoard (empty_board width height)
     → StonesFit (empty_board width height) (record { stones = stones; bad = bad })
-    → (stones_of (with_stones brain (empty_board width height) stones) brain ≡ count_by (λ x. x.own) stones)
-    × (stones_of (with_stones brain (empty_board width height) stones) (other brain) ≡ count_by (λ x. not x.own) stones)
+    → (stones_of (with_batch_stones brain (empty_board width height) stones) brain ≡ count_by (λ x. x.own) stones)
+    × (stones_of (with_batch_stones brain (empty_board width height) stones) (other brain) ≡ count_by (λ x. not x.own) stones)
 batch-counts brain width height stones bad board fit =
     let b : Grid = empty_board width height in
     let empty : All (λ x. is_empty b x.at ≡ true) stones =
@@ -145,10 +145,11 @@ batch-counts brain width height stones bad board fit =
 -- on the board of a batch whose stones name the brain's colour, the brain is to move
 pub batch-mover : (brain : Side) (width height : ℕ) (stones : List BatchStone) (bad : Bool) → IsBoard (empty_board width height)
     → StonesFit (empty_board width height) (record { stones = stones; bad = bad }) → colour_in stones ≡ Some brain
-    → mover (with_stones brain (empty_board width height) stones) ≡ brain
+    → mover (with_batch_stones brain (empty_board width height) stones) ≡ brain
 batch-mover brain width height stones bad board fit colour =
     let counts = batch-counts brain width height stones bad board fit in
-    mover-by brain (with_stones brain (empty_board width height) stones) (count_by (λ x. x.own) stones) (count_by (λ x. not x.own) stones)
+    mover-by brain (with_batch_stones brain (empty_board width height) stones) (count_by (λ x. x.own) stones)
+    (count_by (λ x. not x.own) stones)
     counts.0 counts.1 colour
 
 -- where the counts of the batch's board name the brain as the side to move, its stones name the brain's colour
@@ -176,7 +177,7 @@ batch-colour White b own others names turn mine theirs = by_test (stones_of b Bl
 -- the same on the board that a batch gave, where one is read
 pub batch-to_move : (o : Option Batch) (brain : Side) (width height : ℕ) (c : Grid) → IsSome o → IsBoard (empty_board width height)
     → IfSome o (StonesFit (empty_board width height)) → IfSome o (λ b. Some brain ≡ colour_in b.stones)
-    → IfSome o (λ b. c ≡ with_stones brain (empty_board width height) b.stones) → mover c ≡ brain
+    → IfSome o (λ b. c ≡ with_batch_stones brain (empty_board width height) b.stones) → mover c ≡ brain
 batch-to_move None brain width height c read board fit colour here = absurd (cc)
 batch-to_move (Some b) brain width height c read board fit colour here =
     ap mover here ∙ batch-mover brain width height b.stones b.bad board fit (sym colour)

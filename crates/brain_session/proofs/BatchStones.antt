@@ -19,7 +19,7 @@ use Rattle.game_rules.proofs.Cells.{stone-there, Makes, IsLike, on-like, same-le
 use Rattle.game_rules.specs.declared.Cell.TheVariants.{Empty}
 use Rattle.game_rules.proofs.Positions.{IsBoard-put}
 use Rattle.brain_session.specs.declared.batch.BatchStone.{BatchStone}
-use Rattle.brain_session.specs.Batches.{has_stone_at, side_of, with_stones}
+use Rattle.brain_session.specs.Batches.{has_stone_at, side_of, with_batch_stones}
 use Rattle.brain_session.specs.ChosenMoves.{same_rule}
 use Rattle.brain_session.specs.States.{empty_board}
 use Rattle.brain_session.proofs.Rounds.{empty-board, empty-empty}
@@ -123,7 +123,7 @@ same-cells b c board other wide high same =
     λ i. record { width = wide i; height = high i; cells = cells i }
 
 rebuilt : (b : Grid) → IsBoard b → (ps : List Point) → ((q : Point) → list_any (λ p. is_same_point p q) ps ≡ true → is_on b q ≡ true)
-    → (c : Grid) → IsLike b c → Makes b c ps → with_stones (mover b) c (stones_at b ps) ≡ b
+    → (c : Grid) → IsLike b c → Makes b c ps → with_batch_stones (mover b) c (stones_at b ps) ≡ b
 unfolding Makes
 rebuilt b board [] on c like makes = same-cells b c board like.board like.wide like.high (λ q o. elim (makes q o) [
   | inl same ↦ same
@@ -136,8 +136,8 @@ rebuilt b board (p ∷ ps) on c like makes = by_test (is_empty b p) refl (λ d a
   on_p : is_on b p ≡ true
   on_p = on p (ap (λ (r : Bool). r || list_any (λ x. is_same_point x p) ps) (is_same_point-itself p))
 
-  by_test : (r : Bool) → is_empty b p ≡ r → ((d : Grid) → IsLike b d → Makes b d ps → with_stones (mover b) d (stones_at b ps) ≡ b)
-      → with_stones (mover b) c
+  by_test : (r : Bool) → is_empty b p ≡ r → ((d : Grid) → IsLike b d → Makes b d ps → with_batch_stones (mover b) d (stones_at b ps) ≡ b)
+      → with_batch_stones (mover b) c
       (map (stone_at b) (cond (not r) (p ∷ filter (λ x. not (is_empty b x)) ps) (filter (λ x. not (is_empty b x)) ps))) ≡ b
   by_test true e later = later c like (makes-empty b c p ps e makes)
   by_test false e later =
@@ -146,7 +146,7 @@ rebuilt b board (p ∷ ps) on c like makes = by_test (is_empty b p) refl (λ d a
       (makes-stone b c p ps like on_p e makes)
 
 -- the stones of a board make it
-pub stones-make : (b : Grid) → IsBoard b → with_stones (mover b) (empty_board b.width b.height) (stones_at b (points_of b)) ≡ b
+pub stones-make : (b : Grid) → IsBoard b → with_batch_stones (mover b) (empty_board b.width b.height) (stones_at b (points_of b)) ≡ b
 unfolding Makes
 stones-make b board =
     rebuilt b board (points_of b) (listed_on b) (empty_board b.width b.height)

@@ -18,7 +18,7 @@ use Rattle.brain_session.specs.declared.guide.Guide.{Guide}
 use Rattle.brain_session.specs.declared.guide.Guide.TheVariants.{HeldNode as HeldGuide, OwnWin as OwnGuide}
 use Rattle.brain_session.specs.declared.course.Course.{Course}
 use Rattle.brain_session.specs.States.{Followed, HeldNode, OwnWin, Game, board_after, board_of}
-use Rattle.brain_session.specs.ChosenMoves.{Choice, or_else, after_reply, last_move, move_by, by_following, followed_on, by_followed}
+use Rattle.brain_session.specs.ChosenMoves.{Choice, or_else, followed_after, last_move, move_by, by_following, followed_on, by_followed}
 use Rattle.brain_session.specs.ChosenMoves.{first_node, by_held, own_win, by_own_win, by_plain_move, chosen_anew, chosen}
 use Rattle.brain_session.specs.Running.{GoesOnAlong, EndsGame, FollowsAt, FollowsOn, IsOpponentNext, IsPlayed}
 use Rattle.brain_session.specs.Kept.{Moves, GuidesAt, GuidesOn, GoesOnAfter, IsKeptUp, IsInTable, IsReady, NodeStandsAt, StandsAt}
@@ -88,7 +88,7 @@ node-in_table h rule b (HeldGuide node) at = at.0
 node-in_table h rule b (OwnGuide own) at = (at.in_table, wins-some rule own.moves b at.wins)
 
 after-followed : (h : HeldTable) (g : Guide) (q : Point) (new : Guide) → guide_after h g q ≡ Some new
-    → after_reply h (followed_of g) q ≡ Some (followed_of new)
+    → followed_after h (followed_of g) q ≡ Some (followed_of new)
 after-followed h (HeldGuide node) q new e = by_answer (answer_at h.table node q) e where
   by_answer : (o : Option ℕ) → option_map (λ j. HeldGuide j) o ≡ Some new → option_map (λ j. HeldNode j) o ≡ Some (followed_of new)
   by_answer None e = cc
@@ -125,8 +125,8 @@ module _ (h : HeldTable) (m : Moves) (c : Course) (q : Point) (guide new : Guide
       → by_followed h (game_of m c) ≡ Some (record { at = at; followed = Some (followed_of new) })
   follow-on at moves =
       ap (λ (o : Option Guide). option_and_then (by_following h (game_of m c))
-      (option_and_then (λ f. option_and_then (after_reply h f) (last_move m.moves)) (option_map followed_of o))) follows
-      ∙ ap (λ (o : Option Point). option_and_then (by_following h (game_of m c)) (option_and_then (after_reply h (followed_of guide)) o))
+      (option_and_then (λ f. option_and_then (followed_after h f) (last_move m.moves)) (option_map followed_of o))) follows
+      ∙ ap (λ (o : Option Point). option_and_then (by_following h (game_of m c)) (option_and_then (followed_after h (followed_of guide)) o))
       last
       ∙ ap (option_and_then (by_following h (game_of m c))) (after-followed h guide q new after_it)
       ∙ ap (option_map (λ p. record { at = p; followed = Some (followed_of new) })) moves

@@ -24,7 +24,7 @@ use Rattle.brain_session.specs.declared.Reaction.{Reaction}
 use Rattle.brain_session.specs.declared.Reaction.TheVariants.{Silent, Says, Ends}
 use Rattle.brain_session.specs.declared.batch.BatchStone.{BatchStone}
 use Rattle.brain_session.specs.States.{Game, board_of, empty_board, new_game, Place, NoBoard, Fresh, InGame, Batch, State, new_brain}
-use Rattle.brain_session.specs.Batches.{side_of, colour_in, with_stones, lawful_game, game_from}
+use Rattle.brain_session.specs.Batches.{side_of, colour_in, with_batch_stones, lawful_game, game_from}
 use Rattle.brain_session.specs.ChosenMoves.{Choice, chosen}
 use Rattle.brain_session.specs.Steps.{Row, Reacts, Chooses, placed, is_side, board_in, same_side, with_move, move_row, is_bare}
 use Rattle.brain_session.specs.Steps.{place_before, row_of, with_choice, step_by, brain_step}
@@ -90,7 +90,7 @@ IsBoard-empty width height w h =
     board-sized width height (leb-true _ _ (and_left (nat_le MIN_SIDE width) _ w)) (leb-true _ _ (and_right (nat_le MIN_SIDE width) _ w))
     (leb-true _ _ (and_left (nat_le MIN_SIDE height) _ h)) (leb-true _ _ (and_right (nat_le MIN_SIDE height) _ h))
 
-IsBoard-with : (brain : Side) (b : Grid) (stones : List BatchStone) → IsBoard b → IsBoard (with_stones brain b stones)
+IsBoard-with : (brain : Side) (b : Grid) (stones : List BatchStone) → IsBoard b → IsBoard (with_batch_stones brain b stones)
 IsBoard-with brain b [] ok = ok
 IsBoard-with brain b (s ∷ stones) ok = IsBoard-with brain (put b (side_of brain s) s.at) stones (IsBoard-put b (side_of brain s) s.at ok)
 
@@ -115,9 +115,9 @@ board_in_is (Fresh width height) = (width, height, refl)
 board_in_is (InGame g) = (g.start.width, g.start.height, refl)
 
 mover_in_batch : (brain : Side) (board : Grid) (width height : ℕ) (b : Batch) → board ≡ empty_board width height → BatchFits board b
-    → colour_in b.stones ≡ Some brain → mover (with_stones brain board b.stones) ≡ brain
+    → colour_in b.stones ≡ Some brain → mover (with_batch_stones brain board b.stones) ≡ brain
 mover_in_batch brain board width height b e fits h =
-    subst (λ (c : Grid). mover (with_stones brain c b.stones) ≡ brain) (sym e)
+    subst (λ (c : Grid). mover (with_batch_stones brain c b.stones) ≡ brain) (sym e)
     (let there : BatchFits (empty_board width height) b =
     subst (λ (c : Grid). BatchFits c b) e fits in batch-mover brain width height b.stones b.bad there.0 there.1 h)
 
@@ -126,19 +126,21 @@ batch_game : (rule : RuleKind) (place : Place) (b : Batch) → BatchFits (board_
     → IfSome (game_from rule (board_in place) b) IsToMove
 batch_game rule place b fits = by_colour b.bad (colour_in b.stones) refl where
   by_refusal : (brain : Side) (o : Option PositionError) → colour_in b.stones ≡ Some brain
-      → refusal rule (with_stones brain (board_in place) b.stones) ≡ o
-      → IfSome (cond (is_none o) (Some (new_game rule (with_stones brain (board_in place) b.stones) brain)) None) IsToMove
+      → refusal rule (with_batch_stones brain (board_in place) b.stones) ≡ o
+      → IfSome (cond (is_none o) (Some (new_game rule (with_batch_stones brain (board_in place) b.stones) brain)) None) IsToMove
   by_refusal brain (Some error) c e = tt
   by_refusal brain None c e = record {
-    along = lawful_from_none rule (with_stones brain (board_in place) b.stones) (IsBoard-with brain (board_in place) b.stones fits.0) e;
+    along = lawful_from_none rule (with_batch_stones brain (board_in place) b.stones) (IsBoard-with brain (board_in place) b.stones fits.0)
+        e;
     turn = let is = board_in_is place in mover_in_batch brain (board_in place) is.0 is.1 b is.2 fits c;
   }
 
   by_colour : (bad : Bool) (o : Option Side) → colour_in b.stones ≡ o
-      → IfSome (cond bad None (option_and_then (λ brain. lawful_game rule (with_stones brain (board_in place) b.stones) brain) o)) IsToMove
+      → IfSome (cond bad None (option_and_then (λ brain. lawful_game rule (with_batch_stones brain (board_in place) b.stones) brain) o))
+      IsToMove
   by_colour true o e = tt
   by_colour false None e = tt
-  by_colour false (Some brain) e = by_refusal brain (refusal rule (with_stones brain (board_in place) b.stones)) e refl
+  by_colour false (Some brain) e = by_refusal brain (refusal rule (with_batch_stones brain (board_in place) b.stones)) e refl
 
 -- ---- a move of the opponent
 

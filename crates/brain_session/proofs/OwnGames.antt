@@ -39,7 +39,7 @@ use Rattle.gomocup_text.specs.declared.ErrorText.TheVariants.{OpponentFoul}
 use Rattle.brain_session.specs.declared.TheConstants.{OWN_MOVES, OWN_POSITIONS}
 use Rattle.brain_session.specs.declared.Reaction.TheVariants.{Says}
 use Rattle.brain_session.specs.States.{Followed, OwnWin, Game, board_of, State, new_brain}
-use Rattle.brain_session.specs.ChosenMoves.{Choice, or_else, after_reply as followed_after, by_following, last_move, chosen, chosen_anew}
+use Rattle.brain_session.specs.ChosenMoves.{Choice, or_else, followed_after, by_following, last_move, chosen, chosen_anew}
 use Rattle.brain_session.specs.ChosenMoves.{by_followed, first_node, own_win}
 use Rattle.brain_session.specs.Steps.{Step, step_by, with_choice, brain_step}
 use Rattle.brain_session.specs.Sessions.{state_after}

@@ -17,7 +17,7 @@ use Rattle.gomocup_text.specs.declared.ErrorText.TheVariants.{UnsupportedSize, N
 use Rattle.gomocup_text.specs.declared.ErrorText.TheVariants.{BadBoard, BadArguments, GameStarted, GameOver, WrongTurn, BadMove}
 use Rattle.brain_session.specs.declared.Reaction.TheVariants.{Silent, Says, Ends}
 use Rattle.brain_session.specs.States.{Game, board_of, empty_board, new_game, point_at, Place, NoBoard, Fresh, InGame, Batch, State}
-use Rattle.brain_session.specs.Batches.{new_batch, spoiled, with_stone, game_from}
+use Rattle.brain_session.specs.Batches.{new_batch, spoiled, with_batch_stone, game_from}
 use Rattle.brain_session.specs.Steps.{Row, Reacts, Chooses, fails, unread, reading, placed, rule_of, if_supported, is_side, start_row}
 use Rattle.brain_session.specs.Steps.{restart_row, board_row, board_in, stone_row, batch_row, done_row, begin_row, same_side, move_row}
 use Rattle.brain_session.specs.Steps.{turn_row, place_before, last_row, takeback_row, if_not_reading, row_of}
@@ -35,7 +35,7 @@ pub record RowCases (P : Row → Type 0) (s : State) (c : Command) : Type 0 wher
   -- a batch
   pub reads : s.place ≢ NoBoard → P (Reacts Silent (reading s new_batch))
   pub stone : (b : Batch) (p : Point) (field : ℕ) → s.batch ≡ Some b
-      → P (Reacts Silent (reading s (with_stone (is_on (board_in s.place) p) b p field)))
+      → P (Reacts Silent (reading s (with_batch_stone (is_on (board_in s.place) p) b p field)))
   pub spoils : (b : Batch) → s.batch ≡ Some b → P (Reacts Silent (reading s (spoiled b)))
   pub is_bad : (a : Answer) → P (Reacts (Says a) (unread s))
   pub whole : (rule : RuleKind) (b : Batch) (g : Game) → rule_of s.wish ≡ Some rule → s.batch ≡ Some b

@@ -19,7 +19,7 @@ use Rattle.brain_session.specs.declared.Reaction.{Reaction}
 use Rattle.brain_session.specs.declared.Reaction.TheVariants.{Silent, Says}
 use Rattle.brain_session.specs.declared.batch.BatchStone.{BatchStone}
 use Rattle.brain_session.specs.States.{Game, Batch, Place, NoBoard, InGame, State, empty_board, point_at}
-use Rattle.brain_session.specs.Batches.{new_batch, spoiled, has_stone_at, with_stone, with_stone_at, game_from}
+use Rattle.brain_session.specs.Batches.{new_batch, spoiled, has_stone_at, with_batch_stone, with_stone_at, game_from}
 use Rattle.brain_session.specs.ChosenMoves.{chosen}
 use Rattle.brain_session.specs.Steps.{Row, Reacts, fails, unread, reading, placed, if_supported, rule_of, with_choice, begin_row, turn_row}
 use Rattle.brain_session.specs.Steps.{takeback_row, batch_row, done_row, board_in, row_of, step_by, brain_step, if_not_reading}
@@ -69,7 +69,7 @@ pub spoiled_fits : (b : Grid) (batch : Batch) → StonesFit b batch → StonesFi
 spoiled_fits b batch fit = record { on_board = fit.on_board; distinct = fit.distinct }
 
 pub stone_fits : (b : Grid) (on : Bool) (batch : Batch) (p : Point) (field : ℕ) → (on ≡ true → is_on b p ≡ true) → StonesFit b batch
-    → StonesFit b (with_stone on batch p field)
+    → StonesFit b (with_batch_stone on batch p field)
 stone_fits b on batch p field there fit = by_tests on (field == 1 || field == 2) (has_stone_at batch.stones p) refl refl where
   by_tests : (o r t : Bool) → on ≡ o → has_stone_at batch.stones p ≡ t
       → StonesFit b (if o && r && not t then record batch { stones = batch.stones ++ record { at = p; own = field == 1 } ∷ [] } else spoiled

@@ -28,8 +28,8 @@ has_stone_at stones p = list_any (λ s. is_same_point s.at p) stones
 
 -- the batch after a line X,Y,FIELD, where on tells whether X,Y is on the board: the field is 1 for a stone of the brain and 2 for
 -- one of the opponent; a point off the board, another field and a point that has a stone make the batch bad
-abbrev pub with_stone : Bool → Batch → Point → ℕ → Batch
-with_stone on b p field =
+abbrev pub with_batch_stone : Bool → Batch → Point → ℕ → Batch
+with_batch_stone on b p field =
     if on && (field == 1 || field == 2) && not (has_stone_at b.stones p) then record b
     { stones = b.stones ++ record { at = p; own = field == 1 } ∷ [] }
     else spoiled b
@@ -37,7 +37,7 @@ with_stone on b p field =
 -- the same where the point is told only if it is on the board
 abbrev pub with_stone_at : Batch → Option Point → ℕ → Batch
 with_stone_at b None field = spoiled b
-with_stone_at b (Some p) field = with_stone true b p field
+with_stone_at b (Some p) field = with_batch_stone true b p field
 
 -- the brain's colour by the numbers of its stones and the opponent's: Black where they are equal, White where the opponent has
 -- one more, and else the position is none in which the brain is to move
@@ -53,8 +53,8 @@ abbrev pub side_of : Side → BatchStone → Side
 side_of brain s = if s.own then brain else other brain
 
 -- the board with these stones put on it
-abbrev pub with_stones : Side → Grid → List BatchStone → Grid
-with_stones brain b stones = fold (λ c s. put c (side_of brain s) s.at) b stones
+abbrev pub with_batch_stones : Side → Grid → List BatchStone → Grid
+with_batch_stones brain b stones = fold (λ c s. put c (side_of brain s) s.at) b stones
 
 -- the game from this position, if it is lawful
 abbrev pub lawful_game : RuleKind → Grid → Side → Option Game
@@ -65,4 +65,4 @@ lawful_game rule start brain = if is_none (refusal rule start) then Some (new_ga
 abbrev pub game_from : RuleKind → Grid → Batch → Option Game
 game_from rule empty b =
     if b.bad then None
-    else option_and_then (λ brain. lawful_game rule (with_stones brain empty b.stones) brain) (colour_in b.stones)
+    else option_and_then (λ brain. lawful_game rule (with_batch_stones brain empty b.stones) brain) (colour_in b.stones)

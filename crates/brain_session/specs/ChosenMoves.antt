@@ -37,9 +37,9 @@ or_else None other = other tt
 
 -- what is followed after the reply q: at a node of the held table its answer to q, if it has one, and in the brain's own win
 -- the win with one move fewer
-abbrev pub after_reply : HeldTable → Followed → Point → Option Followed
-after_reply h (HeldNode i) q = option_map (λ j. HeldNode j) (answer_at h.table i q)
-after_reply h (OwnWin moves) q = Some (OwnWin (moves - 1))
+abbrev pub followed_after : HeldTable → Followed → Point → Option Followed
+followed_after h (HeldNode i) q = option_map (λ j. HeldNode j) (answer_at h.table i q)
+followed_after h (OwnWin moves) q = Some (OwnWin (moves - 1))
 
 -- the move at b by what is followed: the attack of the node, or the chosen move of the win by fours
 abbrev pub move_by : HeldTable → RuleKind → Grid → Followed → Option Point
@@ -57,7 +57,7 @@ last_move (p ∷ before) = Some p
 
 -- what is followed after the last move of the game, if anything was and goes on
 abbrev pub followed_on : HeldTable → Game → Option Followed
-followed_on h g = option_and_then (λ f. option_and_then (after_reply h f) (last_move g.moves)) g.followed
+followed_on h g = option_and_then (λ f. option_and_then (followed_after h f) (last_move g.moves)) g.followed
 
 -- rule 1: what was followed before the opponent's move is followed after it
 abbrev pub by_followed : HeldTable → Game → Option Choice

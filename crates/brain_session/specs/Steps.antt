@@ -22,7 +22,7 @@ use Rattle.gomocup_text.specs.declared.ErrorText.TheVariants.{OpponentFoul, Game
 use Rattle.brain_session.specs.declared.Reaction.{Reaction}
 use Rattle.brain_session.specs.declared.Reaction.TheVariants.{Silent, Says, Ends}
 use Rattle.brain_session.specs.States.{Game, board_of, empty_board, new_game, point_at, Place, NoBoard, Fresh, InGame, Batch, State}
-use Rattle.brain_session.specs.Batches.{new_batch, spoiled, with_stone, game_from}
+use Rattle.brain_session.specs.Batches.{new_batch, spoiled, with_batch_stone, game_from}
 use Rattle.brain_session.specs.ChosenMoves.{Choice, chosen}
 
 -- what a row of the protocol says: a reaction and the state after it, or that the brain makes its chosen move in a game
@@ -87,7 +87,7 @@ board_in (InGame g) = empty_board g.start.width g.start.height
 -- a line X,Y,FIELD: a stone of the batch
 abbrev pub stone_row : State → Option Batch → Point → ℕ → Row
 stone_row s None p field = Reacts (Says SaysUnknown) s
-stone_row s (Some b) p field = Reacts Silent (reading s (with_stone (is_on (board_in s.place) p) b p field))
+stone_row s (Some b) p field = Reacts Silent (reading s (with_batch_stone (is_on (board_in s.place) p) b p field))
 
 -- the brain moves in the game, or the position of the batch is bad
 abbrev pub batch_row : State → Option Game → Row

@@ -8,7 +8,7 @@ ghost use Rattle.std.specs.Prelude.{◌≡◌, ◌≤◌, ◌<◌, [], Some, Non
 ghost use Rattle.std.specs.Option.{option_map};
 ghost use Rattle.game_rules.specs.declared.TheConstants.{MIN_SIDE, MAX_SIDE};
 ghost use Rattle.brain_session.specs.Running.{StonesFit};
-ghost use Rattle.brain_session.specs.Batches.{colour_in as colour_in_lem, has_stone_at as has_stone_at_lem, new_batch, spoiled, with_stone_at, with_stones};
+ghost use Rattle.brain_session.specs.Batches.{colour_in as colour_in_lem, has_stone_at as has_stone_at_lem, new_batch, spoiled, with_stone_at, with_batch_stones};
 ghost use Rattle.brain_session.specs.States.{empty_board};
 
 use crate::MAX_POINTS;
@@ -142,7 +142,7 @@ impl BatchReader {
         requires high { MIN_SIDE ≤ height }
         requires height_fits { height ≤ MAX_SIDE }
         requires fit { IfSome self.now (StonesFit (empty_board width height)) }
-        ensures board { IfOk result (λ c. IfSome self.now (λ b. c ≡ with_stones brain (empty_board width height) b.stones)) }
+        ensures board { IfOk result (λ c. IfSome self.now (λ b. c ≡ with_batch_stones brain (empty_board width height) b.stones)) }
     {
         let mut board = Board::empty(alloc, width, height)?;
         for stone in self.stones() {

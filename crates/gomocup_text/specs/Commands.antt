@@ -3,7 +3,7 @@ use Rattle.std.specs.Prelude.{ℕ, if◌then◌else◌, nat_lt, List, [], ◌∷
 use Rattle.std.specs.Str.{str_eq_ignore_ascii_case}
 use Rattle.renju_io.specs.Lines.{LineText, Text, TooLong, lines}
 use Rattle.renju_io.specs.declared.TheConstants.{MAX_LINE_BYTES}
-use Rattle.gomocup_text.specs.Words.{named, rest_of, trimmed, without_return, word_of}
+use Rattle.gomocup_text.specs.Words.{word_named, rest_of, trimmed, without_return, word_of}
 use Rattle.gomocup_text.specs.Numbers.{number_of, numbers_of_two, numbers_of_three}
 use Rattle.gomocup_text.specs.declared.words.Word.{Word}
 use Rattle.gomocup_text.specs.declared.words.Word.TheVariants as word
@@ -58,7 +58,7 @@ stone_or None other = other
 abbrev pub text_command : List ℕ → Command
 text_command [] = Blank
 text_command (byte ∷ bytes) =
-    let text = byte ∷ bytes in stone_or (numbers_of_three text) (word_command (named (word_of text)) (rest_of text))
+    let text = byte ∷ bytes in stone_or (numbers_of_three text) (word_command (word_named (word_of text)) (rest_of text))
 
 -- a line without its line feed: one carriage return at its end is dropped, then the gaps at both ends
 abbrev pub command_of : List ℕ → Command

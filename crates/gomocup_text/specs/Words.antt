@@ -45,8 +45,8 @@ abbrev pub rest_of : List ℕ → List ℕ
 rest_of text = without_front_gaps (after_first is_gap text)
 
 -- the word of a command that has this name, in either case
-abbrev pub named : List ℕ → Option Word
-named name =
+abbrev pub word_named : List ℕ → Option Word
+word_named name =
     if str_eq_ignore_ascii_case name (codes "START") then Some Start
     else if str_eq_ignore_ascii_case name (codes "RECTSTART") then Some RectStart
     else if str_eq_ignore_ascii_case name (codes "TURN") then Some Turn

@@ -4,7 +4,7 @@
 //! what follows it are told apart before either is read.
 ghost use Rattle.std.specs.Prelude.{◌≡◌, ◌<◌, IfSome, length, position};
 ghost use Rattle.std.specs.Str.{str_eq_ignore_ascii_case};
-ghost use Rattle.gomocup_text.specs.Words.{is_gap, named, rest_of, trimmed, without_end_gaps, without_front_gaps, without_return, word_of};
+ghost use Rattle.gomocup_text.specs.Words.{is_gap, word_named, rest_of, trimmed, without_end_gaps, without_front_gaps, without_return, word_of};
 
 /// The words that commands begin with.
 #[derive(Clone, Copy)]
@@ -96,7 +96,7 @@ pub fn is_word(word: &[u8], name: &[u8]) -> bool
 
 /// The word of a command with this name.
 pub fn named_word(name: &[u8]) -> Option<Word>
-    ensures word { result ≡ named name.now }
+    ensures word { result ≡ word_named name.now }
 {
     if is_word(name, b"START") {
         Some(Word::Start)

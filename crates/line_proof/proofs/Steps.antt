@@ -9,7 +9,7 @@ use Rattle.game_rules.proofs.Points.{any_witness}
 use Rattle.game_rules.proofs.Games.{each_reply, five-wins}
 use Rattle.game_rules.proofs.Outcomes.{five-outcome}
 use Rattle.threat_moves.specs.declared.threat_list.Threat.{Threat}
-use Rattle.line_proof.specs.Lines.{line_wins, line_tree, line_move, each_loses, block_of, block_or_gain, move_wins, behind_move}
+use Rattle.line_proof.specs.Lines.{line_wins, line_tree, line_move, each_loses, block_of, block_or_gain, move_wins, behind_line_move}
 
 module _ (rule : RuleKind) (ts : List Threat) (b : Grid) where
   pub no_moves-wins : line_wins rule ts 0 b ≡ false
@@ -25,7 +25,7 @@ module _ (rule : RuleKind) (ts : List Threat) (b : Grid) where
   pub quick-tree : (n : ℕ) → 1 ≤ n → wins_by_fours rule (min n 2) b ≡ true → line_tree rule ts n b ≡ 4
   unfolding line_tree
   quick-tree zero l h = absurd (omega arith)
-  quick-tree (suc n) l h = ap (λ r. cond r 4 (1 + behind_move rule b (λ ts. line_tree rule ts n) (line_move rule ts b))) h
+  quick-tree (suc n) l h = ap (λ r. cond r 4 (1 + behind_line_move rule b (λ ts. line_tree rule ts n) (line_move rule ts b))) h
 
   -- where they do not, the move of the line decides
   pub slow-wins : (n : ℕ) → 1 ≤ n → wins_by_fours rule (min n 2) b ≡ false
@@ -38,13 +38,13 @@ module _ (rule : RuleKind) (ts : List Threat) (b : Grid) where
       ∙ ap (λ (k : ℕ). move_wins rule b (λ ts. line_wins rule ts k) (line_move rule ts b)) less
 
   pub slow-tree : (n : ℕ) → 1 ≤ n → wins_by_fours rule (min n 2) b ≡ false
-      → line_tree rule ts n b ≡ 1 + behind_move rule b (λ ts. line_tree rule ts (n - 1)) (line_move rule ts b)
+      → line_tree rule ts n b ≡ 1 + behind_line_move rule b (λ ts. line_tree rule ts (n - 1)) (line_move rule ts b)
   unfolding line_tree
   slow-tree zero l h = absurd (omega arith)
   slow-tree (suc n) l h =
       let less : n ≡ suc n - 1 = omega arith in
-      ap (λ r. cond r 4 (1 + behind_move rule b (λ ts. line_tree rule ts n) (line_move rule ts b))) h
-      ∙ ap (λ (k : ℕ). 1 + behind_move rule b (λ ts. line_tree rule ts k) (line_move rule ts b)) less
+      ap (λ r. cond r 4 (1 + behind_line_move rule b (λ ts. line_tree rule ts n) (line_move rule ts b))) h
+      ∙ ap (λ (k : ℕ). 1 + behind_line_move rule b (λ ts. line_tree rule ts k) (line_move rule ts b)) less
 
   -- by the block that was asked for, at the same board
   pub move-wins : (n : ℕ) (v : Grid) (o : Option Point) → 1 ≤ n → v ≡ b → o ≡ block_of rule v → wins_by_fours rule (min n 2) b ≡ false
@@ -55,10 +55,10 @@ module _ (rule : RuleKind) (ts : List Threat) (b : Grid) where
       ∙ sym (slow-wins n some slow)
 
   pub move-tree : (n : ℕ) (v : Grid) (o : Option Point) → 1 ≤ n → v ≡ b → o ≡ block_of rule v → wins_by_fours rule (min n 2) b ≡ false
-      → 1 + behind_move rule v (λ ts. line_tree rule ts (n - 1)) (block_or_gain o ts) ≡ line_tree rule ts n b
+      → 1 + behind_line_move rule v (λ ts. line_tree rule ts (n - 1)) (block_or_gain o ts) ≡ line_tree rule ts n b
   move-tree n v o some same block slow =
-      ap (λ (o : Option Point). 1 + behind_move rule v (λ ts. line_tree rule ts (n - 1)) (block_or_gain o ts)) block
-      ∙ ap (λ (w : Grid). 1 + behind_move rule w (λ ts. line_tree rule ts (n - 1)) (line_move rule ts w)) same
+      ap (λ (o : Option Point). 1 + behind_line_move rule v (λ ts. line_tree rule ts (n - 1)) (block_or_gain o ts)) block
+      ∙ ap (λ (w : Grid). 1 + behind_line_move rule w (λ ts. line_tree rule ts (n - 1)) (line_move rule ts w)) same
       ∙ sym (slow-tree n some slow)
 
   -- two fours need no more nodes than the line

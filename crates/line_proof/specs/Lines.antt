@@ -46,13 +46,13 @@ line_wins rule ts (suc n) b =
     if wins_by_fours rule (min (suc n) 2) b then true else move_wins rule b (λ ts. line_wins rule ts n) (line_move rule ts b)
 
 -- the sum of the counts behind the replies to a move that goes on
-abbrev pub behind_move : RuleKind → Grid → (List Threat → Grid → ℕ) → Option (Point × List Threat) → ℕ
-behind_move rule b count None = 0
-behind_move rule b count (Some m) = if_goes_on (outcome rule b m.0) (behind_replies rule (count m.1) (after b m.0))
+abbrev pub behind_line_move : RuleKind → Grid → (List Threat → Grid → ℕ) → Option (Point × List Threat) → ℕ
+behind_line_move rule b count None = 0
+behind_line_move rule b count (Some m) = if_goes_on (outcome rule b m.0) (behind_replies rule (count m.1) (after b m.0))
 
 -- How many nodes a proof of such a win may put into a compiler: 4 for a win by fours within two moves, and else 1 and those behind
 -- each reply that goes on.
 unfoldable pub line_tree : RuleKind → List Threat → ℕ → Grid → ℕ
 line_tree rule ts zero b = 1
 line_tree rule ts (suc n) b =
-    if wins_by_fours rule (min (suc n) 2) b then 4 else 1 + behind_move rule b (λ ts. line_tree rule ts n) (line_move rule ts b)
+    if wins_by_fours rule (min (suc n) 2) b then 4 else 1 + behind_line_move rule b (λ ts. line_tree rule ts n) (line_move rule ts b)

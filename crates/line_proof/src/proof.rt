@@ -13,7 +13,7 @@ ghost use Rattle.strategy_compiler.specs.Nodes.{IsCompiled};
 ghost use Rattle.strategy_compiler.specs.Wins.{IsWrittenWin};
 ghost use Rattle.strategy_compiler.specs.Growth.{GrowsBy, Writes};
 ghost use Rattle.line_proof.specs.declared.TheConstants.{MAX_DEPTH};
-ghost use Rattle.line_proof.specs.Lines.{line_wins, line_tree, first_gain, block_of, each_loses, move_wins, behind_move};
+ghost use Rattle.line_proof.specs.Lines.{line_wins, line_tree, first_gain, block_of, each_loses, move_wins, behind_line_move};
 ghost use Rattle.line_proof.specs.Replies.{AreAnswers, FindsAnswers, answered, going_on};
 ghost use Rattle.line_proof.specs.Answers.{OnProved, is_proved};
 ghost use Rattle.line_proof.specs.Doubles.{IsDouble};
@@ -151,7 +151,7 @@ fn prove_gain<R: Rule, V: Seen<R>>(
     ensures wins { IfOk result (λ a. is_proved a
         ≡ move_wins R.KIND (V.position view.old) (λ ts. line_wins R.KIND ts moves) (first_gain threats.now)) }
     ensures writes { Writes compiler.old compiler.new
-        (1 + behind_move R.KIND (V.position view.old) (λ ts. line_tree R.KIND ts moves) (first_gain threats.now)) result }
+        (1 + behind_line_move R.KIND (V.position view.old) (λ ts. line_tree R.KIND ts moves) (first_gain threats.now)) result }
     ensures same { V.position view.new ≡ V.position view.old }
 {
     match threats.split_first() {
@@ -183,7 +183,7 @@ fn prove_move<R: Rule, V: Seen<R>>(
     ensures wins { IfOk result (λ a. is_proved a
         ≡ move_wins R.KIND (V.position view.old) (λ ts. line_wins R.KIND ts moves) (Some (p, threats.now))) }
     ensures writes { Writes compiler.old compiler.new
-        (1 + behind_move R.KIND (V.position view.old) (λ ts. line_tree R.KIND ts moves) (Some (p, threats.now))) result }
+        (1 + behind_line_move R.KIND (V.position view.old) (λ ts. line_tree R.KIND ts moves) (Some (p, threats.now))) result }
     ensures same { V.position view.new ≡ V.position view.old }
 {
     match view.outcome(p) {

@@ -23,8 +23,7 @@ use Rattle.renju_cli.specs.declared.commands.Form.TheVariants.{Bind}
 use Rattle.renju_cli.specs.declared.status.Status.{Status}
 use Rattle.renju_cli.specs.declared.status.Status.TheVariants.{Done, Full}
 use Rattle.renju_cli.specs.Statuses.{status_number}
-use Rattle.renju_cli.specs.Runs.{Change, Run, HasFailed, IsDelivered, IsOutOfMemory, IsSound}
-use Rattle.renju_cli.specs.Forms.{HasWords}
+use Rattle.renju_cli.specs.Runs.{Change, Run, IsDelivered, IsOutOfMemory, HasNoFault}
 use Rattle.renju_cli.specs.Checks.{IsTableAt}
 use Rattle.renju_cli.specs.Brains.{IsFileName, IsFit, IsLoaded, IsUnheld, TableFileSays}
 use Rattle.renju_cli.specs.Binds.{AreBindable, AreFew, AreNames, BindSays, HasBound, IsBind, IsBindable, IsBookFull, IsBookTold}
@@ -187,7 +186,7 @@ module _ (shelf : Change (Option Files)) (n : ℕ) (name bytes : List ℕ) (old 
 -- what comes of a file from a shelf that was as at the start is so from the start
 module _ (old new : Change (Option Files)) (same : old.before ≡ new.before) (faults : old.faults_before ≡ new.faults_before)
     (after : old.faults_after ≡ new.faults_after) where
-  sound-from : IsSound old → IsSound new
+  sound-from : HasNoFault old → HasNoFault new
   sound-from sound = sym after ∙ sound ∙ faults
 
   loaded-from : (name bytes : List ℕ) → IsLoaded old name bytes → IsLoaded new name bytes
@@ -238,7 +237,7 @@ module _ (shelf : Change (Option Files)) (names before later : List (List ℕ)) 
   unfolding stop
   says-refused status line text why told = inr (inl (record { stop = stop; line = line; why = why; told = told }))
 
-  pub says-full : (file : TableFile) (status : Status) (text : List ℕ) → IsBindable shelf.before name file → IsSound shelf
+  pub says-full : (file : TableFile) (status : Status) (text : List ℕ) → IsBindable shelf.before name file → HasNoFault shelf
       → HoldMore (book.table ∷ file.table ∷ []) MAX_NODES → status ≡ Full → text ≡ full_line
       → BindSays names shelf status text
   unfolding stop
@@ -261,7 +260,7 @@ module _ (shelf : Change (Option Files)) (names before later : List (List ℕ)) 
 
 -- all files are bound
 pub says-book : (shelf : Change (Option Files)) (names : List (List ℕ)) (binder book : Book) (text : List ℕ)
-    → BoundUpTo shelf.before names binder → IsSound shelf → book ≡ binder → IsWellFormed book
+    → BoundUpTo shelf.before names binder → HasNoFault shelf → book ≡ binder → IsWellFormed book
     → IsTextOfBook book text → BindSays names shelf Done text
 says-book shelf names binder book text h sound same well told = inl (record {
   files = h.files;

@@ -19,7 +19,7 @@ use Rattle.renju_cli.specs.declared.status.Status.TheVariants.{Done, Memory, Rea
 use Rattle.brain_session.specs.declared.TheConstants.{BRAIN_WORK}
 use Rattle.renju_cli.specs.Statuses.{status_number}
 use Rattle.renju_io.specs.Asked.{IsNotAsked}
-use Rattle.renju_cli.specs.Runs.{Change, Run, HasFailed, IsAskedNoMore, IsAskedOnly, IsDelivered, IsSound}
+use Rattle.renju_cli.specs.Runs.{Change, Run, HasFailed, IsAskedNoMore, IsAskedOnly, IsDelivered, HasNoFault}
 use Rattle.renju_cli.specs.Checks.{IsTableAt, IsRefusedTable, IsSpentWork}
 use Rattle.renju_cli.specs.Brains.{nothing_held, held_by, named_entry, of_book, of_table, HeldFile, NamedRoot, session_of, shown_before}
 use Rattle.renju_cli.specs.Brains.{shown_after, EndsSession, IsSession, IsUnbegun, EndsBrain, IsUnhinderedSession, HasServed, AnswersAll}
@@ -76,8 +76,8 @@ pub record IsServed (first last : State) (input output : Change (Option (List �
   pub memory : IsErrOf outcome NoMemory → (last ≡ first) × (shown_after output ≡ shown_before output) × (input.after ≡ input.before)
       × IsNotAsked input.asked_before input.asked_after
       ⊎ IfSome input.before (λ left. StopsAtStep (did first last input output) (commands left))
-  pub source_uncounted : outcome ≢ Err ReadFailed → IsSound input
-  pub sink_uncounted : outcome ≢ Err WriteFailed → IsSound output
+  pub source_uncounted : outcome ≢ Err ReadFailed → HasNoFault input
+  pub sink_uncounted : outcome ≢ Err WriteFailed → HasNoFault output
 
 -- two facts of what is told
 both-told : {X : Type 0} (P Q : X → Type 0) (o : Option X) → IfSome o P → IfSome o Q → IfSome o (λ x. P x × Q x)
@@ -229,7 +229,7 @@ loaded-from TableOrBook shelf name bytes given fits (Tells answer) is =
 -- where the status of what is told of a file is that of no fault, the shelf has counted none
 pub told-sound : (Says : List ℕ → Status → List ℕ → Type 0) (shelf : Change (Option Files)) (name : List ℕ) (status : Status)
     (text : List ℕ) (output : Change (Option (List ℕ))) (number : ℕ) → IsUnheld Says shelf name status text
-    → IsDelivered status text output number → number ≢ status_number ShelfFault → number ≢ status_number WriteFault → IsSound shelf
+    → IsDelivered status text output number → number ≢ status_number ShelfFault → number ≢ status_number WriteFault → HasNoFault shelf
 told-sound Says shelf name status text output number why (inr part) other whole = absurd (whole part.0)
 told-sound Says shelf name status text output number (inl refused) (inl took) other whole = refused.loaded.sound
 told-sound Says shelf name status text output number (inr (inl long)) (inl took) other whole = long.loaded.sound

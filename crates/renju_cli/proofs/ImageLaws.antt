@@ -24,7 +24,7 @@ use Rattle.renju_cli.specs.Statuses.{status_number}
 use Rattle.renju_cli.specs.Runs.{Run}
 use Rattle.renju_cli.specs.Told.{IsTold}
 use Rattle.renju_cli.specs.Checks.{IsTableAt}
-use Rattle.renju_cli.specs.Images.{symmetry_word, FileSays, ImageSays, image_command, IsImage, IsImagedInput}
+use Rattle.renju_cli.specs.Images.{symmetry_word, ImagedFileSays, ImageSays, image_command, IsImage, IsImagedInput}
 use Rattle.renju_cli.specs.Commands.{HasForm}
 use Rattle.renju_cli.proofs.FormLaws.{has-told, symmetry_told}
 use Rattle.renju_cli.proofs.ToldLaws.{done-told}
@@ -43,7 +43,7 @@ image-answers s bytes can status text (inl refused) =
     let only = table-read-back can.0 bytes can.1.text can.1.lawful can.1.moves in
     absurd (refused.cause (only.no_fault refused.error refused.fault))
 image-answers s bytes can status text (inr said) = by-saying said.2 where
-  by-saying : FileSays s said.0 status text → status ≡ Done
+  by-saying : ImagedFileSays s said.0 status text → status ≡ Done
   by-saying (inl image) = image.ends
   by-saying (inr unfit) =
       let only = table-read-back can.0 bytes can.1.text can.1.lawful can.1.moves in
@@ -116,7 +116,7 @@ module _ (s : Symmetry) (run : Run) (zero : run.status ≡ 0) where
       → Takes run.output.before text run.output.after → ImageSays s bytes status text → IsImagedInput s bytes run.output
   by-saying bytes status text ends whole (inl refused) = absurd (not-refused status ends refused.ends)
   by-saying bytes status text ends whole (inr said) = by-file said.2 where
-    by-file : FileSays s said.0 status text → IsImagedInput s bytes run.output
+    by-file : ImagedFileSays s said.0 status text → IsImagedInput s bytes run.output
     by-file (inl image) = imaged bytes text said.0 said.1 status image whole
     by-file (inr unfit) = absurd (not-refused status ends unfit.ends)
 

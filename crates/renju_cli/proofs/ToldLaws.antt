@@ -10,7 +10,7 @@ use Rattle.renju_cli.specs.declared.status.Status.TheVariants.{TooLong}
 use Rattle.renju_cli.specs.Statuses.{status_number}
 use Rattle.renju_cli.specs.Texts.{too_long_line}
 use Rattle.renju_cli.specs.Runs.{Change, Run, IsAskedNoMore, IsDelivered, IsOutOfMemory}
-use Rattle.renju_cli.specs.Told.{ToldCommand, IsInput, IsSaid, IsTooLong, EndsTold, IsTold, IsYielded, IsUnhindered, HasAnswered}
+use Rattle.renju_cli.specs.Told.{ToldCommand, IsInput, IsSaid, IsLongInput, EndsTold, IsTold, IsYielded, IsUnhindered, HasToldAnswer}
 use Rattle.renju_cli.specs.Told.{AnswersTold}
 
 -- some list is longer than n
@@ -25,7 +25,7 @@ long-bytes None h = let x = longer-than MAX_INPUT_BYTES in (x.0, tt, x.1)
 
 -- an input that is too long is told so
 pub too-long : (input : Change (Option (List ℕ))) (text : List ℕ) → text ≡ too_long_line → IsAskedNoMore (MAX_INPUT_BYTES + 1) input
-    → IfSome input.before (λ told. MAX_INPUT_BYTES < length told) → IsTooLong input TooLong text
+    → IfSome input.before (λ told. MAX_INPUT_BYTES < length told) → IsLongInput input TooLong text
 too-long input text line few h =
     let l = long-bytes input.before h in
     record { bytes = l.0; given = l.1; long = l.2; few = few; ends = refl; line = line }
@@ -62,7 +62,7 @@ pub record IsWhole (Says : List ℕ → Status → List ℕ → Type 0) (run : R
   pub whole : Takes run.output.before text run.output.after
 
 module _ (Says : List ℕ → Status → List ℕ → Type 0) (run : Run) where
-  by-delivery : (status : Status) (text : List ℕ) → IsSaid Says run.input status text ⊎ IsTooLong run.input status text
+  by-delivery : (status : Status) (text : List ℕ) → IsSaid Says run.input status text ⊎ IsLongInput run.input status text
       → IsDelivered status text run.output run.status → IsWhole Says run ⊎ IsYielded run.status
   by-delivery status text (inl said) (inl whole) =
       inl (record {
@@ -111,8 +111,8 @@ pub ends-map : (Says Others : List ℕ → Status → List ℕ → Type 0) (inpu
     → EndsTold Others input output number
 ends-map Says Others input output number other (inl a) =
     inl (record { status = a.status; text = a.text; due = by-due a.due; delivered = a.delivered }) where
-      by-due : IsSaid Says input a.status a.text ⊎ IsTooLong input a.status a.text
-          → IsSaid Others input a.status a.text ⊎ IsTooLong input a.status a.text
+      by-due : IsSaid Says input a.status a.text ⊎ IsLongInput input a.status a.text
+          → IsSaid Others input a.status a.text ⊎ IsLongInput input a.status a.text
       by-due (inl said) = inl (record {
         bytes = said.bytes;
         given = said.given;
@@ -128,7 +128,7 @@ ends-map Says Others input output number other (inr ends) = inr ends
 module _ (command : ToldCommand)
     (law : (bytes : List ℕ) → command.IsAnswerable bytes → (status : Status) (text : List ℕ) → command.Says bytes status text
     → command.IsAnswer status) (run : Run) (bytes : List ℕ) (free : IsUnhindered command run bytes) where
-  said-of : (status : Status) (text : List ℕ) → IsSaid command.Says run.input status text ⊎ IsTooLong run.input status text
+  said-of : (status : Status) (text : List ℕ) → IsSaid command.Says run.input status text ⊎ IsLongInput run.input status text
       → command.Says bytes status text
   said-of status text (inl said) = subst (λ (l : List ℕ). command.Says l status text)
       (told-bytes run.input.before bytes said.bytes free.told said.given) said.says
@@ -139,7 +139,7 @@ module _ (command : ToldCommand)
       absurd (omega (arith, size, more, fits))
 
   answered : (status : Status) (text : List ℕ) → command.Says bytes status text → IsDelivered status text run.output run.status
-      → HasAnswered command run bytes
+      → HasToldAnswer command run bytes
   answered status text says (inl whole) =
       record {
         status = status;
@@ -152,7 +152,7 @@ module _ (command : ToldCommand)
   answered status text says (inr failed) = absurd (free.output_sound failed.1)
 
   pub answers-by : EndsTold command.Says run.input run.output run.status
-      → HasAnswered command run bytes ⊎ IsOutOfMemory run.output run.status
+      → HasToldAnswer command run bytes ⊎ IsOutOfMemory run.output run.status
   answers-by (inl a) = inl (answered a.status a.text (said-of a.status a.text a.due) a.delivered)
   answers-by (inr (inl memory)) = inr memory
   answers-by (inr (inr fault)) = absurd (free.input_sound fault.failed)

@@ -11,7 +11,7 @@ use Rattle.renju_cli.specs.declared.status.Status.{Status}
 use Rattle.renju_cli.specs.declared.status.Status.TheVariants.{Full}
 use Rattle.renju_cli.specs.declared.loading.Fitted.{Fitted}
 use Rattle.renju_cli.specs.declared.loading.Fitted.TheVariants.{Fits, Tells}
-use Rattle.renju_cli.specs.Runs.{Change, IsSound}
+use Rattle.renju_cli.specs.Runs.{Change, HasNoFault}
 use Rattle.renju_cli.specs.Solves.{full_line}
 use Rattle.renju_cli.specs.Checks.{IsTableAt, IsRefusedTable, IsSpentWork}
 use Rattle.renju_cli.specs.Brains.{IsFit, IsUnheld, TableFileSays}
@@ -51,8 +51,8 @@ IsAddedText n bytes old new (Some answer) =
 
 -- what comes of file n, which stands under the name and is to be added
 abbrev pub IsAdded : Change (Option Files) → ℕ → List ℕ → Book → Book → Option Answer → Type 0
-IsAdded shelf n name old new None = (file : TableFile) × IsBindable shelf.before name file × IsSound shelf × BindsMore old file new
+IsAdded shelf n name old new None = (file : TableFile) × IsBindable shelf.before name file × HasNoFault shelf × BindsMore old file new
 IsAdded shelf n name old new (Some answer) =
     TellsOfFile n (IsUnheld TableFileSays shelf name) answer
-    ⊎ ((file : TableFile) × IsBindable shelf.before name file × IsSound shelf × HoldMore (old.table ∷ file.table ∷ []) MAX_NODES
+    ⊎ ((file : TableFile) × IsBindable shelf.before name file × HasNoFault shelf × HoldMore (old.table ∷ file.table ∷ []) MAX_NODES
     × TellsFull answer)

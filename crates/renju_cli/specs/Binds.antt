@@ -16,7 +16,7 @@ use Rattle.renju_cli.specs.declared.TheConstants.{MAX_FILES}
 use Rattle.renju_cli.specs.declared.status.Status.{Status}
 use Rattle.renju_cli.specs.declared.status.Status.TheVariants.{Done, Full}
 use Rattle.renju_cli.specs.Statuses.{status_number}
-use Rattle.renju_cli.specs.Runs.{Change, Run, HasFailed, IsDelivered, IsOutOfMemory, IsSound, IsAskedNoMore, IsUnasked}
+use Rattle.renju_cli.specs.Runs.{Change, Run, HasFailed, IsDelivered, IsOutOfMemory, HasNoFault, IsAskedNoMore, IsUnasked}
 use Rattle.renju_cli.specs.Forms.{Command, HasWords}
 use Rattle.renju_cli.specs.Checks.{IsTableAt}
 use Rattle.renju_cli.specs.Brains.{IsFileName, IsFit, IsUnheld, TableFileSays}
@@ -66,7 +66,7 @@ pub record IsBookTold (names : List (List ℕ)) (shelf : Change (Option Files)) 
   pub files : List TableFile
   pub bindable : AreBindable shelf.before names files
   pub few : AreFew files
-  pub sound : IsSound shelf
+  pub sound : HasNoFault shelf
   pub book : Book
   pub well_formed : IsWellFormed book
   pub bound : IsBound files book
@@ -95,7 +95,7 @@ pub record IsBookFull (names : List (List ℕ)) (shelf : Change (Option Files)) 
   pub stop : StopsAt names shelf
   pub file : TableFile
   pub last : IsBindable shelf.before stop.name file
-  pub sound : IsSound shelf
+  pub sound : HasNoFault shelf
   pub full : HoldMore (tables_of (stop.files ++ file ∷ [])) MAX_NODES
   pub ends : status ≡ Full
   pub told : text ≡ full_line

@@ -26,7 +26,7 @@ use Rattle.renju_cli.specs.declared.status.Status.TheVariants.{WriteFault, NotFo
 use Rattle.brain_session.specs.declared.TheConstants.{BRAIN_WORK}
 use Rattle.renju_cli.specs.Statuses.{status_number}
 use Rattle.renju_cli.specs.Texts.{too_long_line, shelf_line}
-use Rattle.renju_cli.specs.Runs.{Change, Run, HasFailed, IsSound, IsUnasked, IsAskedOnly, IsAskedNoMore, IsDelivered}
+use Rattle.renju_cli.specs.Runs.{Change, Run, HasFailed, HasNoFault, IsUnasked, IsAskedOnly, IsAskedNoMore, IsDelivered}
 use Rattle.renju_cli.specs.Forms.{Command}
 use Rattle.renju_cli.specs.Refusals.{IsRefusedText}
 use Rattle.renju_cli.specs.Checks.{IsTableAt, IsRefusedTable, IsSpentWork}
@@ -174,7 +174,7 @@ brain_command = record {
 -- the shelf gave these bytes under the name, which are its own where it tells its files, and has counted no fault
 pub record IsLoaded (shelf : Change (Option Files)) (name bytes : List ℕ) : Type 0 where
   pub found : IfSome shelf.before (λ files. file_under name files ≡ Some bytes)
-  pub sound : IsSound shelf
+  pub sound : HasNoFault shelf
 
 -- the root of the text is accepted with at most BRAIN_WORK arrivals
 pub record IsFit (file : TableFile) : Type 0 where

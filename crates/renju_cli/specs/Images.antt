@@ -47,14 +47,14 @@ pub record IsUnfit (s : Symmetry) (file : TableFile) (status : Status) (text : L
   pub line : text ≡ unfit_line
 
 -- what is said of a table text
-abbrev pub FileSays : Symmetry → TableFile → Status → List ℕ → Type 0
-FileSays s file status text = IsImage s file status text ⊎ IsUnfit s file status text
+abbrev pub ImagedFileSays : Symmetry → TableFile → Status → List ℕ → Type 0
+ImagedFileSays s file status text = IsImage s file status text ⊎ IsUnfit s file status text
 
 -- What `image` says of an input that it has read whole: why the text is refused, or else the image of the table, or that the
 -- symmetry does not fit.
 abbrev pub ImageSays : Symmetry → List ℕ → Status → List ℕ → Type 0
 ImageSays s input status text =
-    IsRefusedText (IsTableFault input) status text ⊎ ((file : TableFile) × IsTableAt file input × FileSays s file status text)
+    IsRefusedText (IsTableFault input) status text ⊎ ((file : TableFile) × IsTableAt file input × ImagedFileSays s file status text)
 
 -- the words `image SYMMETRY`
 abbrev pub image_words : Symmetry → List (List ℕ)

@@ -38,21 +38,21 @@ pub record Run : Type 0 where
   pub status : ℕ
 
 -- the run with these words, these changes of input, output and shelf, and this number
-abbrev pub run_of : List (List ℕ) → (input output : Change (Option (List ℕ))) → Change (Option Files) → ℕ → Run
-run_of words input output shelf status = record { words = words; input = input; output = output; shelf = shelf; status = status }
+abbrev pub program_run : List (List ℕ) → (input output : Change (Option (List ℕ))) → Change (Option Files) → ℕ → Run
+program_run words input output shelf status = record { words = words; input = input; output = output; shelf = shelf; status = status }
 
 -- the device failed
 abbrev pub HasFailed : {T : Type 0} → Change T → Type 0
 HasFailed device = HasRisen device.faults_before device.faults_after
 
 -- the device has counted no fault
-abbrev pub IsSound : {T : Type 0} → Change T → Type 0
-IsSound device = HasStayed device.faults_before device.faults_after
+abbrev pub HasNoFault : {T : Type 0} → Change T → Type 0
+HasNoFault device = HasStayed device.faults_before device.faults_after
 
 -- the device was not asked: it tells what it told, and has counted no call and no fault
 pub record IsUnasked {T : Type 0} (device : Change T) : Type 0 where
   pub same : device.after ≡ device.before
-  pub faults : IsSound device
+  pub faults : HasNoFault device
   pub asked : IsNotAsked device.asked_before device.asked_after
 
 -- the device was asked once
@@ -86,6 +86,6 @@ pub record KeepsDevices (run : Run) : Type 0 where
   pub output : HasNotFallen run.output.faults_before run.output.faults_after
   pub shelf : HasNotFallen run.shelf.faults_before run.shelf.faults_after
   pub files : run.shelf.after ≡ run.shelf.before
-  pub reads : run.status ≢ status_number ReadFault → IsSound run.input
-  pub writes : run.status ≢ status_number WriteFault → IsSound run.output
-  pub loads : run.status ≢ status_number ShelfFault → run.status ≢ status_number WriteFault → IsSound run.shelf
+  pub reads : run.status ≢ status_number ReadFault → HasNoFault run.input
+  pub writes : run.status ≢ status_number WriteFault → HasNoFault run.output
+  pub loads : run.status ≢ status_number ShelfFault → run.status ≢ status_number WriteFault → HasNoFault run.shelf

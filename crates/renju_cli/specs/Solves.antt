@@ -91,7 +91,7 @@ pub record IsThreatsWin (limit nodes : ℕ) (file : PositionFile) (status : Stat
   pub ends : status ≡ Done
 
 -- the first two steps have no win, and there is none by threats
-pub record IsUnwon (limit nodes : ℕ) (file : PositionFile) (status : Status) (text : List ℕ) : Type 0 where
+pub record IsWithoutWin (limit nodes : ℕ) (file : PositionFile) (status : Status) (text : List ℕ) : Type 0 where
   pub left : IsLeftOver limit nodes file
   pub none : ¬ WinsByThreats file.kind limit file.board
   pub ends : status ≡ NotFound
@@ -124,7 +124,7 @@ SolutionSays limit nodes file status text =
     IsFirstWin limit nodes file status text
     ⊎ IsLineWin limit nodes file status text
     ⊎ IsThreatsWin limit nodes file status text
-    ⊎ IsUnwon limit nodes file status text
+    ⊎ IsWithoutWin limit nodes file status text
     ⊎ IsUndecided limit nodes file status text
     ⊎ IsTooGreat limit nodes file status text
 

@@ -34,7 +34,7 @@ pub record IsSaid (Says : List ℕ → Status → List ℕ → Type 0) (input : 
   pub says : Says bytes status text
 
 -- the input has more bytes than a command takes, and is only told so, once a read has passed the most of them
-pub record IsTooLong (input : Change (Option (List ℕ))) (status : Status) (text : List ℕ) : Type 0 where
+pub record IsLongInput (input : Change (Option (List ℕ))) (status : Status) (text : List ℕ) : Type 0 where
   pub bytes : List ℕ
   pub given : IsInput input.before bytes
   pub long : MAX_INPUT_BYTES < length bytes
@@ -46,7 +46,7 @@ pub record IsTooLong (input : Change (Option (List ℕ))) (status : Status) (tex
 pub record IsAnswered (Says : List ℕ → Status → List ℕ → Type 0) (input output : Change (Option (List ℕ))) (number : ℕ) : Type 0 where
   pub status : Status
   pub text : List ℕ
-  pub due : IsSaid Says input status text ⊎ IsTooLong input status text
+  pub due : IsSaid Says input status text ⊎ IsLongInput input status text
   pub delivered : IsDelivered status text output number
 
 -- the input failed, and nothing was written
@@ -80,7 +80,7 @@ pub record IsUnhindered (command : ToldCommand) (run : Run) (bytes : List ℕ) :
   pub output_sound : HasFailed run.output → ⊥
 
 -- the command answered: with the status of an answer, and what it says of the input with that status was written whole
-pub record HasAnswered (command : ToldCommand) (run : Run) (bytes : List ℕ) : Type 0 where
+pub record HasToldAnswer (command : ToldCommand) (run : Run) (bytes : List ℕ) : Type 0 where
   pub status : Status
   pub text : List ℕ
   pub answer : command.IsAnswer status
@@ -91,7 +91,7 @@ pub record HasAnswered (command : ToldCommand) (run : Run) (bytes : List ℕ) : 
 -- A told command that nothing hinders answers, or memory ran out, and then nothing was written.
 abbrev pub AnswersTold : ToldCommand → Run → Type 0
 AnswersTold command run =
-    (bytes : List ℕ) → IsUnhindered command run bytes → HasAnswered command run bytes ⊎ IsOutOfMemory run.output run.status
+    (bytes : List ℕ) → IsUnhindered command run bytes → HasToldAnswer command run bytes ⊎ IsOutOfMemory run.output run.status
 
 -- a told command among all commands
 abbrev pub told : ToldCommand → Command

@@ -9,7 +9,7 @@ ghost use Rattle.renju_io.specs.Asked.{IsAskedAtMost};
 ghost use Rattle.renju_io.specs.Faults.{HasNotFallen, HasStayed};
 ghost use Rattle.table_book.specs.declared.TheConstants.{MAX_ENTRIES};
 ghost use Rattle.renju_cli.specs.Statuses.{status_number};
-ghost use Rattle.renju_cli.specs.Runs.{Change, IsUnasked, change, run_of};
+ghost use Rattle.renju_cli.specs.Runs.{Change, IsUnasked, change, program_run};
 ghost use Rattle.renju_cli.specs.Binds.{AreNames, BindSays, IsBind, of_file as of_file_lem};
 ghost use Rattle.renju_cli.specs.Binders.{IsAdded, IsAddedText};
 ghost use Rattle.renju_cli.specs.Commands.{IsForm, HasForm};
@@ -59,7 +59,7 @@ pub(crate) fn bind<O: Sink, F: Shelf>(
 ) -> Status
     requires names { AreNames (map string_bytes names.now) }
     ensures binds { (words : List (List ℕ)) (input : Change (Option (List ℕ))) → IsUnasked input → IsBind (map string_bytes names.now)
-        (run_of words input (change O.written O.faults O.asked output.old output.new) (change F.files F.faults F.asked shelf.old shelf.new) (status_number result)) }
+        (program_run words input (change O.written O.faults O.asked output.old output.new) (change F.files F.faults F.asked shelf.old shelf.new) (status_number result)) }
     ensures output { HasNotFallen (O.faults output.old) (O.faults output.new) }
     ensures shelf { HasNotFallen (F.faults shelf.old) (F.faults shelf.new) }
     ensures files { F.files shelf.new ≡ F.files shelf.old }

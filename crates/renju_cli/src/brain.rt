@@ -9,7 +9,7 @@ ghost use Rattle.renju_io.specs.Faults.{HasNotFallen, HasStayed};
 ghost use Rattle.renju_io.specs.Asked.{GivesByEach};
 ghost use Rattle.brain_session.specs.Kept.{held_or_none};
 ghost use Rattle.renju_cli.specs.Statuses.{status_number};
-ghost use Rattle.renju_cli.specs.Runs.{change, run_of};
+ghost use Rattle.renju_cli.specs.Runs.{change, program_run};
 ghost use Rattle.renju_cli.specs.Brains.{EndsBrain, IsBrainWith};
 ghost use Rattle.renju_cli.specs.Loading.{session_status};
 ghost use Rattle.renju_cli.specs.Commands.{IsForm, HasForm};
@@ -43,7 +43,7 @@ pub(crate) fn play_with<I: Source, O: Sink, F: Shelf>(
     output: &mut O,
     shelf: &mut F,
 ) -> Status
-    ensures plays { (words : List (List ℕ)) → IsBrainWith file.now (run_of words (change I.left I.faults I.asked input.old input.new)
+    ensures plays { (words : List (List ℕ)) → IsBrainWith file.now (program_run words (change I.left I.faults I.asked input.old input.new)
         (change O.written O.faults O.asked output.old output.new) (change F.files F.faults F.asked shelf.old shelf.new) (status_number result)) }
     ensures taken { GivesByEach (I.left input.old) (I.left input.new) (I.asked input.old) (I.asked input.new) }
     ensures input { HasNotFallen (I.faults input.old) (I.faults input.new) }

@@ -5,7 +5,7 @@
 
 ghost use Rattle.std.specs.Prelude.{MatchOption, map, string_bytes};
 ghost use Rattle.renju_cli.specs.Statuses.{status_number};
-ghost use Rattle.renju_cli.specs.Runs.{change, run_of, KeepsDevices};
+ghost use Rattle.renju_cli.specs.Runs.{change, program_run, KeepsDevices};
 ghost use Rattle.renju_cli.specs.Commands.{IsForm, HasForm};
 ghost use Rattle.renju_cli.specs.Reports.{Report};
 
@@ -100,9 +100,9 @@ pub(crate) fn run<I: Source, O: Sink, F: Shelf>(
     output: &mut O,
     shelf: &mut F,
 ) -> Status
-    ensures report { Report (run_of (map string_bytes words.now) (change I.left I.faults I.asked input.old input.new)
+    ensures report { Report (program_run (map string_bytes words.now) (change I.left I.faults I.asked input.old input.new)
         (change O.written O.faults O.asked output.old output.new) (change F.files F.faults F.asked shelf.old shelf.new) (status_number result)) }
-    ensures devices { KeepsDevices (run_of (map string_bytes words.now) (change I.left I.faults I.asked input.old input.new)
+    ensures devices { KeepsDevices (program_run (map string_bytes words.now) (change I.left I.faults I.asked input.old input.new)
         (change O.written O.faults O.asked output.old output.new) (change F.files F.faults F.asked shelf.old shelf.new) (status_number result)) }
 {
     match form_of(words) {

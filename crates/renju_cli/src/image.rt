@@ -10,7 +10,7 @@ ghost use Rattle.strategy_graph.specs.Roots.{root_depth};
 ghost use Rattle.position_files.specs.Tables.{IsTextOfTable};
 ghost use Rattle.board_symmetry.specs.Points.{fits};
 ghost use Rattle.board_symmetry.specs.declared.symmetry.Symmetry.{Symmetry};
-ghost use Rattle.renju_cli.specs.Images.{FileSays, ImageSays, symmetry_word, unfit_line};
+ghost use Rattle.renju_cli.specs.Images.{ImagedFileSays, ImageSays, symmetry_word, unfit_line};
 ghost use Rattle.renju_cli.specs.Commands.{IsForm, HasForm};
 
 use crate::answer::Answer;
@@ -75,7 +75,7 @@ fn image_of(alloc: Global, s: Symmetry, file: TableFile) -> Result<Answer, Alloc
     requires text { (bytes : List ℕ) × IsTextOfTable file bytes }
     requires lawful { IsPosition file.kind file.board }
     requires moves { file.moves ≡ root_depth file.table file.root }
-    ensures says { IfOk result (λ answer. FileSays s file answer.status answer.text) }
+    ensures says { IfOk result (λ answer. ImagedFileSays s file answer.status answer.text) }
     ensures no_memory { fits s file.board.width file.board.height ≡ false → IsOk result }
 {
     let TableFile {

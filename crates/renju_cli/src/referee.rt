@@ -10,7 +10,7 @@ ghost use Rattle.position_files.specs.declared.TableFile.{TableFile};
 ghost use Rattle.renju_io.specs.Faults.{HasNotFallen, HasStayed};
 ghost use Rattle.renju_io.specs.Asked.{GivesByEach};
 ghost use Rattle.renju_cli.specs.Statuses.{status_number};
-ghost use Rattle.renju_cli.specs.Runs.{change, run_of};
+ghost use Rattle.renju_cli.specs.Runs.{change, program_run};
 ghost use Rattle.renju_cli.specs.Brains.{held_by, of_table};
 ghost use Rattle.renju_cli.specs.Referees.{IsCompared, IsJudged, IsRefereeWith, TellsTable, of_game, replay_line as replay_line_lem};
 ghost use Rattle.renju_cli.specs.Commands.{IsForm, HasForm};
@@ -90,7 +90,7 @@ pub(crate) fn referee_with<I: Source, O: Sink, F: Shelf>(
     output: &mut O,
     shelf: &mut F,
 ) -> Status
-    ensures referees { (words : List (List ℕ)) → IsRefereeWith file.now (run_of words (change I.left I.faults I.asked input.old input.new)
+    ensures referees { (words : List (List ℕ)) → IsRefereeWith file.now (program_run words (change I.left I.faults I.asked input.old input.new)
         (change O.written O.faults O.asked output.old output.new) (change F.files F.faults F.asked shelf.old shelf.new) (status_number result)) }
     ensures taken { GivesByEach (I.left input.old) (I.left input.new) (I.asked input.old) (I.asked input.new) }
     ensures input { HasNotFallen (I.faults input.old) (I.faults input.new) }

@@ -23,7 +23,7 @@ use Rattle.gomocup_text.specs.declared.Command.{Command as Asked}
 use Rattle.gomocup_text.specs.declared.Command.TheVariants.{Done}
 use Rattle.brain_session.specs.declared.batch.BatchStone.{BatchStone}
 use Rattle.brain_session.specs.States.{empty_board, new_game, Fresh, Batch, State, new_brain}
-use Rattle.brain_session.specs.Batches.{with_stones, spoiled, has_stone_at, colour_in, game_from}
+use Rattle.brain_session.specs.Batches.{with_batch_stones, spoiled, has_stone_at, colour_in, game_from}
 use Rattle.brain_session.specs.declared.Reaction.TheVariants.{Silent}
 use Rattle.brain_session.specs.Steps.{Step, Chooses, rule_of, row_of, brain_step}
 use Rattle.brain_session.specs.ChosenMoves.{same_rule, same_board, first_node}
@@ -130,7 +130,7 @@ wish-rule Renju = refl
 
 -- the game from a batch whose stones make the lawful board b
 batch-game : (rule : RuleKind) (b e : Grid) (stones : List BatchStone) → colour_in stones ≡ Some (mover b)
-    → with_stones (mover b) e stones ≡ b → refusal rule b ≡ None
+    → with_batch_stones (mover b) e stones ≡ b → refusal rule b ≡ None
     → game_from rule e (record { stones = stones; bad = false }) ≡ Some (new_game rule b (mover b))
 batch-game rule b e stones colour make lawful = rw (colour, make, lawful) refl
 
@@ -147,9 +147,9 @@ module _ (h : HeldTable) (rule : RuleKind) (b : Grid) (wide : b.width ≡ SIDE) 
   fits : BatchFits (empty_board SIDE SIDE) (record { stones = stones; bad = false })
   fits = (subst (IsKept h) read-is (told-kept h (new_brain h) (position_lines rule b) (new-lawful h))).0.batch
 
-  make : with_stones (mover b) (empty_board SIDE SIDE) stones ≡ b
-  make = subst (λ (n : ℕ). with_stones (mover b) (empty_board n SIDE) stones ≡ b) wide
-      (subst (λ (n : ℕ). with_stones (mover b) (empty_board b.width n) stones ≡ b) high (stones-make b lawful.board))
+  make : with_batch_stones (mover b) (empty_board SIDE SIDE) stones ≡ b
+  make = subst (λ (n : ℕ). with_batch_stones (mover b) (empty_board n SIDE) stones ≡ b) wide
+      (subst (λ (n : ℕ). with_batch_stones (mover b) (empty_board b.width n) stones ≡ b) high (stones-make b lawful.board))
 
   colour : colour_in stones ≡ Some (mover b)
   colour =

@@ -23,7 +23,7 @@ use Rattle.strategy_compiler.proofs.Unfolding.{unfolded_nodes-there}
 use Rattle.strategy_compiler.specs.Unfolded.{HoldMore, IsHeld, Unfolded, unfolded, unfolded_nodes}
 use Rattle.table_book.specs.declared.Book.{Book}
 use Rattle.table_book.specs.declared.Entry.{Entry}
-use Rattle.table_book.specs.Books.{EntryFits, IsSound, RootFits}
+use Rattle.table_book.specs.Books.{EntryFits, IsSound, EntryRootFits}
 use Rattle.table_book.specs.Binding.{AddsFile, AreEntriesOf, AreInOrder, HoldSame, IsBinding, IsBound, IsEntryOf}
 use Rattle.table_book.specs.Binding.{SameRoot, Stays, nodes_of, tables_of}
 use Rattle.table_book.proofs.Adopting.{among-one, among-two}
@@ -32,7 +32,7 @@ use Rattle.table_book.proofs.Soundness.{root_fits-below}
 -- ---- roots and entries of nodes that grow
 
 module _ (t u more : List Node) (lower : NamesLower u) where
-  root-stays : (r s : Root) → RootFits (length u) s → SameRoot t r u s → SameRoot t r (u ++ more) s
+  root-stays : (r s : Root) → EntryRootFits (length u) s → SameRoot t r u s → SameRoot t r (u ++ more) s
   root-stays (Attack i) (Attack j) fits h = unfolded-longer u more lower j fits ∙ h
   root-stays (Attack i) (Defend c) fits h = absurd h
   root-stays (Defend a) (Attack j) fits h = absurd h

@@ -10,7 +10,7 @@ use Rattle.game_rules.specs.Grid.{Grid, IsBoard, is_on}
 use Rattle.game_rules.proofs.Boards.{and_left, and_right, on_x, on_y}
 use Rattle.game_rules.proofs.Tests.{all_push}
 use Rattle.position_files.specs.Answers.{NodeFits}
-use Rattle.position_files.specs.Tables.{IsTextOfTable, RootFits as RootFitsText}
+use Rattle.position_files.specs.Tables.{IsTextOfTable, RootFits}
 use Rattle.position_files.specs.declared.TableFile.{TableFile}
 use Rattle.position_files.specs.declared.TheConstants.{MAX_MOVES}
 use Rattle.position_files.proofs.Completions.{answers_fit, nodes_fit}
@@ -34,7 +34,7 @@ use Rattle.strategy_compiler.proofs.Unfolding.{unfolded-longer}
 use Rattle.strategy_compiler.specs.Unfolded.{Unfolded, IsHeld, unfolded}
 use Rattle.table_book.specs.declared.Entry.{Entry}
 use Rattle.table_book.specs.declared.TheConstants.{MAX_ENTRIES}
-use Rattle.table_book.specs.Books.{EntryFits, IsSound, RootFits}
+use Rattle.table_book.specs.Books.{EntryFits, IsSound, EntryRootFits}
 use Rattle.table_book.specs.Binding.{AddsFile, AreNumbers, CanBeBound, HoldSame, IsBinding, IsEntryOf}
 use Rattle.table_book.specs.Binding.{SameRoot, Stays}
 use Rattle.table_book.proofs.Adopting.{among-two}
@@ -71,13 +71,13 @@ text-fits file bytes is = nodes_fit largest file.table (table-largest file.board
 -- its root names nodes of the table
 pub text-below : (file : TableFile) (bytes : List ℕ) → IsTextOfTable file bytes → root_below file.root (length file.table) ≡ true
 text-below file bytes is = by_root file.root is.root where
-  by_root : (root : Root) → RootFitsText file.board file.table root file.moves → root_below root (length file.table) ≡ true
+  by_root : (root : Root) → RootFits file.board file.table root file.moves → root_below root (length file.table) ≡ true
   by_root (Attack i) fits = let last = fits.0 in lt-ltb i (length file.table) (omega arith)
   by_root (Defend a) fits = fits.1
 
 -- ---- as nodes grow
 
-root-grown : (k m : ℕ) (root : Root) → k ≤ m → RootFits k root → RootFits m root
+root-grown : (k m : ℕ) (root : Root) → k ≤ m → EntryRootFits k root → EntryRootFits m root
 root-grown k m (Attack i) l fits = omega arith
 root-grown k m (Defend a) l fits = record { answers = fits.answers; start = fits.start; below = names_below-more a k m l fits.below }
 
@@ -172,8 +172,8 @@ module _ (old t new : List Node) (numbers : List ℕ) (table : IsTable t) (lower
       (all-mapped js (and_right (nat_lt j (length t)) _ h))
 
   -- and fits the book
-  root-fits : (b : Grid) (root : Root) (moves : ℕ) → IsBoard b → length new ≤ MAX_NODES → RootFitsText b t root moves
-      → RootFits (length new) (renumbered_root (λ j. slice_index numbers j) root)
+  root-fits : (b : Grid) (root : Root) (moves : ℕ) → IsBoard b → length new ≤ MAX_NODES → RootFits b t root moves
+      → EntryRootFits (length new) (renumbered_root (λ j. slice_index numbers j) root)
   unfolding largest
   root-fits b (Attack i) moves ok few fits = number-inside i (let last = fits.0 in lt-ltb i (length t) (omega arith))
   root-fits b (Defend a) moves ok few fits =
@@ -192,7 +192,7 @@ module _ (old t new : List Node) (numbers : List ℕ) (table : IsTable t) (lower
         below = below;
       }
 
-  moves-few : (b : Grid) (root : Root) (moves : ℕ) → RootFitsText b t root moves → moves ≤ MAX_MOVES
+  moves-few : (b : Grid) (root : Root) (moves : ℕ) → RootFits b t root moves → moves ≤ MAX_MOVES
   moves-few b (Attack i) moves fits = fits.2
   moves-few b (Defend a) moves fits = fits.3
 
@@ -235,7 +235,7 @@ module _ (file : TableFile) (old new : List Node) (numbers : List ℕ) (root : R
     board = can.text.1.board;
     moves = moves-few old file.table new numbers can.text.1.table new-lower are file.board file.root file.moves can.text.1.root;
     root =
-        subst (RootFits (length new)) (sym is)
+        subst (EntryRootFits (length new)) (sym is)
         (root-fits old file.table new numbers can.text.1.table new-lower are file.board file.root file.moves can.text.1.board
         compiled.table.size can.text.1.root);
   }

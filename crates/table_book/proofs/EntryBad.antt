@@ -32,7 +32,7 @@ use Rattle.position_files.proofs.SectionLaws.{fault_after, number-free, only_fit
 use Rattle.position_files.proofs.Stones.{IsBoard-empty}
 use Rattle.table_book.specs.declared.Entry.{Entry}
 use Rattle.table_book.specs.declared.TheConstants.{MAX_ENTRIES}
-use Rattle.table_book.specs.Books.{EntryFits, RootFits, entries_line, entry_lines, moves_line, root_line}
+use Rattle.table_book.specs.Books.{EntryFits, EntryRootFits, entries_line, entry_lines, move_count_line, root_line}
 use Rattle.table_book.specs.Sections.{AreEntryLines, IsEndLines, IsEntryLines}
 use Rattle.table_book.proofs.Lists.{all_append, all_replicate, all_take}
 use Rattle.table_book.proofs.EntryLaws.{entries-free, entries-length, moves_line-free}
@@ -42,14 +42,14 @@ use Rattle.table_book.proofs.EntryLaws.{entries-free, entries-length, moves_line
 pub least_root : Root
 least_root = Defend only_start
 
-pub least_root-fits : (k : ℕ) → RootFits k least_root
+pub least_root-fits : (k : ℕ) → EntryRootFits k least_root
 unfolding least_root
 least_root-fits k = only_fits MAX_SIDE MAX_SIDE k
 
 module _ (k : ℕ) (bytes : List ℕ) where
   -- a number that is no number of a node
   pub no_such_node : (n : ℕ) (rest : List ℕ) → n < 2 ^ 32 → k < 2 ^ 32 → k ≤ n → bytes ≡ (codes "root " ++ decimal n) ++ line_feed ∷ rest
-      → ReadsLine (RootFits k) root_line None bytes
+      → ReadsLine (EntryRootFits k) root_line None bytes
   no_such_node n rest few few_k past line (Attack i) others fits e =
       let low : i < k = fits in
       let same = same_line (codes "root " ++ decimal n) rest (codes "root " ++ decimal i) others
@@ -64,16 +64,16 @@ module _ (k : ℕ) (bytes : List ℕ) where
 
   -- neither a number nor a start
   no_root : ReadsLine (IsBetween 0 (2 ^ 32 - 1)) (λ n. codes "root " ++ decimal n) None bytes
-      → ReadsLine (StartFits MAX_SIDE MAX_SIDE k) start_line None bytes → k < 2 ^ 32 → ReadsLine (RootFits k) root_line None bytes
+      → ReadsLine (StartFits MAX_SIDE MAX_SIDE k) start_line None bytes → k < 2 ^ 32 → ReadsLine (EntryRootFits k) root_line None bytes
   no_root no_number no_start few_k (Attack i) others fits e =
       no_number i others (let low : i < k = fits in record { enough = omega arith; few = omega (arith, low, few_k) }) e
   no_root no_number no_start few_k (Defend a) others fits e = no_start a others fits e
 
-  pub no_root_line : ReadsLine (RootFits k) root_line None bytes → LeavesAt (IsLineOf (RootFits k) root_line) bytes 0
-  no_root_line none = leaves_first (RootFits k) root_line bytes least_root (least_root-fits k) none
+  pub no_root_line : ReadsLine (EntryRootFits k) root_line None bytes → LeavesAt (IsLineOf (EntryRootFits k) root_line) bytes 0
+  no_root_line none = leaves_first (EntryRootFits k) root_line bytes least_root (least_root-fits k) none
 
   pub root_fault : ReadsLine (IsBetween 0 (2 ^ 32 - 1)) (λ n. codes "root " ++ decimal n) None bytes → k < 2 ^ 32 → (error : HeadError)
-      → IsSectionFault (IsStartLines MAX_SIDE MAX_SIDE k) bytes error → IsSectionFault (IsLineOf (RootFits k) root_line) bytes error
+      → IsSectionFault (IsStartLines MAX_SIDE MAX_SIDE k) bytes error → IsSectionFault (IsLineOf (EntryRootFits k) root_line) bytes error
   root_fault no_number few_k (BadLine n) h =
       let left = left_first (StartFits MAX_SIDE MAX_SIDE k) start_line bytes h.0 h.2 in
       let at : h.0 ≡ 0 = left.0 in
@@ -88,17 +88,17 @@ unfolding entry_lines
 head_in_entry k = record {
   free = tt;
   whole = λ l is. (
-    moves_line 0 ∷ root_line least_root ∷ [],
+    move_count_line 0 ∷ root_line least_root ∷ [],
     (
       record { kind = is.0; board = is.1; root = least_root; moves = 0 },
       record { board = is.2; moves = omega arith; root = least_root-fits k },
-      ap (λ (m : List (List ℕ)). m ++ moves_line 0 ∷ root_line least_root ∷ []) is.3,
+      ap (λ (m : List (List ℕ)). m ++ move_count_line 0 ∷ root_line least_root ∷ []) is.3,
     ),
   );
   parts = λ ls is. record {
     first = [];
     part = board_lines is.0.kind is.0.board;
-    more = moves_line is.0.moves ∷ root_line is.0.root ∷ [];
+    more = move_count_line is.0.moves ∷ root_line is.0.root ∷ [];
     lines = is.2;
     free = tt;
     count = refl;
@@ -108,7 +108,7 @@ head_in_entry k = record {
 
 module _ (k : ℕ) (kind : RuleKind) (b : Grid) (ok : IsBoard b) where
   -- a number of moves stands behind a head
-  moves_in_entry : HasParts (board_lines kind b) (IsLineOf (IsBetween 0 MAX_MOVES) moves_line) (IsEntryLines k)
+  moves_in_entry : HasParts (board_lines kind b) (IsLineOf (IsBetween 0 MAX_MOVES) move_count_line) (IsEntryLines k)
   unfolding entry_lines
   moves_in_entry = record {
     free = board-free kind b ok;
@@ -122,7 +122,7 @@ module _ (k : ℕ) (kind : RuleKind) (b : Grid) (ok : IsBoard b) where
     );
     parts = λ ls is. record {
       first = board_lines is.0.kind is.0.board;
-      part = moves_line is.0.moves ∷ [];
+      part = move_count_line is.0.moves ∷ [];
       more = root_line is.0.root ∷ [];
       lines = is.2;
       free = board-free is.0.kind is.0.board is.1.board;
@@ -133,49 +133,50 @@ module _ (k : ℕ) (kind : RuleKind) (b : Grid) (ok : IsBoard b) where
 
   module _ (m : ℕ) (most : m ≤ MAX_MOVES) (few_k : k < 2 ^ 64) where
     -- a root stands behind these
-    root_in_entry : HasParts (board_lines kind b ++ moves_line m ∷ []) (IsLineOf (RootFits k) root_line) (IsEntryLines k)
+    root_in_entry : HasParts (board_lines kind b ++ move_count_line m ∷ []) (IsLineOf (EntryRootFits k) root_line) (IsEntryLines k)
     unfolding entry_lines board_lines
     root_in_entry = record {
-      free = free_append (board_lines kind b) (moves_line m ∷ []) (board-free kind b ok)
+      free = free_append (board_lines kind b) (move_count_line m ∷ []) (board-free kind b ok)
           (number-free (codes "moves ") m refl (omega (arith, most)), tt);
       whole = λ l is. (
         [],
         (
           record { kind = kind; board = b; root = is.0; moves = m },
           record { board = ok; moves = most; root = is.1 },
-          ap (λ (n : List (List ℕ)). board_lines kind b ++ moves_line m ∷ n) (append-nil l ∙ is.2),
+          ap (λ (n : List (List ℕ)). board_lines kind b ++ move_count_line m ∷ n) (append-nil l ∙ is.2),
         ),
       );
       parts = λ ls is. record {
-        first = board_lines is.0.kind is.0.board ++ moves_line is.0.moves ∷ [];
+        first = board_lines is.0.kind is.0.board ++ move_count_line is.0.moves ∷ [];
         part = root_line is.0.root ∷ [];
         more = [];
         lines = is.2;
-        free = free_append (board_lines is.0.kind is.0.board) (moves_line is.0.moves ∷ []) (board-free is.0.kind is.0.board is.1.board)
+        free = free_append (board_lines is.0.kind is.0.board) (move_count_line is.0.moves ∷ []) (board-free is.0.kind is.0.board is.1.board)
             (moves_line-free k is.0 is.1, tt);
         count = refl;
         are = λ same. (is.0.root, is.1.root, refl);
       };
     }
 
-    pub entry_root_fault : (bytes r1 r2 : List ℕ) → bytes ≡ text_of (board_lines kind b) ++ r1 → r1 ≡ moves_line m ++ line_feed ∷ r2
-        → (error : HeadError) → IsSectionFault (IsLineOf (RootFits k) root_line) r2 error
+    pub entry_root_fault : (bytes r1 r2 : List ℕ) → bytes ≡ text_of (board_lines kind b) ++ r1 → r1 ≡ move_count_line m ++ line_feed ∷ r2
+        → (error : HeadError) → IsSectionFault (IsLineOf (EntryRootFits k) root_line) r2 error
         → IsSectionFault (IsEntryLines k) bytes (after_lines 5 error)
     entry_root_fault bytes r1 r2 e1 e2 error h =
-        let lengths = length-append (board_lines kind b) (moves_line m ∷ []) in
+        let lengths = length-append (board_lines kind b) (move_count_line m ∷ []) in
         let four = board-length kind b in
-        fault_after (board_lines kind b ++ moves_line m ∷ []) (IsLineOf (RootFits k) root_line) (IsEntryLines k) root_in_entry bytes r2 5
+        fault_after (board_lines kind b ++ move_count_line m ∷ []) (IsLineOf (EntryRootFits k) root_line) (IsEntryLines k) root_in_entry
+        bytes r2 5
         (omega (arith, lengths, four))
-        (e1 ∙ ap (λ (l : List ℕ). text_of (board_lines kind b) ++ l) e2 ∙ text_of-push (board_lines kind b) (moves_line m) r2) error h
+        (e1 ∙ ap (λ (l : List ℕ). text_of (board_lines kind b) ++ l) e2 ∙ text_of-push (board_lines kind b) (move_count_line m) r2) error h
 
   pub no_moves_line : (bytes rest : List ℕ) → bytes ≡ text_of (board_lines kind b) ++ rest
-      → ReadsLine (IsBetween 0 MAX_MOVES) moves_line None rest → LeavesAt (IsEntryLines k) bytes 4
+      → ReadsLine (IsBetween 0 MAX_MOVES) move_count_line None rest → LeavesAt (IsEntryLines k) bytes 4
   no_moves_line bytes rest e none =
       let four = board-length kind b in
       let there : length (board_lines kind b) + 0 ≡ 4 = omega (arith, four) in
       subst (LeavesAt (IsEntryLines k) bytes) there
-      (leaves_after (board_lines kind b) (IsLineOf (IsBetween 0 MAX_MOVES) moves_line) (IsEntryLines k) moves_in_entry bytes rest 0 e
-      (leaves_first (IsBetween 0 MAX_MOVES) moves_line rest 0 (record { enough = omega arith; few = omega arith }) none))
+      (leaves_after (board_lines kind b) (IsLineOf (IsBetween 0 MAX_MOVES) move_count_line) (IsEntryLines k) moves_in_entry bytes rest 0 e
+      (leaves_first (IsBetween 0 MAX_MOVES) move_count_line rest 0 (record { enough = omega arith; few = omega arith }) none))
 
 -- ---- entries one after another
 

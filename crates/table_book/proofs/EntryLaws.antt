@@ -18,7 +18,7 @@ use Rattle.position_files.proofs.AnswerLaws.{answers_text-injective, start_line-
 use Rattle.position_files.proofs.BoardLines.{board-free, board_lines-injective}
 use Rattle.position_files.proofs.SectionLaws.{number-free}
 use Rattle.table_book.specs.declared.Entry.{Entry}
-use Rattle.table_book.specs.Books.{EntryFits, RootFits, entry_lines, moves_line, root_line}
+use Rattle.table_book.specs.Books.{EntryFits, EntryRootFits, entry_lines, move_count_line, root_line}
 use Rattle.table_book.proofs.Lists.{same_parts}
 
 pub largest_side : IsSide MAX_SIDE
@@ -26,17 +26,17 @@ largest_side = record { long = omega arith; fits = omega arith }
 
 -- ---- no line has a line feed
 
-pub root_line-free : (k : ℕ) (r : Root) → k < 2 ^ 64 → RootFits k r → is_free line_feed (root_line r) ≡ true
+pub root_line-free : (k : ℕ) (r : Root) → k < 2 ^ 64 → EntryRootFits k r → is_free line_feed (root_line r) ≡ true
 root_line-free k (Attack i) few fits = number-free (codes "root ") i refl (let low : i < k = fits in omega (arith, low, few))
 root_line-free k (Defend a) few fits = start_line-free MAX_SIDE MAX_SIDE largest_side largest_side k a fits
 
-pub moves_line-free : (k : ℕ) (e : Entry) → EntryFits k e → is_free line_feed (moves_line e.moves) ≡ true
+pub moves_line-free : (k : ℕ) (e : Entry) → EntryFits k e → is_free line_feed (move_count_line e.moves) ≡ true
 moves_line-free k e fits = number-free (codes "moves ") e.moves refl (let most = fits.moves in omega (arith, most))
 
 pub entry-free : (k : ℕ) (e : Entry) → k < 2 ^ 64 → EntryFits k e → AreFree (entry_lines e)
 unfolding entry_lines
 entry-free k e few fits =
-    free_append (board_lines e.kind e.board) (moves_line e.moves ∷ root_line e.root ∷ []) (board-free e.kind e.board fits.board)
+    free_append (board_lines e.kind e.board) (move_count_line e.moves ∷ root_line e.root ∷ []) (board-free e.kind e.board fits.board)
     (moves_line-free k e fits, (root_line-free k e.root few fits.root, tt))
 
 pub entries-free : (k : ℕ) (es : List Entry) → k < 2 ^ 64 → AllByRecursion (EntryFits k) es → AreFree (flat_map entry_lines es)
@@ -61,7 +61,8 @@ entries-length (e ∷ es) =
 
 -- ---- lines spell one entry
 
-pub root_line-injective : (k m : ℕ) (r s : Root) → k < 2 ^ 64 → m < 2 ^ 64 → RootFits k r → RootFits m s → root_line r ≡ root_line s → r ≡ s
+pub root_line-injective : (k m : ℕ) (r s : Root) → k < 2 ^ 64 → m < 2 ^ 64 → EntryRootFits k r → EntryRootFits m s
+    → root_line r ≡ root_line s → r ≡ s
 root_line-injective k m (Attack i) (Attack j) few few_m fits fit e =
     let low_i : i < k = fits in
     let low_j : j < m = fit in
@@ -84,7 +85,7 @@ entry_lines-injective k m e f few few_m fits fit same =
     let board = boards.1 in
     let most = fits.moves in
     let most_other = fit.moves in
-    let line : moves_line e.moves ≡ moves_line f.moves = ap (λ (l : List (List ℕ)). get_or l 4 []) same in
+    let line : move_count_line e.moves ≡ move_count_line f.moves = ap (λ (l : List (List ℕ)). get_or l 4 []) same in
     let moves : e.moves ≡ f.moves = decimal_injective e.moves f.moves (omega (arith, most)) (omega (arith, most_other))
     (append_cancel_left (codes "moves ") (decimal e.moves) (decimal f.moves) line) in
     let last : root_line e.root ≡ root_line f.root = ap (λ (l : List (List ℕ)). get_or l 5 []) same in
@@ -109,15 +110,16 @@ entries-injective k m (e ∷ es) (f ∷ fs) few few_m all other same =
 -- ---- texts of entries that are put together
 
 pub entry_text : (e : Entry) (bytes r1 r2 rest : List ℕ) → bytes ≡ text_of (board_lines e.kind e.board) ++ r1
-    → r1 ≡ moves_line e.moves ++ line_feed ∷ r2 → r2 ≡ ended (root_line e.root) ++ rest → bytes ≡ text_of (entry_lines e) ++ rest
+    → r1 ≡ move_count_line e.moves ++ line_feed ∷ r2 → r2 ≡ ended (root_line e.root) ++ rest → bytes ≡ text_of (entry_lines e) ++ rest
 unfolding entry_lines
 entry_text e bytes r1 r2 rest e1 e2 e3 =
     let last : r2 ≡ text_of (root_line e.root ∷ []) ++ rest =
     e3 ∙ append_assoc (root_line e.root) (line_feed ∷ []) rest ∙ text_of-cons (root_line e.root) [] rest in
-    let two : r1 ≡ text_of (moves_line e.moves ∷ root_line e.root ∷ []) ++ rest =
-    e2 ∙ ap (λ (l : List ℕ). moves_line e.moves ++ line_feed ∷ l) last ∙ text_of-cons (moves_line e.moves) (root_line e.root ∷ []) rest in
+    let two : r1 ≡ text_of (move_count_line e.moves ∷ root_line e.root ∷ []) ++ rest =
+    e2 ∙ ap (λ (l : List ℕ). move_count_line e.moves ++ line_feed ∷ l) last
+    ∙ text_of-cons (move_count_line e.moves) (root_line e.root ∷ []) rest in
     e1 ∙ ap (λ (l : List ℕ). text_of (board_lines e.kind e.board) ++ l) two
-    ∙ sym (text_of-append (board_lines e.kind e.board) (moves_line e.moves ∷ root_line e.root ∷ []) rest)
+    ∙ sym (text_of-append (board_lines e.kind e.board) (move_count_line e.moves ∷ root_line e.root ∷ []) rest)
 
 -- one more entry
 pub entries_lines-push : (es : List Entry) (e : Entry) → flat_map entry_lines (es ++ e ∷ []) ≡ flat_map entry_lines es ++ entry_lines e

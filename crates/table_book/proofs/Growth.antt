@@ -9,19 +9,19 @@ use Rattle.position_files.specs.Positions.{board_lines}
 use Rattle.position_files.specs.Tables.{node_line}
 use Rattle.table_book.specs.declared.Book.{Book}
 use Rattle.table_book.specs.declared.Entry.{Entry}
-use Rattle.table_book.specs.Books.{book_lines, book_text, entries_line, entry_lines, first_line, moves_line, nodes_line, root_line}
+use Rattle.table_book.specs.Books.{book_lines, book_text, entries_line, entry_lines, first_line, move_count_line, nodes_line, root_line}
 use Rattle.table_book.proofs.EntryLaws.{entries_lines-push}
 
 -- the lines of an entry
 pub entry_grown : (e : Entry) (old t1 t2 t3 : List ℕ) → t1 ≡ old ++ text_of (board_lines e.kind e.board)
-    → t2 ≡ t1 ++ ended (moves_line e.moves) → t3 ≡ t2 ++ ended (root_line e.root) → t3 ≡ old ++ text_of (entry_lines e)
+    → t2 ≡ t1 ++ ended (move_count_line e.moves) → t3 ≡ t2 ++ ended (root_line e.root) → t3 ≡ old ++ text_of (entry_lines e)
 unfolding entry_lines board_lines
 entry_grown e old t1 t2 t3 e1 e2 e3 =
-    let two : t2 ≡ old ++ text_of (board_lines e.kind e.board ++ moves_line e.moves ∷ []) =
-    e2 ∙ ap (λ (l : List ℕ). l ++ ended (moves_line e.moves)) e1
-    ∙ flat_map_more ended old (board_lines e.kind e.board) (moves_line e.moves) in
+    let two : t2 ≡ old ++ text_of (board_lines e.kind e.board ++ move_count_line e.moves ∷ []) =
+    e2 ∙ ap (λ (l : List ℕ). l ++ ended (move_count_line e.moves)) e1
+    ∙ flat_map_more ended old (board_lines e.kind e.board) (move_count_line e.moves) in
     e3 ∙ ap (λ (l : List ℕ). l ++ ended (root_line e.root)) two
-    ∙ flat_map_more ended old (board_lines e.kind e.board ++ moves_line e.moves ∷ []) (root_line e.root)
+    ∙ flat_map_more ended old (board_lines e.kind e.board ++ move_count_line e.moves ∷ []) (root_line e.root)
 
 -- one more entry
 pub entries_grown : (old before after : List ℕ) (es : List Entry) (i : ℕ) (e : Entry)

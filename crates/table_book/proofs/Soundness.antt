@@ -11,14 +11,14 @@ use Rattle.table_book.specs.declared.Book.{Book}
 use Rattle.table_book.specs.declared.Entry.{Entry}
 use Rattle.table_book.specs.declared.error.BookError.{BookError}
 use Rattle.table_book.specs.declared.error.BookError.TheVariants.{BadLine, Unlawful, WrongMoves, Memory}
-use Rattle.table_book.specs.Books.{IsSound, IsTextOfBook, IsWellFormed, RootFits}
+use Rattle.table_book.specs.Books.{IsSound, IsTextOfBook, IsWellFormed, EntryRootFits}
 use Rattle.table_book.specs.Faults.{IsBookFault, IsEarliest, IsEntryFault, IsMiscountedAt, IsUnlawfulAt, IsUnsound}
 use Rattle.table_book.specs.ReadBack.{BooksReadBack}
 use Rattle.game_rules.proofs.Tests.{all_get}
 use Rattle.table_book.proofs.BookLaws.{one_book}
 
 -- a root that fits names only nodes of the book
-pub root_fits-below : (k : ℕ) (r : Root) → RootFits k r → root_below r k ≡ true
+pub root_fits-below : (k : ℕ) (r : Root) → EntryRootFits k r → root_below r k ≡ true
 root_fits-below k (Attack i) fits = lt-ltb i k fits
 root_fits-below k (Defend a) fits = fits.below
 

@@ -37,8 +37,8 @@ abbrev pub entries_line : ℕ → List ℕ
 entries_line n = codes "entries " ++ decimal n
 
 -- the line of a number of moves
-abbrev pub moves_line : ℕ → List ℕ
-moves_line m = codes "moves " ++ decimal m
+abbrev pub move_count_line : ℕ → List ℕ
+move_count_line m = codes "moves " ++ decimal m
 
 -- the line of a root: the number of a node, or a start
 abbrev pub root_line : Root → List ℕ
@@ -47,7 +47,7 @@ root_line (Defend a) = start_line a
 
 -- the lines of an entry: its rule and its board, its number of moves, and its root
 unfoldable pub entry_lines : Entry → List (List ℕ)
-entry_lines e = board_lines e.kind e.board ++ moves_line e.moves ∷ root_line e.root ∷ []
+entry_lines e = board_lines e.kind e.board ++ move_count_line e.moves ∷ root_line e.root ∷ []
 
 -- the lines of a book: its nodes after their number, and its entries after theirs
 unfoldable pub book_lines : Book → List (List ℕ)
@@ -60,15 +60,15 @@ unfoldable pub book_text : Book → List ℕ
 book_text book = text_of (book_lines book)
 
 -- a root in a book of k nodes: it names nodes of the book alone, and a start names points of the largest board alone
-abbrev pub RootFits : ℕ → Root → Type 0
-RootFits k (Attack i) = i < k
-RootFits k (Defend a) = StartFits MAX_SIDE MAX_SIDE k a
+abbrev pub EntryRootFits : ℕ → Root → Type 0
+EntryRootFits k (Attack i) = i < k
+EntryRootFits k (Defend a) = StartFits MAX_SIDE MAX_SIDE k a
 
 -- an entry in a book of k nodes
 pub record EntryFits (k : ℕ) (e : Entry) : Type 0 where
   pub board : IsBoard e.board
   pub moves : e.moves ≤ MAX_MOVES
-  pub root : RootFits k e.root
+  pub root : EntryRootFits k e.root
 
 -- The book has a text: its nodes are a table and name points of the largest board alone, its entries fit, and there are enough of
 -- them and not too many.

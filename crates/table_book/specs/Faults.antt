@@ -27,7 +27,7 @@ pub record IsEarliest (P : Entry → Type 0) (es : List Entry) (n : ℕ) (e : En
   pub before : AllByRecursion P (take (n - 1) es)
 
 -- these are the number of moves that the entry says and the depth of its root, which differ, and its position is lawful
-pub record IsMiscounted (t : List Node) (e : Entry) (written counted : ℕ) : Type 0 where
+pub record IsMiscountedEntry (t : List Node) (e : Entry) (written counted : ℕ) : Type 0 where
   pub lawful : IsPosition e.kind e.board
   pub says : written ≡ e.moves
   pub depth : counted ≡ root_depth t e.root
@@ -37,7 +37,7 @@ pub record IsMiscounted (t : List Node) (e : Entry) (written counted : ℕ) : Ty
 abbrev pub IsEntryFault : List Node → Entry → ℕ → BookError → Type 0
 IsEntryFault t e number (BadLine n) = ⊥
 IsEntryFault t e number (Unlawful n why) = (n ≡ number) × (refusal e.kind e.board ≡ Some why)
-IsEntryFault t e number (WrongMoves n written counted) = (n ≡ number) × IsMiscounted t e written counted
+IsEntryFault t e number (WrongMoves n written counted) = (n ≡ number) × IsMiscountedEntry t e written counted
 IsEntryFault t e number Memory = Unit {0}
 
 -- the entries before entry n are sound, and its position is not lawful, for this cause
@@ -50,7 +50,7 @@ pub record IsUnlawfulAt (t : List Node) (es : List Entry) (n : ℕ) (why : Posit
 pub record IsMiscountedAt (t : List Node) (es : List Entry) (n written counted : ℕ) : Type 0 where
   pub entry : Entry
   pub earliest : IsEarliest (IsSound t) es n entry
-  pub miscounted : IsMiscounted t entry written counted
+  pub miscounted : IsMiscountedEntry t entry written counted
 
 -- what each error says of entries that are asked in their order: which is the first that is not sound, and why
 abbrev pub IsUnsound : List Node → List Entry → BookError → Type 0

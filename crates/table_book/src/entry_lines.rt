@@ -9,7 +9,7 @@ ghost use Rattle.std.specs.List.{flat_map};
 ghost use Rattle.text_lines.specs.Lines.{ended, line_feed, text_of, IsLineOf};
 ghost use Rattle.position_files.specs.Faults.{IsUpTo};
 ghost use Rattle.position_files.specs.Sections.{IsSectionFault};
-ghost use Rattle.table_book.specs.Books.{EntryFits, RootFits, entry_lines, root_line as root_line_lem};
+ghost use Rattle.table_book.specs.Books.{EntryFits, EntryRootFits, entry_lines, root_line as root_line_lem};
 ghost use Rattle.table_book.specs.Sections.{AreEntries, AreEntryLines, IsEntryLines};
 
 use crate::{Entries, Entry, MAX_ENTRIES};
@@ -24,10 +24,10 @@ pub(crate) const ENTRY_LINES: u32 = HEAD_LINES + 2;
 
 /// The root of the first line, which names only nodes below `below`, and the bytes after the line.
 fn root_line(alloc: Global, bytes: &[u8], below: u32) -> Result<(Root, &[u8]), HeadError>
-    ensures fits { IfOk result (λ found. RootFits below found.0) }
+    ensures fits { IfOk result (λ found. EntryRootFits below found.0) }
     ensures text { IfOk result (λ found. bytes.now
         ≡ ended (root_line_lem found.0) ++ found.1.now) }
-    ensures refused { IfErr result (IsSectionFault (IsLineOf (RootFits below) root_line_lem) bytes.now) }
+    ensures refused { IfErr result (IsSectionFault (IsLineOf (EntryRootFits below) root_line_lem) bytes.now) }
     ensures within { IfErr result (IsUpTo 1) }
 {
     if let Some((number, rest)) = number_line(bytes, b"root ", 0, u32::MAX) {

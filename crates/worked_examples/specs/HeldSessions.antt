@@ -17,7 +17,7 @@ use Rattle.gomocup_text.specs.declared.Answer.{Answer}
 use Rattle.brain_session.specs.declared.Reaction.TheVariants.{Says}
 use Rattle.brain_session.specs.declared.batch.BatchStone.{BatchStone}
 use Rattle.brain_session.specs.States.{Game, OwnWin, board_of, empty_board, point_at, new_brain}
-use Rattle.brain_session.specs.Batches.{with_stones}
+use Rattle.brain_session.specs.Batches.{with_batch_stones}
 use Rattle.brain_session.specs.Steps.{brain_step}
 use Rattle.brain_session.specs.Sessions.{state_after}
 use Rattle.brain_session.specs.HeldGames.{BeginsHeldGame, replies, answers_to_replies}
@@ -65,7 +65,7 @@ others x y = record { at = point_at x y; own = false }
 
 -- the board of 15 by 15 with these stones, where this side is the brain's
 abbrev pub board_with : Side → List BatchStone → Grid
-board_with brain stones = with_stones brain (empty_board 15 15) stones
+board_with brain stones = with_batch_stones brain (empty_board 15 15) stones
 
 -- a winning node
 abbrev pub wins_at : Point → Node

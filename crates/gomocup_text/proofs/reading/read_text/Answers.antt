@@ -1,7 +1,7 @@
 use Rattle.std.proofs.Common.{◌≡◌, ◌∙◌, length, ap, arith}
 use Rattle.std.proofs.lemmas.Bool.Decides.{nat_tests}
 use Rattle.gomocup_text.specs.Commands.{form_of}
-use Rattle.gomocup_text.specs.Words.{named}
+use Rattle.gomocup_text.specs.Words.{word_named}
 use Rattle.gomocup_text.proofs.TextCommands.{text_command-word}
 use Rattle.gomocup_text.proofs.reading.read_text.Goals as goal
 
@@ -12,5 +12,5 @@ returns-in-Some-named_word c =
       command = c.read_form.ensures.command
           ∙ ap (form_of c.in-Some-named_word.word) c.first_word.ensures.rest
           ∙ text_command-word c.args.text.now c.in-Some-named_word.word some c.in_default.ensures.numbers
-          (c.in-Some-named_word.ensures.word ∙ ap named c.first_word.ensures.word);
+          (c.in-Some-named_word.ensures.word ∙ ap word_named c.first_word.ensures.word);
     }

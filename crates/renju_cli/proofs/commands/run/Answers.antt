@@ -5,7 +5,7 @@ use Rattle.renju_cli.specs.declared.commands.Form.{Form}
 use Rattle.renju_cli.specs.declared.commands.Form.TheVariants.{BrainWith, RefereeWith, Bind}
 use Rattle.renju_cli.specs.Statuses.{status_number}
 use Rattle.renju_cli.specs.declared.status.Status.TheVariants.{Usage}
-use Rattle.renju_cli.specs.Runs.{Run, IsDelivered, run_of, change}
+use Rattle.renju_cli.specs.Runs.{Run, IsDelivered, program_run, change}
 use Rattle.renju_cli.specs.Brains.{second_word}
 use Rattle.renju_cli.specs.Commands.{IsForm}
 use Rattle.renju_cli.proofs.Words.{same-count, word-after, words-after}
@@ -53,7 +53,7 @@ returns-in-Some-Bind-clause-devices g c = record {
 pub returns-in-Some-BrainWith-clause-report : goal.returns-in-Some-BrainWith-clause-report
 returns-in-Some-BrainWith-clause-report g c =
     let words = map string_bytes c.args.words.now in
-    let run : Run = run_of words (change g.I.Source.left g.I.Source.faults g.I.Source.asked c.args.input.now c.play_with.new.input)
+    let run : Run = program_run words (change g.I.Source.left g.I.Source.faults g.I.Source.asked c.args.input.now c.play_with.new.input)
     (change g.O.Sink.written g.O.Sink.faults g.O.Sink.asked c.args.output.now c.play_with.new.output)
     (change g.F.Shelf.files g.F.Shelf.faults g.F.Shelf.asked c.args.shelf.now c.play_with.new.shelf) (status_number c.play_with.result) in
     let form : IsForm words BrainWith = subst (λ (f : Form). IsForm words f) c.in-Some-BrainWith.field-0-is
@@ -67,7 +67,7 @@ returns-in-Some-BrainWith-clause-report g c =
 pub returns-in-Some-RefereeWith-clause-report : goal.returns-in-Some-RefereeWith-clause-report
 returns-in-Some-RefereeWith-clause-report g c =
     let words = map string_bytes c.args.words.now in
-    let run : Run = run_of words (change g.I.Source.left g.I.Source.faults g.I.Source.asked c.args.input.now c.referee_with.new.input)
+    let run : Run = program_run words (change g.I.Source.left g.I.Source.faults g.I.Source.asked c.args.input.now c.referee_with.new.input)
     (change g.O.Sink.written g.O.Sink.faults g.O.Sink.asked c.args.output.now c.referee_with.new.output)
     (change g.F.Shelf.files g.F.Shelf.faults g.F.Shelf.asked c.args.shelf.now c.referee_with.new.shelf)
     (status_number c.referee_with.result) in
@@ -85,7 +85,7 @@ pub returns-in-Some-Bind-clause-report : goal.returns-in-Some-Bind-clause-report
 returns-in-Some-Bind-clause-report g c =
     let words = map string_bytes c.args.words.now in
     let input = change g.I.Source.left g.I.Source.faults g.I.Source.asked c.args.input.now c.args.input.now in
-    let run : Run = run_of words input (change g.O.Sink.written g.O.Sink.faults g.O.Sink.asked c.args.output.now c.bind.new.output)
+    let run : Run = program_run words input (change g.O.Sink.written g.O.Sink.faults g.O.Sink.asked c.args.output.now c.bind.new.output)
     (change g.F.Shelf.files g.F.Shelf.faults g.F.Shelf.asked c.args.shelf.now c.bind.new.shelf) (status_number c.bind.result) in
     let form : IsForm words Bind = subst (λ (f : Form). IsForm words f) c.in-Some-Bind.field-0-is c.in-Some-Bind.ensures.form in
     bind-reported run _ form (words-after string_bytes c.args.words.now)
