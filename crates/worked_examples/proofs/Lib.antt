@@ -1,4 +1,5 @@
 -- The proofs of the theorems: acceptance by tests that compute, and each session.
+mod TestedTables
 mod OverlineSessions
 mod StartSession
 -- the win that the brain finds itself, and the session in which it follows it

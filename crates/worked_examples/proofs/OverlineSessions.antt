@@ -1,6 +1,6 @@
 -- The sessions with the block that is a foul.
-use Rattle.std.proofs.Common.{◌≡◌, ℕ, zero, suc, Bool, true, false, List, [], ◌∷◌, ◌++◌, codes, refl, ap, subst, ◌∙◌, arith, nat_eq, Option}
-use Rattle.std.proofs.Common.{Some, None, slice_get}
+use Rattle.std.proofs.Common.{◌≡◌, ℕ, zero, suc, Bool, true, false, List, [], ◌∷◌, ◌++◌, codes, refl, ap, subst, ◌∙◌, arith, nat_eq}
+use Rattle.std.proofs.Common.{None, slice_get}
 use Rattle.std.specs.Fmt.{digits}
 use Rattle.std.specs.List.{list_all}
 use Rattle.std.proofs.lemmas.List.Elements.{All-nil, All-cons}
@@ -14,9 +14,8 @@ use Rattle.game_rules.specs.declared.Point.{Point}
 use Rattle.game_rules.proofs.Points.{is_same_point-same}
 use Rattle.foul_judge.specs.Lawful.{refusal}
 use Rattle.foul_judge.proofs.Lawfulness.{lawful_from_none}
-use Rattle.strategy_graph.specs.declared.Node.{Node}
 use Rattle.strategy_graph.specs.declared.Rest.TheVariants.{To}
-use Rattle.strategy_graph.proofs.Common.{Answers, answers_of, names_below, NamesLower, Meets, Accepted, Won, game, attacks}
+use Rattle.strategy_graph.proofs.Common.{Answers, NamesLower, Meets, Accepted, Won, game, attacks}
 use Rattle.strategy_graph.proofs.Steps.{accepted-by-replies, met-foul}
 use Rattle.strategy_graph.proofs.Soundness.{is_met, met-by_test}
 use Rattle.strategy_checker.specs.HeldRoots.{IsHeldRoot, IsHeld}
@@ -32,17 +31,12 @@ use Rattle.brain_session.specs.Sessions.{answers_from, state_after, answer_texts
 use Rattle.brain_session.specs.HeldGames.{BeginsHeldGame, replies, game_answers}
 use Rattle.brain_session.proofs.HeldGames.{held-games-go_well}
 use Rattle.worked_examples.specs.HeldSessions.{PlaysHeldGame, overline_board, overline_table, elsewhere_input, block_input}
+use Rattle.worked_examples.proofs.TestedTables.{names_lower, lower_by}
 
 -- ---- the table is accepted
 
--- whether there is such a node, and it names only lower ones than i
-names_lower : Option Node → ℕ → Bool
-names_lower None i = true
-names_lower (Some n) i = names_below (answers_of n) i
-
 lower : NamesLower overline_table.table
-unfolding names_lower
-lower = record { lower = λ i n e. subst (λ (o : Option Node). names_lower o i ≡ true) e (at i) } where
+lower = lower_by overline_table.table at where
   at : (i : ℕ) → names_lower (slice_get overline_table.table i) i ≡ true
   at zero = refl
   at (suc zero) = refl

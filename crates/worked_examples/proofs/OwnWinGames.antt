@@ -1,26 +1,24 @@
 -- Sessions in which a win of the brain's own is followed to its end, whatever is held that has no say where it is found.
-use Rattle.std.proofs.Common.{◌≡◌, ℕ, Bool, true, false, List, [], ◌∷◌, ◌++◌, codes, refl, ap, subst, ◌∙◌, arith, Option, Some, None}
+use Rattle.std.proofs.Common.{◌≡◌, ℕ, true, false, List, [], ◌∷◌, ◌++◌, codes, refl, ap, ◌∙◌, arith, Option, Some, None}
 use Rattle.std.proofs.Common.{slice_get, zero, suc}
 use Rattle.std.specs.Fmt.{digits}
-use Rattle.std.specs.List.{find}
 use Rattle.std.proofs.lemmas.List.Elements.{All-nil, All-cons}
-use Rattle.game_rules.specs.Play.{IsPosition, after, mover}
+use Rattle.game_rules.specs.Play.{IsPosition, after}
 use Rattle.game_rules.specs.declared.RuleKind.TheVariants.{Freestyle}
 use Rattle.game_rules.specs.declared.Side.TheVariants.{Black}
 use Rattle.game_rules.specs.declared.Point.{Point}
 use Rattle.game_rules.specs.declared.Outcome.TheVariants.{Wins, GoesOn}
-use Rattle.game_rules.proofs.Common.{Grid, IsBoard, points_of, outcome, five, has_five, four_move}
+use Rattle.game_rules.proofs.Common.{Grid, IsBoard, outcome, five, four_move}
 use Rattle.foul_judge.specs.Lawful.{refusal}
 use Rattle.foul_judge.proofs.Lawfulness.{lawful_from_none}
 use Rattle.strategy_graph.specs.Games.{one_later}
-use Rattle.strategy_graph.specs.declared.Node.{Node}
-use Rattle.strategy_graph.proofs.Common.{NamesLower, Accepted, Won, answers_of, names_below}
+use Rattle.strategy_graph.proofs.Common.{NamesLower, Accepted, Won}
 use Rattle.strategy_graph.proofs.Steps.{accepted-by-win}
 use Rattle.strategy_graph.specs.declared.roots.Root.TheVariants.{Attack}
 use Rattle.strategy_checker.specs.HeldRoots.{HeldTable, IsHeldRoot, IsHeld}
 use Rattle.gomocup_text.specs.Commands.{commands}
 use Rattle.gomocup_text.specs.declared.Command.{Command}
-use Rattle.gomocup_text.specs.declared.Command.TheVariants.{Start, Turn, Board, Stone, Done, End}
+use Rattle.gomocup_text.specs.declared.Command.TheVariants.{Turn, Done, End}
 use Rattle.gomocup_text.specs.declared.Answer.{Answer}
 use Rattle.gomocup_text.specs.declared.Answer.TheVariants.{Ok as SaysOk, Move}
 use Rattle.brain_session.specs.declared.Reaction.TheVariants.{Says}
@@ -35,7 +33,9 @@ use Rattle.brain_session.proofs.OwnGames.{own-games-go_well}
 use Rattle.renju_cli.specs.Brains.{nothing_held}
 use Rattle.worked_examples.specs.HeldSessions.{PlaysOwnGame, three_board, blocked_input, passed_input, passed_board, passed_game, one_five}
 use Rattle.worked_examples.proofs.OwnWins.{attack_goes_on, own_win_is, first_move, move-five, replied_board, second_move}
+use Rattle.worked_examples.proofs.TestedTables.{names_lower, lower_by}
 use Rattle.worked_examples.proofs.OwnWinSession.{chooses, replies_by_step}
+unfoldable use Rattle.worked_examples.proofs.OwnWinSession.{told}
 
 -- the game at its beginning, and after Black's first move
 abbrev game_with : List Point → Option Followed → Game
@@ -50,9 +50,6 @@ attacked_game = game_with (point_at 4 7 ∷ []) (Some (OwnWin 2))
 
 abbrev attacked : Grid
 attacked = after three_board (point_at 4 7)
-
-pub told : List Command
-told = Start 15 ∷ Board ∷ Stone 5 7 1 ∷ Stone 6 7 1 ∷ Stone 7 7 1 ∷ Stone 0 0 2 ∷ Stone 2 0 2 ∷ Stone 4 0 2 ∷ []
 
 -- ---- the session, with any reply after which the game goes on and the brain makes five
 
@@ -180,16 +177,9 @@ block_on = refl
 abbrev blocked : Grid
 blocked = after attacked (point_at 3 7)
 
-five_there : has_five Freestyle blocked (mover blocked) ≡ true
-unfolding three_board
-five_there = refl
-
-five_found : find (five Freestyle blocked (mover blocked)) (points_of blocked) ≡ Some (point_at 8 7)
-unfolding three_board
-five_found = refl
-
 far_end : four_move Freestyle 1 blocked ≡ Some (point_at 8 7)
-far_end = move-five blocked five_there ∙ five_found
+unfolding three_board
+far_end = move-five blocked (point_at 8 7) refl refl
 
 far_end_wins : outcome Freestyle blocked (point_at 8 7) ≡ Wins
 unfolding three_board outcome
@@ -231,13 +221,8 @@ apart_there : first_node start_game one_five.roots ≡ None
 unfolding three_board passed_board
 apart_there = refl
 
-names_lower : Option Node → ℕ → Bool
-names_lower None i = true
-names_lower (Some n) i = names_below (answers_of n) i
-
 lower : NamesLower one_five.table
-unfolding names_lower
-lower = record { lower = λ i n e. subst (λ (o : Option Node). names_lower o i ≡ true) e (at i) } where
+lower = lower_by one_five.table at where
   at : (i : ℕ) → names_lower (slice_get one_five.table i) i ≡ true
   at zero = refl
   at (suc i) = refl

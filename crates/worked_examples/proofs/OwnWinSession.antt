@@ -10,7 +10,6 @@ use Rattle.game_rules.specs.declared.Side.TheVariants.{Black}
 use Rattle.game_rules.specs.declared.Point.{Point}
 use Rattle.foul_judge.specs.Lawful.{refusal}
 use Rattle.foul_judge.proofs.Lawfulness.{lawful_from_none}
-use Rattle.strategy_graph.specs.declared.Node.{Node}
 use Rattle.strategy_graph.specs.declared.Rest.TheVariants.{To}
 use Rattle.strategy_graph.specs.Games.{one_later}
 use Rattle.strategy_graph.specs.declared.roots.Root.TheVariants.{Defend}
@@ -28,24 +27,20 @@ use Rattle.brain_session.specs.Sessions.{answers_from, then_state, state_after, 
 use Rattle.brain_session.specs.HeldGames.{BeginsHeldGame, replies, game_answers, then_replies, answers_by}
 use Rattle.brain_session.proofs.HeldGames.{held-games-go_well}
 use Rattle.worked_examples.specs.HeldSessions.{PlaysHeldGame, three_board, four_board, one_start, taken_back_input, PlaysOwnGame}
+use Rattle.worked_examples.proofs.TestedTables.{names_lower, lower_by}
 use Rattle.worked_examples.proofs.OwnWins.{attack_goes_on, own_win_is, first_move, replied_board, second_move}
 use Rattle.game_rules.specs.declared.Outcome.TheVariants.{Wins, GoesOn}
 use Rattle.brain_session.specs.OwnGames.{BeginsOwnGame, win_game, win_attacks, win_answers}
 use Rattle.brain_session.proofs.HeldReplies.{session_by}
 use Rattle.brain_session.proofs.OwnGames.{own-games-go_well}
 use Rattle.game_rules.proofs.Common.{IsBoard, points_of, empties_of, outcome}
-use Rattle.strategy_graph.proofs.Common.{Answers, answers_of, names_below, NamesLower, AcceptedStart, Won, game, attacks}
+use Rattle.strategy_graph.proofs.Common.{Answers, NamesLower, AcceptedStart, Won, game, attacks}
 use Rattle.strategy_graph.proofs.Soundness.{is_met, met-by_test}
 
 -- ---- the start is accepted
 
-names_lower : Option Node → ℕ → Bool
-names_lower None i = true
-names_lower (Some n) i = names_below (answers_of n) i
-
 lower : NamesLower one_start.table
-unfolding names_lower
-lower = record { lower = λ i n e. subst (λ (o : Option Node). names_lower o i ≡ true) e (at i) } where
+lower = lower_by one_start.table at where
   at : (i : ℕ) → names_lower (slice_get one_start.table i) i ≡ true
   at zero = refl
   at (suc zero) = refl
@@ -109,10 +104,10 @@ game_at moves ended followed =
 abbrev state_at : Game → State
 state_at g = record { wish = 0; held = one_start; place = InGame g; batch = None }
 
-told : List Command
+unfoldable pub told : List Command
 told = Start 15 ∷ Board ∷ Stone 5 7 1 ∷ Stone 6 7 1 ∷ Stone 7 7 1 ∷ Stone 0 0 2 ∷ Stone 2 0 2 ∷ Stone 4 0 2 ∷ []
 
-rest : List Command
+unfoldable pub rest : List Command
 rest = Takeback 3 7 ∷ Takeback 0 14 ∷ Turn 1 14 ∷ End ∷ []
 
 own_choice : chosen one_start (game_at [] false None) ≡ record { at = point_at 4 7; followed = Some (OwnWin 2) }
@@ -149,7 +144,7 @@ turn_step = chooses (state_at (game_at (point_at 4 7 ∷ []) false (Some (OwnWin
 
 -- ---- the session
 
-lines : commands taken_back_input ≡ told ++ Done ∷ Turn 0 14 ∷ rest
+pub lines : commands taken_back_input ≡ told ++ Done ∷ Turn 0 14 ∷ rest
 unfolding taken_back_input told rest
 lines = refl
 
@@ -178,13 +173,13 @@ own_win-text = ap (λ (cs : List Command). answer_texts (answers_from (new_brain
 
 -- ---- the held game
 
-taken_back : List Command
+unfoldable pub taken_back : List Command
 taken_back = Takeback 3 7 ∷ Takeback 0 14 ∷ []
 
-abbrev before : List Command
+abbrev pub before : List Command
 before = told ++ Done ∷ Turn 0 14 ∷ taken_back
 
-lines_again : commands taken_back_input ≡ before ++ Turn 1 14 ∷ End ∷ []
+pub lines_again : commands taken_back_input ≡ before ++ Turn 1 14 ∷ End ∷ []
 unfolding taken_back_input told taken_back
 lines_again = refl
 

@@ -115,14 +115,14 @@ three_tested = refl
 first_none : wins_by_fours Freestyle 1 three_board ≡ false
 first_none = no_win_at_once three_board three_tested
 
-attacked : Grid
+unfoldable pub attacked : Grid
 attacked = after three_board (point_at 4 7)
 
 attacked_tested : list_all (leaves_five attacked) (points_of attacked) ≡ true
 unfolding attacked three_board
 attacked_tested = refl
 
-attacked_some : nat_eq (empties_of attacked) 1 ≡ false
+pub attacked_some : nat_eq (empties_of attacked) 1 ≡ false
 unfolding attacked three_board
 attacked_some = refl
 
@@ -331,18 +331,12 @@ first_move = rw no_five_yet
 unfoldable pub replied_board : Grid
 replied_board = after (after three_board (point_at 4 7)) (point_at 0 14)
 
-five_there : has_five Freestyle replied_board (mover replied_board) ≡ true
-unfolding replied_board three_board
-five_there = refl
-
-five_found : find (five Freestyle replied_board (mover replied_board)) (points_of replied_board) ≡ Some (point_at 3 7)
-unfolding replied_board three_board
-five_found = refl
-
-pub move-five : (b : Grid) → has_five Freestyle b (mover b) ≡ true
-    → four_move Freestyle 1 b ≡ find (five Freestyle b (mover b)) (points_of b)
+-- where there are five points the first one is played
+pub move-five : (b : Grid) (p : Point) → has_five Freestyle b (mover b) ≡ true
+    → find (five Freestyle b (mover b)) (points_of b) ≡ Some p → four_move Freestyle 1 b ≡ Some p
 unfolding four_move
-move-five b e = rw e refl
+move-five b p some first = rw some first
 
 pub second_move : four_move Freestyle 1 replied_board ≡ Some (point_at 3 7)
-second_move = move-five replied_board five_there ∙ five_found
+unfolding replied_board three_board
+second_move = move-five replied_board (point_at 3 7) refl refl

@@ -1,18 +1,17 @@
 -- The session in which a start is followed after moves were taken back.
-use Rattle.std.proofs.Common.{◌≡◌, ℕ, zero, suc, Bool, true, false, List, [], ◌∷◌, ◌++◌, codes, refl, ap, subst, ◌∙◌, arith, nat_eq, Option}
-use Rattle.std.proofs.Common.{Some, None, slice_get}
+use Rattle.std.proofs.Common.{◌≡◌, ℕ, zero, suc, true, false, List, [], ◌∷◌, ◌++◌, codes, refl, ap, ◌∙◌, arith}
+use Rattle.std.proofs.Common.{None, slice_get}
 use Rattle.std.specs.Fmt.{digits}
 use Rattle.std.specs.List.{list_all}
 use Rattle.std.proofs.lemmas.List.Elements.{All-nil, All-cons}
-use Rattle.game_rules.proofs.Common.{Grid, IsBoard, points_of, empties_of, outcome, after}
+use Rattle.game_rules.proofs.Common.{IsBoard, points_of, outcome, after}
 use Rattle.game_rules.specs.declared.RuleKind.TheVariants.{Freestyle}
 use Rattle.game_rules.specs.declared.Side.TheVariants.{Black}
 use Rattle.game_rules.specs.declared.Point.{Point}
 use Rattle.foul_judge.specs.Lawful.{refusal}
 use Rattle.foul_judge.proofs.Lawfulness.{lawful_from_none}
-use Rattle.strategy_graph.specs.declared.Node.{Node}
 use Rattle.strategy_graph.specs.declared.Rest.TheVariants.{To}
-use Rattle.strategy_graph.proofs.Common.{Answers, answers_of, names_below, NamesLower, Accepted, AcceptedStart, Won, game, attacks}
+use Rattle.strategy_graph.proofs.Common.{Answers, NamesLower, Accepted, AcceptedStart, Won, game, attacks}
 use Rattle.strategy_graph.proofs.Steps.{accepted-by-replies}
 use Rattle.strategy_checker.specs.declared.held.HeldRoot.{HeldRoot}
 use Rattle.strategy_graph.specs.declared.roots.Root.TheVariants.{Defend}
@@ -20,7 +19,7 @@ use Rattle.strategy_graph.proofs.Soundness.{is_met, met-by_test}
 use Rattle.strategy_checker.specs.HeldRoots.{IsHeldRoot, IsHeld}
 use Rattle.gomocup_text.specs.Commands.{commands}
 use Rattle.gomocup_text.specs.declared.Command.{Command}
-use Rattle.gomocup_text.specs.declared.Command.TheVariants.{Start, Turn, Takeback, Board, Stone, Done, End}
+use Rattle.gomocup_text.specs.declared.Command.TheVariants.{Turn, Done, End}
 use Rattle.gomocup_text.specs.declared.Answer.TheVariants.{Ok as SaysOk, Move}
 use Rattle.brain_session.specs.States.{Game, board_of, new_game, point_at, new_brain}
 use Rattle.brain_session.specs.ChosenMoves.{chosen, chosen_anew}
@@ -29,19 +28,16 @@ use Rattle.brain_session.specs.Sessions.{answers_from, state_after, answer_texts
 use Rattle.brain_session.specs.HeldGames.{BeginsHeldGame, replies, game_answers}
 use Rattle.brain_session.proofs.HeldGames.{held-games-go_well}
 use Rattle.worked_examples.specs.HeldSessions.{PlaysHeldGame, three_board, four_board, two_roots, taken_back_input}
-use Rattle.worked_examples.proofs.OwnWinSession.{start_leaves, four_unrefused, none_over}
-unfoldable use Rattle.worked_examples.proofs.OwnWinSession.{none}
-use Rattle.worked_examples.proofs.OwnWins.{attack_goes_on}
+use Rattle.worked_examples.proofs.TestedTables.{names_lower, lower_by}
+use Rattle.worked_examples.proofs.OwnWinSession.{start_leaves, four_unrefused, none_over, lines, lines_again, before}
+unfoldable use Rattle.worked_examples.proofs.OwnWinSession.{none, told, rest, taken_back}
+use Rattle.worked_examples.proofs.OwnWins.{attack_goes_on, attacked_some}
+unfoldable use Rattle.worked_examples.proofs.OwnWins.{attacked}
 
 -- ---- both roots are accepted
 
-names_lower : Option Node → ℕ → Bool
-names_lower None i = true
-names_lower (Some n) i = names_below (answers_of n) i
-
 lower : NamesLower two_roots.table
-unfolding names_lower
-lower = record { lower = λ i n e. subst (λ (o : Option Node). names_lower o i ≡ true) e (at i) } where
+lower = lower_by two_roots.table at where
   at : (i : ℕ) → names_lower (slice_get two_roots.table i) i ≡ true
   at zero = refl
   at (suc zero) = refl
@@ -55,10 +51,6 @@ after_three = record { replies = record { at = point_at 3 7; next = 1 } ∷ []; 
 abbrev after_four : Answers
 after_four = record { replies = record { at = point_at 8 7; next = 0 } ∷ []; rest = To 1 }
 
--- the board after the attack
-attacked : Grid
-attacked = after three_board (point_at 4 7)
-
 attack_met : list_all (is_met Freestyle two_roots.table after_three attacked none) (points_of attacked) ≡ true
 unfolding attacked none three_board
 attack_met = refl
@@ -67,14 +59,10 @@ start_met : list_all (is_met Freestyle two_roots.table after_four four_board non
 unfolding none four_board
 start_met = refl
 
-attack_leaves : nat_eq (empties_of attacked) 1 ≡ false
-unfolding attacked three_board
-attack_leaves = refl
-
 attack_accepted : Accepted Freestyle two_roots.table 2 three_board
 unfolding attacked
 attack_accepted = accepted-by-replies Freestyle two_roots.table lower 2 three_board _ refl attack_goes_on refl (λ q.
-    met-by_test Freestyle two_roots.table lower after_three attacked attack_leaves q none attack_met (none_over q _))
+    met-by_test Freestyle two_roots.table lower after_three attacked attacked_some q none attack_met (none_over q _))
 
 start_accepted : AcceptedStart Freestyle two_roots.table after_four four_board
 start_accepted q = met-by_test Freestyle two_roots.table lower after_four four_board start_leaves q none start_met (none_over q _)
@@ -111,27 +99,10 @@ two_roots-held = record {
 
 -- ---- the session
 
-told : List Command
-told = Start 15 ∷ Board ∷ Stone 5 7 1 ∷ Stone 6 7 1 ∷ Stone 7 7 1 ∷ Stone 0 0 2 ∷ Stone 2 0 2 ∷ Stone 4 0 2 ∷ []
-
-later : List Command
-later = Turn 0 14 ∷ Takeback 3 7 ∷ Takeback 0 14 ∷ Turn 1 14 ∷ End ∷ []
-
-told_again : List Command
-told_again = Start 15 ∷ Board ∷ Stone 5 7 1 ∷ Stone 6 7 1 ∷ Stone 7 7 1 ∷ Stone 0 0 2 ∷ Stone 2 0 2 ∷ Stone 4 0 2 ∷ Done ∷ Turn 0 14 ∷
-    Takeback 3 7 ∷ Takeback 0 14 ∷ []
-
-lines : commands taken_back_input ≡ told ++ Done ∷ later
-unfolding taken_back_input told later
-lines = refl
-
-lines_again : commands taken_back_input ≡ told_again ++ Turn 1 14 ∷ End ∷ []
-unfolding taken_back_input told_again
-lines_again = refl
-
-answers : answers_from (new_brain two_roots) (told ++ Done ∷ later) ≡ SaysOk ∷ Move (point_at 4 7) ∷ Move (point_at 3 7) ∷ SaysOk ∷ SaysOk ∷
-    Move (point_at 8 7) ∷ []
-unfolding told later three_board four_board answers_from row_of chosen chosen_anew refusal outcome
+-- the bytes are those of the session in which a win of the brain's own is followed; here the root before it is held as well
+answers : answers_from (new_brain two_roots) (told ++ Done ∷ Turn 0 14 ∷ rest)
+    ≡ SaysOk ∷ Move (point_at 4 7) ∷ Move (point_at 3 7) ∷ SaysOk ∷ SaysOk ∷ Move (point_at 8 7) ∷ []
+unfolding told rest three_board four_board answers_from row_of chosen chosen_anew refusal outcome
 answers = refl
 
 pub taken_back-text : session_text (new_brain two_roots) taken_back_input ≡ codes "OK\r\n4,7\r\n3,7\r\nOK\r\nOK\r\n8,7\r\n"
@@ -147,8 +118,8 @@ begins : BeginsHeldGame (state_after (new_brain two_roots) told) Done played 2
 unfolding told played three_board four_board state_after row_of chosen chosen_anew refusal outcome
 begins = record { chooses = refl; not_followed = refl; leads = refl }
 
-replied : replies (brain_step (state_after (new_brain two_roots) told) Done).next later ≡ point_at 0 14 ∷ []
-unfolding told later three_board four_board replies state_after row_of chosen chosen_anew refusal outcome
+replied : replies (brain_step (state_after (new_brain two_roots) told) Done).next (Turn 0 14 ∷ rest) ≡ point_at 0 14 ∷ []
+unfolding told rest three_board four_board replies state_after row_of chosen chosen_anew refusal outcome
 replied = refl
 
 game_said : game_answers Freestyle two_roots.table 2 three_board (point_at 0 14 ∷ []) ≡ Move (point_at 4 7) ∷ Move (point_at 3 7) ∷ []
@@ -162,11 +133,11 @@ game_won = refl
 pub first-game : PlaysHeldGame two_roots taken_back_input 2 (point_at 0 14 ∷ []) (Move (point_at 4 7) ∷ Move (point_at 3 7) ∷ []) 2
 unfolding played state_after three_board told row_of
 first-game =
-    let law = held-games-go_well two_roots two_roots-held told Done later played 2 begins in
+    let law = held-games-go_well two_roots two_roots-held told Done (Turn 0 14 ∷ rest) played 2 begins in
     record {
       before = told;
       command = Done;
-      later = later;
+      later = Turn 0 14 ∷ rest;
       game_there = played;
       lines = lines;
       begins = begins;
@@ -189,11 +160,11 @@ played_again = record {
   followed = None;
 }
 
-begins_again : BeginsHeldGame (state_after (new_brain two_roots) told_again) (Turn 1 14) played_again 1
-unfolding told_again played_again three_board four_board state_after row_of chosen chosen_anew refusal outcome
+begins_again : BeginsHeldGame (state_after (new_brain two_roots) before) (Turn 1 14) played_again 1
+unfolding told taken_back played_again three_board four_board state_after row_of chosen chosen_anew refusal outcome
 begins_again = record { chooses = refl; not_followed = refl; leads = refl }
 
-no_reply : replies (brain_step (state_after (new_brain two_roots) told_again) (Turn 1 14)).next (End ∷ []) ≡ []
+no_reply : replies (brain_step (state_after (new_brain two_roots) before) (Turn 1 14)).next (End ∷ []) ≡ []
 unfolding replies row_of
 no_reply = refl
 
@@ -206,11 +177,11 @@ unfolding played_again three_board game outcome
 game_won_again = refl
 
 pub second-game : PlaysHeldGame two_roots taken_back_input 1 [] (Move (point_at 8 7) ∷ []) 1
-unfolding played_again state_after told_again row_of refusal outcome chosen chosen_anew three_board
+unfolding played_again state_after told taken_back row_of refusal outcome chosen chosen_anew three_board
 second-game =
-    let law = held-games-go_well two_roots two_roots-held told_again (Turn 1 14) (End ∷ []) played_again 1 begins_again in
+    let law = held-games-go_well two_roots two_roots-held before (Turn 1 14) (End ∷ []) played_again 1 begins_again in
     record {
-      before = told_again;
+      before = before;
       command = Turn 1 14;
       later = End ∷ [];
       game_there = played_again;
