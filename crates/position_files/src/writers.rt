@@ -36,7 +36,7 @@ fn push_reply(text: &mut String, reply: Reply) -> Result<(), AllocError>
         ++ (codes " " ++ reply_text reply)) }
 {
     push_spaced_point(text, reply.at)?;
-    text.push_str(">")?;
+    text.push('>')?;
     push_number(text, reply.next)?;
     Ok(())
 }
@@ -84,9 +84,9 @@ fn push_node(text: &mut String, node: &Node) -> Result<(), AllocError>
         ++ ended (node_line node.now)) }
 {
     push_point(text, node.attack)?;
-    text.push_str(" ")?;
+    text.push(' ')?;
     push_answers(text, &node.replies, node.rest)?;
-    text.push_str("\n")?;
+    text.push('\n')?;
     Ok(())
 }
 
@@ -97,7 +97,7 @@ pub fn push_start(text: &mut String, start: &Start) -> Result<(), AllocError>
 {
     text.push_str("start ")?;
     push_answers(text, start.replies(), start.rest())?;
-    text.push_str("\n")?;
+    text.push('\n')?;
     Ok(())
 }
 

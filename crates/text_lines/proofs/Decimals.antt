@@ -1,12 +1,13 @@
 -- Decimal numbers.
-use Rattle.std.proofs.Common.{◌≡◌, ℕ, ◌+◌, ◌*◌, ◌-◌, ◌^◌, ◌<◌, ◌≤◌, refl, sym, ap, subst, ◌∙◌, arith, List, [], ◌∷◌, length, take, get_or}
-use Rattle.std.proofs.Common.{nat_lt, eqb, not, true, false, inl, inr}
+use Rattle.std.proofs.Common.{◌≡◌, ℕ, ◌+◌, ◌*◌, ◌/◌, ◌%◌, ◌-◌, ◌^◌, ◌<◌, ◌≤◌, refl, sym, ap, subst, ◌∙◌, arith, List, [], ◌∷◌, ◌++◌, length}
+use Rattle.std.proofs.Common.{take}
+use Rattle.std.proofs.Common.{append_assoc, get_or, nat_lt, eqb, not, true, false, inl, inr}
 use Rattle.std.specs.Char.{digit_value, IsNotAsciiDigit}
 use Rattle.std.specs.Fmt.{decimal}
 use Rattle.std.specs.Str.Parse.{AllDigits, digits_value}
 use Rattle.std.proofs.lemmas.Bool.{cases_eq, le-ltb, lt-ltb, ne_eqb}
 use Rattle.std.proofs.Math.Seq.{take-length}
-use Rattle.std.proofs.lemmas.Fmt.{decimal_digit, decimal_nonempty, first_decimal, decimal-digits_value, digits_decimal}
+use Rattle.std.proofs.lemmas.Fmt.{decimal_digit, decimal_step, decimal_nonempty, first_decimal, decimal-digits_value, digits_decimal}
 use Rattle.std.proofs.lemmas.Fmt.{digits_value-decimal}
 use Rattle.std.proofs.lemmas.Int.Digits.{digits_value_more, digits_more}
 use Rattle.std.proofs.lemmas.Str.Parse.{IsNumeralModel, numerals_by_value, tells_digits, digit_at, digit_from_value, digits_value-take-le}
@@ -85,6 +86,16 @@ is_spelled bytes i n most end so_far plain bound =
     let whole : take i bytes ≡ bytes = rw end (take-length bytes) in
     let all : IsNumberOf bytes n most = subst (λ (l : List ℕ). IsNumberOf l n most) whole so_far in
     (all.few, let few = all.few in spelled_by_digits bytes n plain all.digits all.value (omega (arith, few)))
+
+-- a text grows by a number of two digits where it grows by one of them after the other
+pub two_digits : (n : ℕ) (old mid new : List ℕ) → 10 ≤ n → n < 100 → mid ≡ old ++ decimal (n / 10) → new ≡ mid ++ decimal (n % 10)
+    → new ≡ old ++ decimal n
+two_digits n old mid new some few e f =
+    let low : n % 10 < 10 = omega arith in
+    let both : decimal n ≡ decimal (n / 10) ++ decimal (n % 10) =
+    decimal_step n some (omega arith) ∙ ap (λ (l : List ℕ). decimal (n / 10) ++ l) (sym (decimal_digit (n % 10) low)) in
+    f ∙ ap (λ (l : List ℕ). l ++ decimal (n % 10)) e ∙ append_assoc old (decimal (n / 10)) (decimal (n % 10))
+    ∙ ap (λ (l : List ℕ). old ++ l) (sym both)
 
 -- bytes with another byte than a digit spell no number
 pub no_digit : (bytes : List ℕ) (v i : ℕ) → v < 2 ^ 64 → bytes ≡ decimal v → i < length bytes → IsNotAsciiDigit (get_or bytes i 0) → ⊥

@@ -4,7 +4,7 @@
 //! then nothing is said of the text.
 #![tactic(auto)]
 
-ghost use Rattle.std.specs.Prelude.{◌≡◌, ◌++◌, IfOk, string_bytes, codes};
+ghost use Rattle.std.specs.Prelude.{◌≡◌, ◌<◌, ◌++◌, IfOk, string_bytes, codes};
 ghost use Rattle.std.specs.Fmt.{decimal};
 ghost use Rattle.text_lines.specs.Lines.{ended};
 ghost use Rattle.text_lines.specs.Spellings.{point_text, points_text};
@@ -19,7 +19,32 @@ pub fn push_line(text: &mut String, line: &str) -> Result<(), AllocError>
         ++ ended line.now) }
 {
     text.push_str(line)?;
-    text.push_str("\n")?;
+    text.push('\n')?;
+    Ok(())
+}
+
+/// Adds a digit to a text.
+#[tactic(auto, using(std::proofs::lemmas::Fmt::decimal_digit))]
+fn push_digit(text: &mut String, digit: u8) -> Result<(), AllocError>
+    requires digit { digit < 10 }
+    ensures digit { IfOk result (λ _. string_bytes text.new ≡ string_bytes text.old
+        ++ decimal digit) }
+{
+    text.push(char::from(b'0' + digit))?;
+    Ok(())
+}
+
+/// Adds a number below 100 to a text, in decimal.
+fn push_short(text: &mut String, number: u8) -> Result<(), AllocError>
+    requires short { number < 100 }
+    ensures number { IfOk result (λ _. string_bytes text.new ≡ string_bytes text.old
+        ++ decimal number) }
+{
+    if number < 10 {
+        return push_digit(text, number);
+    }
+    push_digit(text, number / 10)?;
+    push_digit(text, number % 10)?;
     Ok(())
 }
 
@@ -28,6 +53,9 @@ pub fn push_number(text: &mut String, number: u32) -> Result<(), AllocError>
     ensures number { IfOk result (λ _. string_bytes text.new ≡ string_bytes text.old
         ++ decimal number) }
 {
+    if number < 100 {
+        return push_short(text, number as u8);
+    }
     text.push_str(Buffer::new().format(number))?;
     Ok(())
 }
@@ -47,7 +75,7 @@ pub fn push_point(text: &mut String, at: Point) -> Result<(), AllocError>
         ++ point_text at) }
 {
     push_number(text, u32::from(at.x))?;
-    text.push_str(",")?;
+    text.push(',')?;
     push_number(text, u32::from(at.y))?;
     Ok(())
 }
@@ -57,7 +85,7 @@ pub fn push_spaced_point(text: &mut String, at: Point) -> Result<(), AllocError>
     ensures point { IfOk result (λ _. string_bytes text.new ≡ string_bytes text.old
         ++ (codes " " ++ point_text at)) }
 {
-    text.push_str(" ")?;
+    text.push(' ')?;
     push_point(text, at)?;
     Ok(())
 }
