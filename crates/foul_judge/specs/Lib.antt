@@ -1,4 +1,3 @@
 pub mod Threes
 pub mod ShortCut
 pub mod Lawful
-pub mod AnyPosition

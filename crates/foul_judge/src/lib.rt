@@ -4,7 +4,6 @@
 //! empty. The searches see a position through `Seen`, however it is kept.
 #![tactic(auto)]
 
-mod any_position;
 mod foul;
 mod outcome;
 #[cfg(test)]
@@ -15,7 +14,6 @@ mod short_cut;
 #[cfg(test)]
 mod tests;
 
-pub use any_position::AnyPosition;
 pub use foul::foul_at;
 pub use game_rules::{Foul, Outcome};
 pub use outcome::{mover, outcome_at};

@@ -1,5 +1,5 @@
 //! Fouls, outcomes and lawful positions on small examples.
-use crate::{AnyPosition, Foul, Outcome, Position, PositionError, Seen, foul_at};
+use crate::{Foul, Outcome, Position, PositionError, Seen, foul_at};
 use row_shapes::{ExactFive, FivePoints, Freestyle, Renju, Rule, RuleKind, under_rule};
 use std::alloc::{AllocError, Global};
 use std::process::Abort;
@@ -300,21 +300,6 @@ fn a_move_makes_its_five_point(rt: HostRuntime) -> Result<(), Fail> {
             assert!(rt; !position.has_five(side));
             let made = FivePoints::One(Point { x: 8, y: 7 });
             assert_eq!(rt; position.fives_made(p), made);
-        }
-    }
-    Ok(())
-}
-
-#[test]
-fn a_position_of_any_rule_keeps_its_board(rt: HostRuntime) -> Result<(), Fail> {
-    let board = drawn(&rt, b"xo")?;
-    match Position::<ExactFive>::from_board(board.copy()?) {
-        Err(_) => panic!(rt; "no lawful position"),
-        Ok(position) => {
-            let any = AnyPosition::new(RuleKind::Exact, position.into_board());
-            assert_eq!(rt; any.kind(), RuleKind::Exact);
-            assert!(rt; any.board().same(&board));
-            assert!(rt; any.into_board().same(&board));
         }
     }
     Ok(())
