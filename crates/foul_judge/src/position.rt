@@ -17,15 +17,19 @@ use row_shapes::{FivePoints, Rule, five_at};
 use std::alloc::{AllocError, Global};
 use std::marker::{Model, PhantomData};
 use stone_board::{Axis, Board, Point, Points, Side};
+use thiserror::Error;
 
 /// Why a board is no lawful position.
-#[derive(Clone, Copy, Debug, PartialEq, Eq)]
+#[derive(Clone, Copy, Debug, PartialEq, Eq, Error)]
 pub enum PositionError {
     /// The counts name no side to move.
+    #[error("{black} black stones and {white} white ones leave no side to move")]
     Uneven { black: u32, white: u32 },
     /// A side has a winning run, and `at` is the least point on one.
+    #[error("a side has won already, by a run through {at:?}")]
     AlreadyWon { at: Point },
     /// No point is empty.
+    #[error("no point is empty")]
     BoardFull,
 }
 

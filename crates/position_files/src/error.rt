@@ -19,7 +19,7 @@ pub enum FileError {
     #[error("line {0} is bad")]
     BadLine(u32),
     /// The board is no lawful position under the rule.
-    #[error("the position is not lawful: {0:?}")]
+    #[error("the position is not lawful: {0}")]
     Unlawful(PositionError),
     /// The number of moves that is written is not the depth of the root, which is counted.
     #[error("{written} moves are written, and {counted} are counted")]
@@ -37,7 +37,7 @@ pub enum GameError {
     #[error("line {0} is bad")]
     BadLine(u32),
     /// The board is no lawful position under the rule.
-    #[error("the position is not lawful: {0:?}")]
+    #[error("the position is not lawful: {0}")]
     Unlawful(PositionError),
     /// There is no memory for the value.
     #[error("out of memory")]

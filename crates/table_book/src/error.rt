@@ -24,7 +24,7 @@ pub enum BookError {
     #[error("line {0} is bad")]
     BadLine(u32),
     /// The board of this entry is no lawful position under its rule.
-    #[error("the position of entry {entry} is not lawful: {cause:?}")]
+    #[error("the position of entry {entry} is not lawful: {cause}")]
     Unlawful {
         entry: u32,
         cause: PositionError,
