@@ -1,10 +1,11 @@
--- A board and the moves that were made on it: a move more, and the last move taken back.
-use Rattle.std.proofs.Common.{◌≡◌, ℕ, ◌+◌, ◌<◌, Bool, true, refl, sym, ap, subst, ◌∙◌, arith, List, [], ◌∷◌, ◌++◌, reverse, Decides}
-use Rattle.std.proofs.Common.{eqb-true, eq-eqb}
+-- A board and the moves that were made on it: a move more, the last move taken back, and all stones taken off.
+use Rattle.std.proofs.Common.{◌≡◌, ℕ, ◌+◌, ◌*◌, ◌<◌, ◌≤◌, Bool, true, refl, sym, ap, subst, ◌∙◌, arith, List, [], ◌∷◌, ◌++◌, length}
+use Rattle.std.proofs.Common.{reverse, Decides, eqb-true, eq-eqb}
 use Rattle.std.specs.Prelude.{Some}
 use Rattle.std.proofs.lemmas.Bool.Decides.{same_from_decides}
+use Rattle.std.proofs.lemmas.List.Sums.{count_by-le-length}
 use lib.Pointwise.{pointwise, pointwise_decides}
-use Rattle.game_rules.specs.Grid.{Grid, IsBoard, is_empty, put, lift, empties_of}
+use Rattle.game_rules.specs.Grid.{Grid, IsBoard, is_empty, is_empty_cell, put, lift, empties_of}
 use Rattle.game_rules.specs.Play.{mover, after}
 use Rattle.game_rules.specs.declared.Side.{Side}
 use Rattle.game_rules.specs.declared.Cell.{Cell}
@@ -15,9 +16,10 @@ use Rattle.game_rules.proofs.Positions.{IsBoard-put}
 use Rattle.game_rules.proofs.PointLists.{reverse-push}
 use Rattle.stone_board.specs.Steps.{holds_stone}
 use Rattle.stone_board.proofs.Stones.{put-holds_stone}
-use Rattle.brain_session.specs.States.{board_after}
+use Rattle.brain_session.specs.States.{board_after, empty_board}
 use Rattle.brain_session.specs.ChosenMoves.{same_cell, same_board, last_move}
 use Rattle.brain_session.specs.Kept.{Moves, IsKept, without_last}
+use Rattle.brain_session.proofs.Rounds.{empty-board, width-after, height-after}
 
 -- ---- whether two boards are one
 
@@ -67,8 +69,15 @@ kept-play start board before made room p side kept empty moves =
       now = ap (λ (s : Side). put board s p) moves ∙ ap (λ (b : Grid). after b p) kept.now;
       took_empty = (kept.took_empty, ap (λ (b : Grid). is_empty b p) (sym kept.now) ∙ empty);
       taken = let fewer = empties_of-put board side p ok empty in let all = kept.taken in omega (arith, fewer, all);
-      room_left = kept.room_left;
+      room_for_all = kept.room_for_all;
     }
+
+-- a board has no more empty points than points
+empties-fit : (b : Grid) (room : ℕ) → IsBoard b → b.width * b.height ≤ room → empties_of b ≤ room
+empties-fit b room ok fits =
+    let most : empties_of b ≤ length b.cells = count_by-le-length is_empty_cell b.cells in
+    let filled = ok.filled in
+    omega (arith, most, filled, fits)
 
 -- there is room for it
 pub kept-room : (start board : Grid) (before : List Point) (made room : ℕ) (p : Point)
@@ -77,7 +86,7 @@ kept-room start board before made room p kept empty =
     let ok : IsBoard board = subst IsBoard (sym kept.now) (IsBoard-after start before kept.start_board) in
     let fewer = empties_of-put board (mover board) p ok empty in
     let all = kept.taken in
-    let fits = kept.room_left in
+    let fits = empties-fit start room kept.start_board kept.room_for_all in
     omega (arith, fewer, all, fits)
 
 -- the last move has its stone on the board
@@ -110,7 +119,23 @@ kept-back start board before made left room p kept fewer =
       now = lifted;
       took_empty = kept.took_empty.0;
       taken = let all = kept.taken in omega (arith, more, all, fewer);
-      room_left = kept.room_left;
+      room_for_all = kept.room_for_all;
+    }
+
+-- all stones taken off, and no moves
+pub kept-cleared : (start board : Grid) (before : List Point) (made room : ℕ)
+    → IsKept (record { start = start; moves = before }) board made room
+    → IsKept (record { start = empty_board start.width start.height; moves = [] }) (empty_board board.width board.height) 0 room
+kept-cleared start board before made room kept =
+    let wide : board.width ≡ start.width = ap (λ (b : Grid). b.width) kept.now ∙ width-after start before in
+    let high : board.height ≡ start.height = ap (λ (b : Grid). b.height) kept.now ∙ height-after start before in
+    let here : empty_board board.width board.height ≡ empty_board start.width start.height = λ i. empty_board (wide i) (high i) in
+    record {
+      start_board = empty-board start kept.start_board;
+      now = here;
+      took_empty = tt;
+      taken = let same = ap empties_of here in omega (arith, same);
+      room_for_all = kept.room_for_all;
     }
 
 -- ---- the same, as the calls say it
@@ -131,6 +156,13 @@ pub kept-pushed : (start board next : Grid) (items more : List Point) (made long
     → IsKept (record { start = start; moves = reverse more }) next longer left
 kept-pushed start board next items more made longer room left p side kept empty moves put_here pushed one same =
     rw (put_here, pushed, one, same, reverse-push items p) (kept-play start board (reverse items) made room p side kept empty moves)
+
+pub kept-bare : (start board bare now : Grid) (before : List Point) (items : List Point) (made room none left : ℕ)
+    → IsKept (record { start = start; moves = before }) board made room → bare ≡ empty_board start.width start.height
+    → now ≡ empty_board board.width board.height → items ≡ [] → none ≡ 0 → left ≡ room
+    → IsKept (record { start = bare; moves = reverse items }) now none left
+kept-bare start board bare now before items made room none left kept cleared cleared_now unmoved unmade same =
+    rw (cleared, cleared_now, unmoved, unmade, same) (kept-cleared start board before made room kept)
 
 -- the moves with the last one, as they were before it was popped
 pub kept-popped : (start board : Grid) (items fewer : List Point) (made room : ℕ) (p : Point) → items ≡ fewer ++ p ∷ []

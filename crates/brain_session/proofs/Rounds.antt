@@ -24,7 +24,7 @@ use Rattle.game_rules.proofs.Points.{taken_refused, same_point-on}
 use Rattle.game_rules.proofs.Outcomes.{moved}
 use Rattle.game_rules.proofs.Cells.{empty_cell, bare-cells, empty_stone}
 use Rattle.strategy_checker.specs.HeldRoots.{HeldTable}
-use Rattle.gomocup_text.specs.declared.Answer.TheVariants.{Error}
+use Rattle.gomocup_text.specs.declared.Answer.TheVariants.{Error, Ok as SaysOk}
 use Rattle.gomocup_text.specs.declared.ErrorText.{ErrorText}
 use Rattle.gomocup_text.specs.declared.ErrorText.TheVariants.{UnsupportedRule, GameOver, WrongTurn, BadMove}
 use Rattle.brain_session.specs.declared.course.Course.{Course}
@@ -32,7 +32,7 @@ use Rattle.brain_session.specs.States.{Game, Fresh, board_after, empty_board, ne
 use Rattle.brain_session.specs.ChosenMoves.{last_move}
 use Rattle.brain_session.specs.Memory.{is_game}
 use Rattle.brain_session.specs.Steps.{board_in, is_bare, Row, Step, fails, placed, if_supported, same_side, move_row, turn_row, last_row}
-use Rattle.brain_session.specs.Steps.{takeback_row}
+use Rattle.brain_session.specs.Steps.{restart_row, takeback_row}
 use Rattle.brain_session.specs.Running.{EndsAlong, IsPlayed, IsRunning, IsPlace}
 use Rattle.brain_session.specs.Kept.{Moves, IsKeptUp, IsRound, IsUntouched, without_last, game_of, place_of, IsPointOn, are_one, in_place}
 use Rattle.brain_session.specs.Kept.{IsRow, IsStateOf, Takes, turn_refusal}
@@ -239,6 +239,25 @@ held-takes : (h : HeldTable) (s : State) (g : Game) (p : Point) (o : Outcome) (r
 held-takes h s g p o r next holds unread here is =
     move-takes s g p o r next unread here
     (subst (λ (k : HeldTable). IsRow k (move_row (in_place k (InGame g)) g p o) r (InGame next)) (sym holds) is)
+
+-- ---- RESTART
+
+-- a board from which all stones were taken, with no moves, is untouched
+pub cleared-untouched : (m n : Moves) → n ≡ record { start = empty_board m.start.width m.start.height; moves = [] } → IsUntouched n
+cleared-untouched m n cleared = subst IsUntouched (sym cleared) (record { unmoved = refl; bare = refl })
+
+-- and a board of its size may stand in the place
+pub cleared-place : (h : HeldTable) (m n : Moves) → IsBoard m.start
+    → n ≡ record { start = empty_board m.start.width m.start.height; moves = [] } → IsPlace h (place_of n None)
+cleared-place h m n board cleared =
+    subst (λ (x : Moves). IsPlace h (place_of x None)) (sym cleared) (empty-board m.start board)
+
+-- it is what a RESTART makes of the round
+pub restart-takes : (m n : Moves) (o : Option Course) (s : State)
+    → n ≡ record { start = empty_board m.start.width m.start.height; moves = [] }
+    → Takes (restart_row s (place_of m o)) s (Says SaysOk) (placed s (place_of n None))
+restart-takes m n None s cleared = takes-by s (Says SaysOk) (Says SaysOk) _ _ refl (ap (λ (x : Moves). place_of x None) cleared)
+restart-takes m n (Some c) s cleared = takes-by s (Says SaysOk) (Says SaysOk) _ _ refl (ap (λ (x : Moves). place_of x None) cleared)
 
 -- ---- TURN
 

@@ -1,7 +1,7 @@
 -- How the state is kept: what a board with its moves, a course of a game and a guide mean.
 use Rattle.brain_session.specs.Running.{IsRunning}
-use Rattle.std.specs.Prelude.{◌≡◌, ℕ, ◌+◌, ◌-◌, ◌<◌, ◌≤◌, Bool, true, false, List, [], ◌∷◌, length, Option, Some, None, IfSome, MatchOption}
-use Rattle.std.specs.Prelude.{is_none, is_some, ◌&&◌, if◌then◌else◌, IsSomeAnd}
+use Rattle.std.specs.Prelude.{◌≡◌, ℕ, ◌+◌, ◌-◌, ◌*◌, ◌<◌, ◌≤◌, Bool, true, false, List, [], ◌∷◌, length, Option, Some, None, IfSome}
+use Rattle.std.specs.Prelude.{MatchOption, is_none, is_some, ◌&&◌, if◌then◌else◌, IsSomeAnd}
 use Rattle.std.specs.Option.{option_map}
 use Rattle.game_rules.specs.Grid.{Grid, IsBoard, is_on, is_empty, empties_of}
 use Rattle.game_rules.specs.Shapes.{is_same_point}
@@ -44,13 +44,13 @@ TookEmpty start [] = Unit {0}
 TookEmpty start (p ∷ before) = TookEmpty start before × (is_empty (board_after start before) p ≡ true)
 
 -- What a board keeps beside its meaning: the board now is that after the moves, the moves took an empty point each, and there
--- is room for a move on each point that was empty.
+-- is room for a move on each point.
 pub record IsKept (m : Moves) (board : Grid) (made room : ℕ) : Type 0 where
   pub start_board : IsBoard m.start
   pub now : board ≡ board_after m.start m.moves
   pub took_empty : TookEmpty m.start m.moves
   pub taken : made + empties_of board ≡ empties_of m.start
-  pub room_left : empties_of m.start ≤ room
+  pub room_for_all : m.start.width * m.start.height ≤ room
 
 -- the moves without the last
 abbrev pub without_last : List Point → List Point

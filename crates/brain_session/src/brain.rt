@@ -9,7 +9,7 @@ ghost use Rattle.brain_session.specs.States.{new_brain, point_at};
 ghost use Rattle.brain_session.specs.Batches.{game_from};
 ghost use Rattle.brain_session.specs.Steps.{Reacts, begin_row, board_in, board_row, brain_step, done_row, is_side as is_side_lem, restart_row, row_of, rule_of as rule_of_lem, start_row, stone_row, takeback_row, turn_row};
 ghost use Rattle.brain_session.specs.Running.{IsBrain, IsPlace};
-ghost use Rattle.brain_session.specs.Memory.{begins_none, has_board, is_following, is_fresh, is_settled, takes_none};
+ghost use Rattle.brain_session.specs.Memory.{begins_none, is_following, is_fresh, is_settled, takes_none};
 ghost use Rattle.brain_session.specs.Kept.{IsBegun, IsPointOn, Takes, has_no_place_in_batch as has_no_place_in_batch_lem, held_or_none, is_spoiled, size_in};
 
 use crate::Reaction;
@@ -66,8 +66,8 @@ impl Brain {
     }
 
     /// What the brain does at the command. `Err` says that memory ran out, and then the brain is as before. Memory is taken only
-    /// where a board or a game begins, and at a TURN that the brain answers while it follows nothing and no held root settles it;
-    /// not where such a command is refused, but for a position that is unlawful.
+    /// where START begins a board, where a game begins, and at a TURN that the brain answers while it follows nothing and no held
+    /// root settles it; not where such a command is refused, but for a position that is unlawful.
     pub fn step(&mut self, command: &Command) -> Result<Reaction, AllocError>
         ensures reaction { IfOk result (λ r. r ≡ (brain_step self.old command.now).reaction) }
         ensures next { OnOk result (self.new ≡ (brain_step self.old command.now).next) }
@@ -102,7 +102,7 @@ impl Brain {
         match *command {
             Command::Start(size) => self.start(size, size),
             Command::RectStart(width, height) => self.start(width, height),
-            Command::Restart => self.restart(),
+            Command::Restart => Ok(self.restart()),
             Command::About => Ok(Reaction::Says(Answer::About)),
             Command::End => Ok(Reaction::Ends),
             Command::Rule(wish) => Ok(self.rule(wish)),
@@ -164,20 +164,16 @@ impl Brain {
         Ok(Reaction::Says(Answer::Ok))
     }
 
-    /// RESTART: a board of the same size is begun.
-    fn restart(&mut self) -> Result<Reaction, AllocError>
-        ensures row { IfOk result (λ r. Takes (restart_row self.old self.old.place) self.old r self.new) }
-        ensures boardless { has_board self.old.place ≡ false → IsOk result }
-        ensures unchanged { OnErr result (self.new ≡ self.old) }
+    /// RESTART: a board of the same size is begun, on the memory of the one before.
+    fn restart(&mut self) -> Reaction
+        ensures row { Takes (restart_row self.old self.old.place) self.old result self.new }
         ensures running { IsBrain self.new }
     {
-        let Some(round) = &self.round else {
-            return Ok(error(ErrorText::NoBoard));
+        let Some(round) = &mut self.round else {
+            return error(ErrorText::NoBoard);
         };
-        let fresh = Round::fresh(self.alloc, round.width(), round.height())?;
-        self.round = Some(fresh);
         self.batch.end();
-        Ok(Reaction::Says(Answer::Ok))
+        round.clear()
     }
 
     /// BOARD: a batch is begun.

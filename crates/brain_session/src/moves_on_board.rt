@@ -1,12 +1,12 @@
 //! A board and the moves that were made on it.
 //!
-//! A move is taken back by lifting the last stone. Room for a stone on each empty point is taken with the board, so that no move
-//! takes memory.
+//! A move is taken back by lifting the last stone. Room for a stone on each point is taken with the board, so that no move takes
+//! memory, nor does another game on it from no stones.
 #![tactic(auto)]
 
 ghost use Rattle.std.specs.Prelude.{◌≡◌, ◌≤◌, ◌∷◌, [], ◌&&◌, true, IsTrue, IfOk, IsSome, is_none};
 ghost use Rattle.game_rules.specs.declared.TheConstants.{MIN_SIDE, MAX_SIDE};
-ghost use Rattle.game_rules.specs.Grid.{is_empty};
+ghost use Rattle.game_rules.specs.Grid.{IsBoard, is_empty};
 ghost use Rattle.game_rules.specs.Play.{mover as mover_lem, outcome as outcome_lem};
 ghost use Rattle.brain_session.specs.States.{board_after, empty_board};
 ghost use Rattle.brain_session.specs.ChosenMoves.{last_move, plain_move as plain_move_lem, same_board};
@@ -20,7 +20,7 @@ use std::alloc::{AllocError, Global};
 use std::marker::Model;
 use stone_board::Board;
 
-/// The board from which a game began, the moves since, with room for all that the board can take, and the board now. Contracts
+/// The board from which a game began, the moves since, with room for as many as the board has points, and the board now. Contracts
 /// see the board from which it began, and the moves, the last one first.
 #[derive(Drop)]
 pub(crate) struct MovesOnBoard {
@@ -64,6 +64,16 @@ impl MovesOnBoard {
             moves,
             board,
         })
+    }
+
+    /// The board of the same size with no stone on it, and no moves. No memory is taken.
+    pub(crate) fn clear(&mut self)
+        ensures cleared { self.new ≡ record { start = empty_board self.old.start.width self.old.start.height; moves = [] } }
+        ensures board { IsBoard self.old.start }
+    {
+        self.start.clear();
+        self.board.clear();
+        self.moves.clear();
     }
 
     /// The board now.

@@ -11,7 +11,7 @@ ghost use Rattle.game_rules.specs.declared.TheConstants.{MIN_SIDE, MAX_SIDE};
 ghost use Rattle.game_rules.specs.declared.Point.{Point};
 ghost use Rattle.brain_session.specs.States.{Fresh, State, empty_board, point_at};
 ghost use Rattle.brain_session.specs.Batches.{game_from};
-ghost use Rattle.brain_session.specs.Steps.{begin_row, board_in, placed, takeback_row, turn_row};
+ghost use Rattle.brain_session.specs.Steps.{begin_row, board_in, placed, restart_row, takeback_row, turn_row};
 ghost use Rattle.brain_session.specs.Running.{IsPlace, StonesFit};
 ghost use Rattle.brain_session.specs.Memory.{begins_none, is_following, is_fresh, is_settled, is_game};
 ghost use Rattle.brain_session.specs.Kept.{are_one as are_one_lem, IsBegun, IsPointOn, IsStateOf, Takes, turn_refusal};
@@ -58,6 +58,16 @@ impl Round {
             played: MovesOnBoard::empty(alloc, width, height)?,
             course: None,
         })
+    }
+
+    /// RESTART: the stones are taken off the board, and no game has begun on it. No memory is taken.
+    pub(crate) fn clear(&mut self) -> Reaction
+        ensures row { (s : State) → Takes (restart_row s self.old) s result (placed s self.new) }
+        ensures place { (h : HeldTable) → IsPlace h self.new }
+    {
+        self.played.clear();
+        self.course = None;
+        Reaction::Says(Answer::Ok)
     }
 
     /// How many points a row of the board has.

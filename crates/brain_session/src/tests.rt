@@ -121,6 +121,45 @@ fn a_move_taken_back_leaves_the_empty_board(rt: HostRuntime) -> Result<(), Fail>
     )
 }
 
+// The middle of a board of 9 by 5 is 4,2, and 3,1 is the first point round it. Where memory runs out a command is told again, but
+// RESTART, which takes none (`rt try --test --fail-alloc N`).
+#[test]
+fn a_board_begun_anew_has_no_stone(rt: HostRuntime) -> Result<(), Fail> {
+    let mut brain = new_brain(rt.alloc())?;
+    assert_eq!(rt; brain.step(&Command::Restart)?, fails(ErrorText::NoBoard));
+    tell(
+        &rt,
+        &mut brain,
+        &[
+            (Command::RectStart(9, 5), OK),
+            (Command::Board, Reaction::Silent),
+            (Command::Stone(4, 2, 2), Reaction::Silent),
+            (Command::Done, moves(3, 1)),
+        ],
+    )?;
+    assert_eq!(rt; brain.step(&Command::Restart)?, OK);
+    tell(
+        &rt,
+        &mut brain,
+        &[
+            (Command::Begin, moves(4, 2)),
+            (Command::Turn(3, 1), moves(4, 1)),
+            (Command::Board, Reaction::Silent),
+            (Command::Stone(0, 0, 2), Reaction::Silent),
+        ],
+    )?;
+    assert_eq!(rt; brain.step(&Command::Restart)?, OK);
+    tell(
+        &rt,
+        &mut brain,
+        &[
+            (Command::Done, fails(ErrorText::NotReading)),
+            (Command::Turn(4, 2), moves(3, 1)),
+            (Command::Turn(9, 0), fails(ErrorText::BadMove)),
+        ],
+    )
+}
+
 // Black's stone on 4,4 makes a three in the row and a three in the column.
 #[test]
 fn a_double_three_of_the_opponent_is_a_foul_under_renju(rt: HostRuntime) -> Result<(), Fail> {

@@ -95,3 +95,11 @@ kept-empty width height cells bits wide width_fits high height_fits e f =
       no_stones s n =
           let each = sum_by-replicate (λ c. cond (is_stone_of s c) 1 0) n Empty in
           each ∙ ap (λ r. n * cond r 1 0) (empty_stone s) ∙ omega arith
+
+-- a board whose stones were all taken off
+pub kept-cleared : (b : Grid) (black white : ℕ) (bits clear : List ℕ) (cells : List Cell) → IsKept b black white bits
+    → cells ≡ replicate (length b.cells) Empty → clear ≡ replicate (length bits) 0 → IsKept (record b { cells = cells }) 0 0 clear
+kept-cleared b black white bits clear cells kept bare none =
+    let no_bits : ℕ = 0 in
+    kept-empty b.width b.height cells clear kept.board.wide kept.board.width_fits kept.board.high kept.board.height_fits
+    (bare ∙ ap (λ (n : ℕ). replicate n Empty) kept.board.filled) (none ∙ ap (λ (n : ℕ). replicate n no_bits) kept.lines.all)

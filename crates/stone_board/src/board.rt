@@ -161,6 +161,17 @@ impl Board {
         }
     }
 
+    /// Takes all stones off. No memory is taken.
+    pub fn clear(&mut self)
+        ensures empty { self.new ≡ record self.old { cells = replicate (self.old.width * self.old.height) Cell.Empty } }
+        ensures board { IsBoard self.old }
+    {
+        self.cells.fill(Cell::Empty);
+        self.lines.fill(0);
+        self.black = 0;
+        self.white = 0;
+    }
+
     /// How many stones of the side stand on the board.
     pub fn count(&self, side: Side) -> u32
         ensures count { result ≡ stones_of self.now side }

@@ -36,6 +36,29 @@ fn stones_come_and_go(rt: HostRuntime) -> Result<(), Fail> {
 }
 
 #[test]
+fn all_stones_are_taken_off(rt: HostRuntime) -> Result<(), Fail> {
+    let mut board = Board::empty(rt.alloc(), 6, 5)?;
+    let empty = board.copy()?;
+    let p = Point { x: 2, y: 2 };
+    put_all(&rt, &mut board, Side::Black, &[(1, 3), (2, 2), (5, 4)]);
+    put_all(&rt, &mut board, Side::White, &[(0, 0)]);
+    assert!(rt; !board.same(&empty));
+    board.clear();
+    assert!(rt; board.same(&empty));
+    assert_eq!(rt; board.empties(), 30);
+    assert_eq!(rt; board.count(Side::Black), 0);
+    assert_eq!(rt; board.count(Side::White), 0);
+    for axis in AXES.iter() {
+        assert!(rt; board.on(p));
+        assert_eq!(rt; board.line_through(Side::Black, *axis, p), 0);
+    }
+    put_all(&rt, &mut board, Side::White, &[(1, 3)]);
+    assert_eq!(rt; board.line(Side::White, Axis::Row, 3), 0b10);
+    assert_eq!(rt; board.empties(), 29);
+    Ok(())
+}
+
+#[test]
 fn points_stand_to_each_other(rt: HostRuntime) -> Result<(), Fail> {
     let p = Point { x: 2, y: 3 };
     let beside = Point { x: 3, y: 3 };

@@ -16,7 +16,7 @@ returns-in-RectStart-clause-row c = at-command c.start-in-RectStart.result c.arg
 
 pub returns-in-Restart-clause-row : goal.returns-in-Restart-clause-row
 unfolding row_of
-returns-in-Restart-clause-row c = at-command c.restart.result c.args.self.now c.restart.new.self c.args.command.now _ c.in-Restart.is
+returns-in-Restart-clause-row c = said-at c.args.self.now c.restart.new.self c.args.command.now _ c.restart.result c.in-Restart.is
     c.restart.ensures.row
 
 pub returns-in-About-clause-row : goal.returns-in-About-clause-row
