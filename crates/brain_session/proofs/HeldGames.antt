@@ -22,8 +22,8 @@ use Rattle.brain_session.specs.States.{Game, board_of, State, new_brain}
 use Rattle.brain_session.specs.ChosenMoves.{Choice, chosen, chosen_anew, by_followed, first_node}
 use Rattle.brain_session.specs.Steps.{Step, step_by, with_choice, brain_step}
 use Rattle.brain_session.specs.Sessions.{state_after}
-use Rattle.brain_session.specs.HeldGames.{BeginsHeldGame, IsLedTo, HeldGameGoesWell, HeldGamesGoWell, SessionsGoWell, IsTight}
-use Rattle.brain_session.specs.HeldGames.{StartsAreTight, replies, answers_to_replies, game_answers, IsWonWithin}
+use Rattle.brain_session.specs.HeldGames.{BeginsHeldGame, IsLedTo, HeldGameGoesWell, HeldGamesGoWell, HeldGamesAreLed}
+use Rattle.brain_session.specs.HeldGames.{SessionsGoWell, IsTight, StartsAreTight, replies, answers_to_replies, game_answers, IsWonWithin}
 use Rattle.brain_session.specs.Running.{GoesOnAlong}
 use Rattle.brain_session.proofs.HeldNodes.{first-led, root-accepted, root-no_deeper}
 use Rattle.brain_session.proofs.HeldSteps.{GoesBy, by_node, StandsIn, held-go_well}
@@ -76,7 +76,6 @@ stands_where s c g i held lawful b =
 held_game : (s : State) (c : Command) (later : List Command) (g : Game) (i : ℕ) → IsHeld s.held → LawfulState s → BeginsHeldGame s c g i
     → HeldGameGoesWell s c later g i
 held_game s c later g i held lawful b =
-    let to_move : IsToMove g = subst (LawfulRow s.held) b.chooses (row-lawful s c lawful) in
     let at = stands_where s c g i held lawful b in
     let n = at.1 in
     let step = begins s c g i n b at.3.node in
@@ -93,13 +92,19 @@ held_game s c later g i held lawful b =
           (replies st.next later)) (sym step) goes.answers;
       won = subst (λ (st : Step). IsWonWithin (depth s.held.table i) (length (replies st.next later))
           (game g.rule s.held.table i (board_of g) (replies st.next later))) (sym step) goes.won;
-      root = (held_led s.held g i held b.leads to_move.along).1;
     }
 
 pub held-games-go_well : HeldGamesGoWell
 held-games-go_well held is_held before c later g i b =
     let kept = session-lawful held (new_brain held) before (new-lawful held) in
     held_game (state_after (new_brain held) before) c later g i (subst IsHeld (sym kept.1) is_held) kept.0 b
+
+pub held-games-led : HeldGamesAreLed
+held-games-led held is_held before c g i b =
+    let s = state_after (new_brain held) before in
+    let kept = session-lawful held (new_brain held) before (new-lawful held) in
+    let to_move : IsToMove g = subst (LawfulRow s.held) b.chooses (row-lawful s c kept.0) in
+    (held_led s.held g i (subst IsHeld (sym kept.1) is_held) b.leads to_move.along).1
 
 pub sessions-go_well : SessionsGoWell
 sessions-go_well held is_held bytes before c later g i e b = held-games-go_well held is_held before c later g i b

@@ -108,13 +108,6 @@ IsWonWithin d given NoMove = ⊥
 IsWonWithin d given Open = given < d
 IsWonWithin d given IllegalReply = ⊥
 
--- a held root leads to the node in the game, and the node is no deeper than the root
-pub record IsLedTo (h : HeldTable) (g : Game) (i : ℕ) : Type 0 where
-  pub root : HeldRoot
-  pub held : Contains h.roots root
-  pub leads : root_node g root ≡ Some i
-  pub no_deeper : depth h.table i ≤ root_depth h.table root.root
-
 -- How a held game goes that the command c begins at the state s, where these commands come later: the brain's answers are the
 -- attacks of the table against the replies, one for one, and the game is won within the depth of the node, or still open.
 pub record HeldGameGoesWell (s : State) (c : Command) (later : List Command) (g : Game) (i : ℕ) : Type 0 where
@@ -124,7 +117,6 @@ pub record HeldGameGoesWell (s : State) (c : Command) (later : List Command) (g 
       ≡ game_answers g.rule s.held.table i (board_of g) (replies (brain_step s c).next later)
   pub won : IsWonWithin (depth s.held.table i) (length (replies (brain_step s c).next later))
       (game g.rule s.held.table i (board_of g) (replies (brain_step s c).next later))
-  pub root : IsLedTo s.held g i
 
 -- Each held game goes well: whatever a brain that holds accepted roots was told before, and whatever it is told later.
 abbrev pub HeldGamesGoWell : Type 0
@@ -132,6 +124,20 @@ HeldGamesGoWell =
     (held : HeldTable) → IsHeld held → (before : List Command) (c : Command) (later : List Command) (g : Game) (i : ℕ)
     → BeginsHeldGame (state_after (new_brain held) before) c g i
     → HeldGameGoesWell (state_after (new_brain held) before) c later g i
+
+-- a held root leads to the node in the game, and the node is no deeper than the root
+pub record IsLedTo (h : HeldTable) (g : Game) (i : ℕ) : Type 0 where
+  pub root : HeldRoot
+  pub held : Contains h.roots root
+  pub leads : root_node g root ≡ Some i
+  pub no_deeper : depth h.table i ≤ root_depth h.table root.root
+
+-- the node that is followed in each held game is one to which a held root leads
+abbrev pub HeldGamesAreLed : Type 0
+HeldGamesAreLed =
+    (held : HeldTable) → IsHeld held → (before : List Command) (c : Command) (g : Game) (i : ℕ)
+    → BeginsHeldGame (state_after (new_brain held) before) c g i
+    → IsLedTo (state_after (new_brain held) before).held g i
 
 -- Each held game of a session over these bytes goes well, by whichever of its lines it begins.
 abbrev pub SessionGoesWell : HeldTable → List ℕ → Type 0

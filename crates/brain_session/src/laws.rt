@@ -3,16 +3,18 @@
 //! They say what a reader of the headline asks: whoever holds an accepted table wins by it against all legal replies, within the
 //! moves that the table has. Their proofs go by the moves that are left.
 
-ghost use Rattle.brain_session.specs.HeldGames.{HeldGamesGoWell, LegalRepliesAreAnswered, SessionsGoWell, StartsAreTight, WhoeverHoldsWins};
+ghost use Rattle.brain_session.specs.HeldGames.{HeldGamesAreLed, HeldGamesGoWell, LegalRepliesAreAnswered, SessionsGoWell};
+ghost use Rattle.brain_session.specs.HeldGames.{StartsAreTight, WhoeverHoldsWins};
 ghost use Rattle.brain_session.specs.OwnGames.{OwnGamesGoWell};
 ghost use Rattle.brain_session.specs.RootGames.{RootsBeginGames};
 ghost use Rattle.brain_session.specs.TurnLines.{RepliesAreAnsweredInBytes, TurnLinesAreRead};
 
 /// Whatever a brain that holds accepted roots was told before, and whatever it is told later: where it begins to follow a
 /// held root, its answers are the attacks of the table against the replies, one for one, and the game is won within the
-/// depth of the node, or the replies have run out.
+/// depth of the node, or the replies have run out. A held root leads to that node, which is no deeper than the root.
 pub fn held_games_go_well()
     ensures go_well { HeldGamesGoWell }
+    ensures led { HeldGamesAreLed }
 {}
 
 /// The same of each line of a session over any bytes.

@@ -43,7 +43,7 @@ use Rattle.brain_session.specs.Steps.{brain_step}
 use Rattle.brain_session.specs.Sessions.{then_answers, answers_from}
 use Rattle.brain_session.proofs.SessionLaws.{answers-append}
 use Rattle.brain_session.proofs.LawfulStates.{session-lawful, new-lawful}
-use Rattle.brain_session.proofs.HeldGames.{held-games-go_well, starts-are_tight}
+use Rattle.brain_session.proofs.HeldGames.{held-games-go_well, held-games-led, starts-are_tight}
 use Rattle.brain_session.proofs.OwnGames.{own-games-go_well}
 use Rattle.brain_session.proofs.RootGames.{roots-begin_games}
 use Rattle.brain_session.proofs.TurnLines.{replies-in_bytes}
@@ -109,7 +109,7 @@ module _ (t : List Node) (named : List NamedRoot) (due : All (IsDueRoot t) named
   games_go_well asked before c later g i e begins =
       let kept = session-lawful held (new_brain held) before (new-lawful held) in
       let goes = held-games-go_well held few before c later g i begins in
-      let led : IsLedTo held g i = subst (λ (h : HeldTable). IsLedTo h g i) kept.1 goes.root in
+      let led : IsLedTo held g i = subst (λ (h : HeldTable). IsLedTo h g i) kept.1 (held-games-led held few before c g i begins) in
       let name = named_of named led.root led.held in
       let deep = led.no_deeper in
       let is_due = All-named name.0 name.1 in
