@@ -15,11 +15,9 @@ use Rattle.threat_moves.specs.declared.block.BlockAnswer.TheVariants.{Lost, Won,
 use Rattle.threat_moves.proofs.Common.{fate, is_four_move, block_wins}
 use Rattle.threat_moves.proofs.BlockLaw.{block_decides}
 use Rattle.threat_moves.proofs.Fates.{lawful-one}
-use Rattle.strategy_compiler.specs.declared.wins.WrittenWin.{WrittenWin}
 use Rattle.four_search.specs.declared.search.Found.TheVariants.{NoWin}
-use Rattle.four_search.specs.declared.answer.FourAnswer.{FourAnswer}
-use Rattle.four_search.specs.declared.answer.FourAnswer.TheVariants.{None, Spent}
-use Rattle.four_search.specs.Answers.{OnWin}
+use Rattle.four_search.specs.declared.answer.Sought.{Sought}
+use Rattle.four_search.specs.declared.answer.Sought.TheVariants.{None, Spent}
 use Rattle.four_search.specs.FourGame.{until, if_one, four_tree, four_cost}
 use Rattle.four_search.specs.Searching.{positions_behind, found_at}
 use Rattle.four_search.proofs.Trying.{no_four, wins-is, tree-is, tree-some}
@@ -297,16 +295,7 @@ module _ (rule : RuleKind) (b : Grid) (depth budget left d : ℕ) (l : d < depth
     short-alike h = le_false _ _ (short_back _ _ _ _ alike-cost h)
 
 -- an answer that is none or spent by a test
-module _ (a : FourAnswer) (t : Bool) (e : a ≡ cond t None Spent) where
-  by_test : (P : FourAnswer → Type 0) → P None → P Spent → P a
-  by_test P none spent = subst P (sym e) (by t) where
-    by : (r : Bool) → P (cond r None Spent)
-    by true = none
-    by false = spent
-
-  pub unwon : (P : WrittenWin → Type 0) → OnWin a P
-  unwon P = by_test (λ x. OnWin x P) tt tt
-
+module _ (a : Sought) (t : Bool) (e : a ≡ cond t None Spent) where
   pub none-passes : (a ≡ None) → t ≡ true
   none-passes h = by t refl where
     by : (r : Bool) → t ≡ r → r ≡ true

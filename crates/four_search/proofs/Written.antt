@@ -40,7 +40,7 @@ use Rattle.threat_moves.specs.declared.block.BlockAnswer.TheVariants.{Won, One}
 use Rattle.threat_moves.proofs.BlockLaw.{block_decides, others_leave_five}
 use Rattle.threat_moves.proofs.FourLaws.{one-goes_on}
 use Rattle.threat_moves.proofs.Common.{is_four_move, fate, block_wins, LeavesFive}
-use Rattle.four_search.specs.Answers.{IsFourWin}
+use Rattle.four_search.specs.Answers.{IsFourWin, IsSought}
 use Rattle.four_search.specs.Plans.{branches_for, four_plan, plan_from}
 use Rattle.four_search.specs.FourGame.{least_moves}
 use Rattle.four_search.proofs.Trying.{move-is, wins-is}
@@ -361,6 +361,24 @@ four-win rule b limit d l none lawful wins t table i within stands =
       by_order : (d < depth t i) ⊎ (depth t i ≤ d) → depth t i ≤ d + 1 → wins_by_fours rule (depth t i) b ≡ true → depth t i ≡ d + 1
       by_order (inl more) high won = omega arith
       by_order (inr less) high won = absurd (lost (depth t i) less won)
+
+-- the same of what the depths come to
+pub sought-win : (rule : RuleKind) (b : Grid) (limit budget moves : ℕ) (line : List Point) → IsSought rule limit budget b moves line
+    → IsPosition rule b → (t : List Node) → IsTable t → (i : ℕ) → i < length t → StandsFor t i (four_plan rule moves b)
+    → IsFourWin rule limit b t (record { node = i; moves = moves })
+sought-win rule b limit budget zero line is lawful t table i within stands = absurd (let some = is.some in omega (arith, some))
+sought-win rule b limit budget (suc d) line is lawful t table i within stands =
+    let same : suc d ≡ d + 1 = omega arith in
+    let low = is.within in
+    subst (λ (m : ℕ). IsFourWin rule limit b t (record { node = i; moves = m })) (sym same)
+    (four-win rule b limit d (omega (arith, low)) (λ k some less. is.no_fewer k some (omega (arith, less))) lawful
+    (ap (λ m. wins_by_fours rule m b) (sym same) ∙ is.wins) t table i within
+    (subst (λ (m : ℕ). StandsFor t i (four_plan rule m b)) same stands))
+
+-- and then there is a win within the limit
+pub sought-limit : (rule : RuleKind) (b : Grid) (limit budget moves : ℕ) (line : List Point) → IsSought rule limit budget b moves line
+    → wins_by_fours rule limit b ≡ true
+sought-limit rule b limit budget moves line is = wins-more rule moves limit b is.within is.wins
 
 -- ---- the chosen move
 

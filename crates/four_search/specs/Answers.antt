@@ -1,8 +1,9 @@
 -- What the answers of the four search say.
-use Rattle.std.specs.Prelude.{◌≡◌, ℕ, ◌*◌, ◌<◌, ◌≤◌, List, Some}
+use Rattle.std.specs.Prelude.{◌≡◌, ℕ, ◌*◌, ◌<◌, ◌≤◌, List, Some, true, false}
 use Rattle.game_rules.specs.Grid.{Grid}
-use Rattle.game_rules.specs.Games.{WinsByFours}
+use Rattle.game_rules.specs.Games.{WinsByFours, wins_by_fours}
 use Rattle.game_rules.specs.declared.RuleKind.{RuleKind}
+use Rattle.game_rules.specs.declared.Point.{Point}
 use Rattle.strategy_graph.specs.declared.Node.{Node}
 use Rattle.strategy_graph.specs.Arrivals.{arrivals}
 use Rattle.strategy_compiler.specs.Trees.{StandsFor}
@@ -10,7 +11,10 @@ use Rattle.strategy_compiler.specs.declared.wins.WrittenWin.{WrittenWin}
 use Rattle.strategy_compiler.specs.Wins.{IsWrittenWin}
 use Rattle.four_search.specs.declared.answer.FourAnswer.{FourAnswer}
 use Rattle.four_search.specs.declared.answer.FourAnswer.TheVariants.{Win, None, Spent}
-use Rattle.four_search.specs.FourGame.{least_moves}
+use Rattle.four_search.specs.declared.answer.Sought.{Sought}
+use Rattle.four_search.specs.declared.answer.Sought.TheVariants.{Win as SoughtWin, None as SoughtNone, Spent as SoughtSpent}
+use Rattle.four_search.specs.FourGame.{four_cost, least_moves}
+use Rattle.four_search.specs.Searching.{four_line}
 use Rattle.four_search.specs.Plans.{four_plan}
 
 -- P holds of the win, if the answer is one
@@ -32,6 +36,22 @@ pub record IsFourWin (rule : RuleKind) (limit : ℕ) (b : Grid) (t : List Node) 
   pub least : least_moves rule limit b ≡ Some win.moves
   pub stands : StandsFor t win.node (four_plan rule win.moves b)
   pub short : arrivals rule t win.node b ≤ b.width * b.height * win.moves
+
+-- P holds of the moves and the line, if they are a win
+abbrev pub OnSought : Sought → (ℕ → List Point → Type 0) → Type 0
+OnSought (SoughtWin moves line) P = P moves line
+OnSought SoughtNone P = Unit {0}
+OnSought SoughtSpent P = Unit {0}
+
+-- Within so many moves, up to the limit, and none fewer the side to move wins by continuous fours, and this is the line of the win; and
+-- the budget suffices.
+pub record IsSought (rule : RuleKind) (limit budget : ℕ) (b : Grid) (moves : ℕ) (line : List Point) : Type 0 where
+  pub some : 1 ≤ moves
+  pub within : moves ≤ limit
+  pub wins : wins_by_fours rule moves b ≡ true
+  pub no_fewer : (k : ℕ) → 1 ≤ k → k < moves → wins_by_fours rule k b ≡ false
+  pub tells : line ≡ four_line rule moves b
+  pub fits : four_cost rule limit b ≤ budget
 
 -- the most nodes that the search adds with this answer: two for each move of a win, and else none
 abbrev pub most_added : FourAnswer → ℕ

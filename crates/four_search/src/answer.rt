@@ -5,13 +5,14 @@
 //! the greater ones look at the same, so they are counted and not searched.
 #![tactic(auto)]
 
-ghost use Rattle.std.specs.Prelude.{◌≡◌, ◌↔◌, ◌<◌, ◌≤◌, ◌+◌, ◌*◌, true, false, length, nat_le, if◌then◌else◌, IfOk, OnErr, IsErrOf};
+ghost use Rattle.std.specs.Prelude.{◌≡◌, ◌↔◌, ◌<◌, ◌≤◌, ◌+◌, ◌*◌, true, false, length, nat_le, if◌then◌else◌, IfOk, IsTrue, OnErr, IsErrOf};
+ghost use Rattle.game_rules.specs.Play.{IsPosition};
 ghost use Rattle.game_rules.specs.Games.{WinsByFours, wins_by_fours};
 ghost use Rattle.strategy_graph.specs.declared.TheConstants.{MAX_NODES};
 ghost use Rattle.four_search.specs.declared.TheConstants.{MAX_DEPTH};
 ghost use Rattle.four_search.specs.FourGame.{four_cost};
 ghost use Rattle.strategy_compiler.specs.Growth.{GrowsBy};
-ghost use Rattle.four_search.specs.Answers.{OnWin, IsFourWin, most_added};
+ghost use Rattle.four_search.specs.Answers.{OnWin, IsFourWin, OnSought, IsSought, most_added};
 
 use crate::SearchError;
 use crate::memory::FourMemory;
@@ -20,7 +21,8 @@ use crate::root::look;
 use crate::search::{Found, search};
 use foul_judge::Seen;
 use row_shapes::Rule;
-use std::alloc::Global;
+use std::alloc::{AllocError, Global};
+use stone_board::Points;
 use strategy_compiler::{Compiler, WrittenWin};
 
 /// What the search for wins by fours finds.
@@ -108,19 +110,81 @@ pub fn four_search_with<R: Rule, V: Seen<R>>(
     ensures full_now { IsErrOf result SearchError.Full → length compiler.new ≡ MAX_NODES }
     ensures same { V.position view.new ≡ V.position view.old }
 {
+    match seek::<R, V>(alloc, view, depth, budget, memory) {
+        Err(_) => Err(SearchError::Memory),
+        Ok(Sought::None) => Ok(FourAnswer::None),
+        Ok(Sought::Spent) => Ok(FourAnswer::Spent),
+        Ok(Sought::Win { moves, line }) => {
+            let node = compile::<R, V>(alloc, view, moves, line.as_slice(), compiler)?;
+            Ok(FourAnswer::Win(WrittenWin { node, moves }))
+        }
+    }
+}
+
+/// Whether the search finds a win: there is one within `depth` moves, and the budget suffices. It is not compiled, so that no reply
+/// but the blocks is looked at. The view is as before, also where memory ran out, which `Err` says.
+pub fn finds_fours<R: Rule, V: Seen<R>>(
+    alloc: Global,
+    view: &mut V,
+    depth: u32,
+    budget: u64,
+) -> Result<bool, AllocError>
+    requires some_depth { 1 ≤ depth }
+    requires depth_fits { depth ≤ MAX_DEPTH }
+    requires some_budget { 1 ≤ budget }
+    ensures found { IfOk result (λ found. IsTrue found
+        ↔ ((wins_by_fours R.KIND depth (V.position view.old) ≡ true) × (four_cost R.KIND depth (V.position view.old) ≤ budget))) }
+    ensures same { V.position view.new ≡ V.position view.old }
+{
+    let mut memory = FourMemory::new(alloc);
+    match seek::<R, V>(alloc, view, depth, budget, &mut memory)? {
+        Sought::Win { moves: _, line: _ } => Ok(true),
+        Sought::None | Sought::Spent => Ok(false),
+    }
+}
+
+/// What the depths come to.
+#[derive(Drop)]
+enum Sought {
+    /// A win within so many moves and none with fewer, by this line.
+    Win { moves: u32, line: Points },
+    /// There is no win within the depth.
+    None,
+    /// There are more positions to look at than the budget.
+    Spent,
+}
+
+/// Searches depth after depth, up to the first win. The view is as before, also where memory ran out.
+fn seek<R: Rule, V: Seen<R>>(
+    alloc: Global,
+    view: &mut V,
+    depth: u32,
+    budget: u64,
+    memory: &mut FourMemory<R>,
+) -> Result<Sought, AllocError>
+    requires some_depth { 1 ≤ depth }
+    requires depth_fits { depth ≤ MAX_DEPTH }
+    requires some_budget { 1 ≤ budget }
+    ensures win { IfOk result (λ s. OnSought s (IsSought R.KIND depth budget (V.position view.old))) }
+    ensures none { IfOk result (λ s. (s ≡ Sought.None)
+        ↔ ((wins_by_fours R.KIND depth (V.position view.old) ≡ false) × (four_cost R.KIND depth (V.position view.old) ≤ budget))) }
+    ensures no_win { IfOk result
+        (λ s. s ≡ Sought.None → ¬ WinsByFours R.KIND depth (V.position view.old)) }
+    ensures spent { IfOk result
+        (λ s. (s ≡ Sought.Spent) ↔ (budget < four_cost R.KIND depth (V.position view.old))) }
+    ensures lawful { IsPosition R.KIND (V.position view.old) }
+    ensures same { V.position view.new ≡ V.position view.old }
+{
     // This tells that the position is lawful.
     view.side();
-    let Ok(root) = look::<R, V>(alloc, view) else {
-        return Err(SearchError::Memory);
-    };
+    let root = look::<R, V>(alloc, view)?;
     let mut left = budget;
     let mut before = 0;
     for done in 0..depth {
         let moves = done + 1;
-        match search::<R, V>(alloc, view, &root, moves, left, memory) {
-            Err(_) => return Err(SearchError::Memory),
-            Ok(Found::Spent) => return Ok(FourAnswer::Spent),
-            Ok(Found::NoWin { left: rest }) => {
+        match search::<R, V>(alloc, view, &root, moves, left, memory)? {
+            Found::Spent => return Ok(Sought::Spent),
+            Found::NoWin { left: rest } => {
                 let looked = left - rest;
                 if looked == before {
                     return Ok(all_alike(looked, depth - moves, rest));
@@ -128,23 +192,20 @@ pub fn four_search_with<R: Rule, V: Seen<R>>(
                 before = looked;
                 left = rest;
             }
-            Ok(Found::Win { left: _, line }) => {
-                let node = compile::<R, V>(alloc, view, moves, line.as_slice(), compiler)?;
-                return Ok(FourAnswer::Win(WrittenWin { node, moves }));
-            }
+            Found::Win { left: _, line } => return Ok(Sought::Win { moves, line }),
         }
     }
-    Ok(FourAnswer::None)
+    Ok(Sought::None)
 }
 
 /// The answer where each of the depths that are left looks at so many positions, and none has a win.
-fn all_alike(looked: u64, depths: u32, left: u64) -> FourAnswer
+fn all_alike(looked: u64, depths: u32, left: u64) -> Sought
     requires some { 0 < looked }
-    ensures answer { result ≡ (if nat_le (depths * looked) left then FourAnswer.None else FourAnswer.Spent) }
+    ensures answer { result ≡ (if nat_le (depths * looked) left then Sought.None else Sought.Spent) }
 {
     if u64::from(depths) <= left / looked {
-        FourAnswer::None
+        Sought::None
     } else {
-        FourAnswer::Spent
+        Sought::Spent
     }
 }

@@ -15,7 +15,7 @@ mod search;
 #[cfg(test)]
 mod tests;
 
-pub use answer::{FourAnswer, four_search, four_search_with};
+pub use answer::{FourAnswer, finds_fours, four_search, four_search_with};
 pub use memory::FourMemory;
 pub use strategy_compiler::SearchError;
 

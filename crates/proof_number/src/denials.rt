@@ -9,10 +9,9 @@ ghost use Rattle.std.specs.Prelude.{◌≡◌, ℕ, IfOk, IsTrue};
 ghost use Rattle.threat_game.specs.ThreatGame.{LosesToThreats};
 
 use foul_judge::Seen;
-use four_search::{FourAnswer, four_search};
+use four_search::finds_fours;
 use row_shapes::Rule;
 use std::alloc::{AllocError, Global};
-use strategy_compiler::{Compiler, SearchError};
 
 /// So many positions are looked at for the defender's fours.
 const FOUR_POSITIONS: u64 = 50;
@@ -33,12 +32,5 @@ pub(crate) fn is_denied<R: Rule, V: Seen<R>>(
     if view.has_five(attacker) {
         return Ok(false);
     }
-    // The win is for no table, so its nodes go with this compiler.
-    let mut compiler = Compiler::new(alloc);
-    match four_search::<R, V>(alloc, view, FOUR_MOVES, FOUR_POSITIONS, &mut compiler) {
-        Ok(FourAnswer::Win(_)) => Ok(true),
-        Ok(FourAnswer::None) | Ok(FourAnswer::Spent) => Ok(false),
-        Err(SearchError::Full) => unreachable!(),
-        Err(SearchError::Memory) => Err(AllocError),
-    }
+    finds_fours::<R, V>(alloc, view, FOUR_MOVES, FOUR_POSITIONS)
 }

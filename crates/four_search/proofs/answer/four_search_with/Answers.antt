@@ -1,65 +1,33 @@
-use Rattle.std.proofs.Common.{rules, ◌≡◌, ◌+◌, ◌-◌, ◌<◌, true, false, ap, sym, subst, ◌∙◌, arith, length, ℕ, refl, ◌*◌, Bool, cond, List}
+use Rattle.std.proofs.Common.{rules, ◌≡◌, ◌*◌, ◌≤◌, ◌<◌, true, false, Bool, cond, ap, sym, subst, ◌∙◌, arith, refl}
 use Rattle.std.proofs.Common.{Result, Ok, Err, OnErr}
-use Rattle.game_rules.proofs.Common.{Grid, IsPosition}
-use Rattle.game_rules.proofs.Games.{no-win}
-use Rattle.four_search.specs.declared.search.Found.TheVariants.{Win, NoWin, Spent}
-use Rattle.four_search.specs.Searching.{found_at}
-use Rattle.strategy_graph.specs.declared.Node.{Node}
+use Rattle.game_rules.proofs.Common.{Grid, wins_by_fours}
 use Rattle.strategy_compiler.proofs.Common.{GrowsBy, StandsFor}
 use Rattle.strategy_compiler.proofs.Growing.{grows-more}
+use Rattle.four_search.specs.Answers.{IsSought, OnSought}
 use Rattle.four_search.specs.Plans.{four_plan}
-use Rattle.four_search.proofs.Deepening.{win-here, win-cost, win-depth, cost-above, none-more, left-more, end-cost, end-none}
-use Rattle.four_search.proofs.Written.{four-win}
-use Rattle.four_search.proofs.Rounds.{looked-is, alike-none, alike-fits, fits-alike, alike-short, short-alike, none-passes, passes-none}
-use Rattle.four_search.proofs.Rounds.{spent-fails, fails-spent}
+use Rattle.four_search.specs.Searching.{four_line}
+use Rattle.four_search.proofs.Written.{sought-win, sought-limit}
 use Rattle.four_search.proofs.answer.four_search_with.Goals as goal
 
-pub search-requires : goal.search-requires
-search-requires g c =
+pub compile-requires : goal.compile-requires
+compile-requires g c =
     let b : Grid = g.V.Seen.position c.args.view.now in
-    let back = sym c.loop-done.invariant.same in
+    let is : IsSought g.R.Rule.KIND c.args.depth c.args.budget b c.in-Ok-Win.moves c.in-Ok-Win.line =
+    subst (λ s. OnSought s (IsSought g.R.Rule.KIND c.args.depth c.args.budget b)) c.in-Ok-Win.field-0-is c.in-Ok-Win.ensures.win in
     record {
-      some = omega arith;
-      lawful = subst (IsPosition g.R.Rule.KIND) back c.side.ensures.lawful;
-      root = rw c.loop-done.invariant.same c.loop-done.invariant.root;
+      wins = ap (λ (w : Grid). wins_by_fours g.R.Rule.KIND c.in-Ok-Win.moves w) c.seek.ensures.same ∙ is.wins;
+      line = c.as_slice.ensures.items ∙ is.tells ∙ ap (λ (w : Grid). four_line g.R.Rule.KIND c.in-Ok-Win.moves w) (sym c.seek.ensures.same);
     }
-
-pub returns-in-Ok-Spent-clause-none : goal.returns-in-Ok-Spent-clause-none
-returns-in-Ok-Spent-clause-none g c =
-    let b : Grid = g.V.Seen.position c.args.view.now in
-    let d : ℕ = c.loop-done.done in
-    let found : Spent ≡ found_at g.R.Rule.KIND (d + 1) b c.loop-done.left =
-    sym c.in-Ok-Spent.field-0-is ∙ c.in-Ok-Spent.ensures.found
-    ∙ ap (λ (w : Grid). found_at g.R.Rule.KIND (d + 1) w c.loop-done.left) c.loop-done.invariant.same in
-    let above = cost-above g.R.Rule.KIND b c.args.depth c.args.budget c.loop-done.left d c.loop-done-test.true c.loop-done.invariant.none
-    c.loop-done.invariant.spent found in
-    (λ e. absurd (cc), λ h. absurd (let low = h.1 in omega (arith, above, low)))
-
-pub returns-in-Ok-Spent-clause-spent : goal.returns-in-Ok-Spent-clause-spent
-returns-in-Ok-Spent-clause-spent g c =
-    let b : Grid = g.V.Seen.position c.args.view.now in
-    let d : ℕ = c.loop-done.done in
-    let found : Spent ≡ found_at g.R.Rule.KIND (d + 1) b c.loop-done.left =
-    sym c.in-Ok-Spent.field-0-is ∙ c.in-Ok-Spent.ensures.found
-    ∙ ap (λ (w : Grid). found_at g.R.Rule.KIND (d + 1) w c.loop-done.left) c.loop-done.invariant.same in
-    let above = cost-above g.R.Rule.KIND b c.args.depth c.args.budget c.loop-done.left d c.loop-done-test.true c.loop-done.invariant.none
-    c.loop-done.invariant.spent found in
-    (λ e. above, λ h. refl)
 
 pub returns-in_err-node-in-Ok-Win-clause-full : goal.returns-in_err-node-in-Ok-Win-clause-full
 returns-in_err-node-in-Ok-Win-clause-full g c =
     let b : Grid = g.V.Seen.position c.args.view.now in
-    let d : ℕ = c.loop-done.done in
-    let found : Win c.in-Ok-Win.field-0-0 c.in-Ok-Win.line ≡ found_at g.R.Rule.KIND (d + 1) b c.loop-done.left =
-    sym c.in-Ok-Win.field-0-is ∙ c.in-Ok-Win.ensures.found
-    ∙ ap (λ (w : Grid). found_at g.R.Rule.KIND (d + 1) w c.loop-done.left) c.loop-done.invariant.same in
-    let wins = win-depth g.R.Rule.KIND b c.args.depth c.args.budget c.loop-done.left d c.loop-done-test.true c.loop-done.invariant.none
-    c.loop-done.invariant.spent c.in-Ok-Win.field-0-0 c.in-Ok-Win.line found in
-    let fits = win-cost g.R.Rule.KIND b c.args.depth c.args.budget c.loop-done.left d c.loop-done-test.true c.loop-done.invariant.none
-    c.loop-done.invariant.spent c.in-Ok-Win.field-0-0 c.in-Ok-Win.line found in
-    let within = c.loop-done-test.true in
+    let is : IsSought g.R.Rule.KIND c.args.depth c.args.budget b c.in-Ok-Win.moves c.in-Ok-Win.line =
+    subst (λ s. OnSought s (IsSought g.R.Rule.KIND c.args.depth c.args.budget b)) c.in-Ok-Win.field-0-is c.in-Ok-Win.ensures.win in
+    let wins = sought-limit g.R.Rule.KIND b c.args.depth c.args.budget c.in-Ok-Win.moves c.in-Ok-Win.line is in
+    let fits = is.fits in
+    let within = is.within in
     let many = c.in_err-node-in-Ok-Win.ensures.writes.full in
-    let nodes : length c.loop-done.compiler ≡ length c.args.compiler.now = ap length c.loop-done.invariant.nodes in
     search rules
 
 any-err : {A E P : Type 0} (r : Result A E) → P → OnErr r P
@@ -69,163 +37,59 @@ any-err (Err e) p = p
 pub returns-in_err-node-in-Ok-Win-clause-kept : goal.returns-in_err-node-in-Ok-Win-clause-kept
 returns-in_err-node-in-Ok-Win-clause-kept g c =
     let b : Grid = g.V.Seen.position c.args.view.now in
-    let d : ℕ = c.loop-done.done in
-    let found : Win c.in-Ok-Win.field-0-0 c.in-Ok-Win.line ≡ found_at g.R.Rule.KIND (d + 1) b c.loop-done.left =
-    sym c.in-Ok-Win.field-0-is ∙ c.in-Ok-Win.ensures.found
-    ∙ ap (λ (w : Grid). found_at g.R.Rule.KIND (d + 1) w c.loop-done.left) c.loop-done.invariant.same in
-    let wins = win-depth g.R.Rule.KIND b c.args.depth c.args.budget c.loop-done.left d c.loop-done-test.true c.loop-done.invariant.none
-    c.loop-done.invariant.spent c.in-Ok-Win.field-0-0 c.in-Ok-Win.line found in
-    let within = c.loop-done-test.true in
-    let grown = grows-more c.loop-done.compiler c.compile.new.compiler _ (2 * c.args.depth) c.in_err-node-in-Ok-Win.ensures.writes.grows
+    let is : IsSought g.R.Rule.KIND c.args.depth c.args.budget b c.in-Ok-Win.moves c.in-Ok-Win.line =
+    subst (λ s. OnSought s (IsSought g.R.Rule.KIND c.args.depth c.args.budget b)) c.in-Ok-Win.field-0-is c.in-Ok-Win.ensures.win in
+    let wins = sought-limit g.R.Rule.KIND b c.args.depth c.args.budget c.in-Ok-Win.moves c.in-Ok-Win.line is in
+    let within = is.within in
+    let grown = grows-more c.args.compiler.now c.compile.new.compiler _ (2 * c.args.depth) c.in_err-node-in-Ok-Win.ensures.writes.grows
     (omega (arith, within)) in
     any-err c.from_residual.result
-    (subst (λ (r : Bool). GrowsBy c.args.compiler.now c.compile.new.compiler (cond r (2 * c.args.depth) 0)) (sym wins)
-    (subst (λ (t : List Node). GrowsBy t c.compile.new.compiler (2 * c.args.depth)) c.loop-done.invariant.nodes grown))
+    (subst (λ (r : Bool). GrowsBy c.args.compiler.now c.compile.new.compiler (cond r (2 * c.args.depth) 0)) (sym wins) grown)
 
-pub returns-in-Ok-Win-clause-win : goal.returns-in-Ok-Win-clause-win
-returns-in-Ok-Win-clause-win g c =
+pub returns-in_ok-node-in-Ok-Win-clause-win : goal.returns-in_ok-node-in-Ok-Win-clause-win
+returns-in_ok-node-in-Ok-Win-clause-win g c =
     let b : Grid = g.V.Seen.position c.args.view.now in
-    let d : ℕ = c.loop-done.done in
-    let found : Win c.in-Ok-Win.field-0-0 c.in-Ok-Win.line ≡ found_at g.R.Rule.KIND (d + 1) b c.loop-done.left =
-    sym c.in-Ok-Win.field-0-is ∙ c.in-Ok-Win.ensures.found
-    ∙ ap (λ (w : Grid). found_at g.R.Rule.KIND (d + 1) w c.loop-done.left) c.loop-done.invariant.same in
-    let lawful : IsPosition g.R.Rule.KIND b = c.side.ensures.lawful in
-    let stands : StandsFor c.compile.new.compiler c.in_ok-node-in-Ok-Win.node (four_plan g.R.Rule.KIND (d + 1) b) =
-    subst (λ (w : Grid). StandsFor c.compile.new.compiler c.in_ok-node-in-Ok-Win.node (four_plan g.R.Rule.KIND (d + 1) w))
-    (c.search.ensures.same ∙ c.loop-done.invariant.same) c.in_ok-node-in-Ok-Win.ensures.stands in
-    four-win g.R.Rule.KIND b c.args.depth d c.loop-done-test.true c.loop-done.invariant.none lawful
-    (win-here g.R.Rule.KIND b c.args.depth c.args.budget c.loop-done.left d c.loop-done-test.true c.loop-done.invariant.none
-    c.loop-done.invariant.spent c.in-Ok-Win.field-0-0 c.in-Ok-Win.line found) c.compile.new.compiler
-    c.in_ok-node-in-Ok-Win.ensures.writes.compiled.table c.in_ok-node-in-Ok-Win.node c.in_ok-node-in-Ok-Win.ensures.in_compiler stands
+    let is : IsSought g.R.Rule.KIND c.args.depth c.args.budget b c.in-Ok-Win.moves c.in-Ok-Win.line =
+    subst (λ s. OnSought s (IsSought g.R.Rule.KIND c.args.depth c.args.budget b)) c.in-Ok-Win.field-0-is c.in-Ok-Win.ensures.win in
+    let stands : StandsFor c.compile.new.compiler c.in_ok-node-in-Ok-Win.node (four_plan g.R.Rule.KIND c.in-Ok-Win.moves b) =
+    subst (λ (w : Grid). StandsFor c.compile.new.compiler c.in_ok-node-in-Ok-Win.node (four_plan g.R.Rule.KIND c.in-Ok-Win.moves w))
+    c.seek.ensures.same c.in_ok-node-in-Ok-Win.ensures.stands in
+    sought-win g.R.Rule.KIND b c.args.depth c.args.budget c.in-Ok-Win.moves c.in-Ok-Win.line is c.in-Ok-Win.ensures.lawful
+    c.compile.new.compiler c.in_ok-node-in-Ok-Win.ensures.writes.compiled.table c.in_ok-node-in-Ok-Win.node
+    c.in_ok-node-in-Ok-Win.ensures.in_compiler stands
 
-pub returns-in-Ok-Win-clause-none : goal.returns-in-Ok-Win-clause-none
-returns-in-Ok-Win-clause-none g c =
+pub returns-in_ok-node-in-Ok-Win-clause-none : goal.returns-in_ok-node-in-Ok-Win-clause-none
+returns-in_ok-node-in-Ok-Win-clause-none g c =
     let b : Grid = g.V.Seen.position c.args.view.now in
-    let d : ℕ = c.loop-done.done in
-    let found : Win c.in-Ok-Win.field-0-0 c.in-Ok-Win.line ≡ found_at g.R.Rule.KIND (d + 1) b c.loop-done.left =
-    sym c.in-Ok-Win.field-0-is ∙ c.in-Ok-Win.ensures.found
-    ∙ ap (λ (w : Grid). found_at g.R.Rule.KIND (d + 1) w c.loop-done.left) c.loop-done.invariant.same in
-    let wins = win-depth g.R.Rule.KIND b c.args.depth c.args.budget c.loop-done.left d c.loop-done-test.true c.loop-done.invariant.none
-    c.loop-done.invariant.spent c.in-Ok-Win.field-0-0 c.in-Ok-Win.line found in
+    let is : IsSought g.R.Rule.KIND c.args.depth c.args.budget b c.in-Ok-Win.moves c.in-Ok-Win.line =
+    subst (λ s. OnSought s (IsSought g.R.Rule.KIND c.args.depth c.args.budget b)) c.in-Ok-Win.field-0-is c.in-Ok-Win.ensures.win in
+    let wins = sought-limit g.R.Rule.KIND b c.args.depth c.args.budget c.in-Ok-Win.moves c.in-Ok-Win.line is in
     (λ e. absurd (cc), λ h. absurd (let lost : true ≡ false = sym wins ∙ h.0 in cc))
 
-pub returns-in-Ok-Win-clause-spent : goal.returns-in-Ok-Win-clause-spent
-returns-in-Ok-Win-clause-spent g c =
+pub returns-in_ok-node-in-Ok-Win-clause-spent : goal.returns-in_ok-node-in-Ok-Win-clause-spent
+returns-in_ok-node-in-Ok-Win-clause-spent g c =
     let b : Grid = g.V.Seen.position c.args.view.now in
-    let d : ℕ = c.loop-done.done in
-    let found : Win c.in-Ok-Win.field-0-0 c.in-Ok-Win.line ≡ found_at g.R.Rule.KIND (d + 1) b c.loop-done.left =
-    sym c.in-Ok-Win.field-0-is ∙ c.in-Ok-Win.ensures.found
-    ∙ ap (λ (w : Grid). found_at g.R.Rule.KIND (d + 1) w c.loop-done.left) c.loop-done.invariant.same in
-    let fits = win-cost g.R.Rule.KIND b c.args.depth c.args.budget c.loop-done.left d c.loop-done-test.true c.loop-done.invariant.none
-    c.loop-done.invariant.spent c.in-Ok-Win.field-0-0 c.in-Ok-Win.line found in
+    let is : IsSought g.R.Rule.KIND c.args.depth c.args.budget b c.in-Ok-Win.moves c.in-Ok-Win.line =
+    subst (λ s. OnSought s (IsSought g.R.Rule.KIND c.args.depth c.args.budget b)) c.in-Ok-Win.field-0-is c.in-Ok-Win.ensures.win in
+    let fits = is.fits in
     (λ e. absurd (cc), λ h. absurd (omega (arith, fits, h)))
 
-pub loop-done-preserved : goal.loop-done-preserved
-loop-done-preserved g c =
-    let b : Grid = g.V.Seen.position c.args.view.now in
-    let d : ℕ = c.loop-done.done in
-    let found : NoWin c.in-Ok-NoWin.rest ≡ found_at g.R.Rule.KIND (d + 1) b c.loop-done.left =
-    sym c.in-Ok-NoWin.field-0-is ∙ c.in-Ok-NoWin.ensures.found
-    ∙ ap (λ (w : Grid). found_at g.R.Rule.KIND (d + 1) w c.loop-done.left) c.loop-done.invariant.same in
-    record {
-      same = c.search.ensures.same ∙ c.loop-done.invariant.same;
-      root = c.loop-done.invariant.root;
-      nodes = c.loop-done.invariant.nodes;
-      none = none-more g.R.Rule.KIND b c.args.depth c.args.budget c.loop-done.left d c.loop-done-test.true c.loop-done.invariant.none
-          c.loop-done.invariant.spent c.in-Ok-NoWin.rest found;
-      spent = left-more g.R.Rule.KIND b c.args.depth c.args.budget c.loop-done.left d c.loop-done-test.true c.loop-done.invariant.none
-          c.loop-done.invariant.spent c.in-Ok-NoWin.rest found;
-      first = λ e. absurd (omega (arith, e));
-      last = λ some. (looked-is g.R.Rule.KIND b c.args.depth c.args.budget c.loop-done.left d c.loop-done-test.true c.side.ensures.lawful
-          c.loop-done.invariant.none c.loop-done.invariant.spent c.in-Ok-NoWin.rest found).2;
-    }
+pub returns-in-Ok-None-clause-none : goal.returns-in-Ok-None-clause-none
+returns-in-Ok-None-clause-none g c = (λ e. c.in-Ok-None.ensures.none.0 c.in-Ok-None.field-0-is, λ h. refl)
 
-pub returns-clause-none : goal.returns-clause-none
-returns-clause-none g c =
-    let b : Grid = g.V.Seen.position c.args.view.now in
-    let high = c.loop-done.auto.done-end in
-    let end : c.loop-done.done ≡ c.args.depth = let low = c.loop-done-test.false in omega (arith, high, low) in
-    let none = end-none g.R.Rule.KIND b c.args.depth c.args.budget c.loop-done.left c.loop-done.done end c.loop-done.invariant.none
-    c.loop-done.invariant.spent c.requires.some_depth in
-    let fits = end-cost g.R.Rule.KIND b c.args.depth c.args.budget c.loop-done.left c.loop-done.done end c.loop-done.invariant.none
-    c.loop-done.invariant.spent in
-    (λ e. (none, fits), λ h. refl)
+pub returns-in-Ok-None-clause-no_win : goal.returns-in-Ok-None-clause-no_win
+returns-in-Ok-None-clause-no_win g c = λ e. c.in-Ok-None.ensures.no_win c.in-Ok-None.field-0-is
 
-pub returns-clause-spent : goal.returns-clause-spent
-returns-clause-spent g c =
-    let b : Grid = g.V.Seen.position c.args.view.now in
-    let high = c.loop-done.auto.done-end in
-    let end : c.loop-done.done ≡ c.args.depth = let low = c.loop-done-test.false in omega (arith, high, low) in
-    let fits = end-cost g.R.Rule.KIND b c.args.depth c.args.budget c.loop-done.left c.loop-done.done end c.loop-done.invariant.none
-    c.loop-done.invariant.spent in
+pub returns-in-Ok-None-clause-spent : goal.returns-in-Ok-None-clause-spent
+returns-in-Ok-None-clause-spent g c =
+    let none = c.in-Ok-None.ensures.none.0 c.in-Ok-None.field-0-is in
+    let fits = none.1 in
     (λ e. absurd (cc), λ h. absurd (omega (arith, fits, h)))
 
-pub returns-clause-no_win : goal.returns-clause-no_win
-returns-clause-no_win g c =
-    let b : Grid = g.V.Seen.position c.args.view.now in
-    let high = c.loop-done.auto.done-end in
-    let end : c.loop-done.done ≡ c.args.depth = let low = c.loop-done-test.false in omega (arith, high, low) in
-    let none = end-none g.R.Rule.KIND b c.args.depth c.args.budget c.loop-done.left c.loop-done.done end c.loop-done.invariant.none
-    c.loop-done.invariant.spent c.requires.some_depth in
-    λ e. no-win g.R.Rule.KIND c.args.depth b none
+pub returns-in-Ok-Spent-clause-none : goal.returns-in-Ok-Spent-clause-none
+returns-in-Ok-Spent-clause-none g c =
+    let above = c.in-Ok-Spent.ensures.spent.0 c.in-Ok-Spent.field-0-is in
+    (λ e. absurd (cc), λ h. absurd (let low = h.1 in omega (arith, above, low)))
 
-pub all_alike-requires : goal.all_alike-requires
-all_alike-requires g c =
-    let b : Grid = g.V.Seen.position c.args.view.now in
-    let d : ℕ = c.loop-done.done in
-    let found : NoWin c.in-Ok-NoWin.rest ≡ found_at g.R.Rule.KIND (d + 1) b c.loop-done.left =
-    sym c.in-Ok-NoWin.field-0-is ∙ c.in-Ok-NoWin.ensures.found
-    ∙ ap (λ (w : Grid). found_at g.R.Rule.KIND (d + 1) w c.loop-done.left) c.loop-done.invariant.same in
-    let some : 0 < c.loop-done.left - c.in-Ok-NoWin.rest =
-    (looked-is g.R.Rule.KIND b c.args.depth c.args.budget c.loop-done.left d c.loop-done-test.true c.side.ensures.lawful
-    c.loop-done.invariant.none c.loop-done.invariant.spent c.in-Ok-NoWin.rest found).1 in
-    search rules
-
-pub returns-then-looked-before-clause-none : goal.returns-then-looked-before-clause-none
-returns-then-looked-before-clause-none g c =
-    let b : Grid = g.V.Seen.position c.args.view.now in
-    let d : ℕ = c.loop-done.done in
-    let found : NoWin c.in-Ok-NoWin.rest ≡ found_at g.R.Rule.KIND (d + 1) b c.loop-done.left =
-    sym c.in-Ok-NoWin.field-0-is ∙ c.in-Ok-NoWin.ensures.found
-    ∙ ap (λ (w : Grid). found_at g.R.Rule.KIND (d + 1) w c.loop-done.left) c.loop-done.invariant.same in (
-      λ e. (
-        alike-none g.R.Rule.KIND b c.args.depth c.args.budget c.loop-done.left d c.loop-done-test.true c.side.ensures.lawful
-            c.loop-done.invariant.none c.loop-done.invariant.spent c.in-Ok-NoWin.rest found c.loop-done.before c.loop-done.invariant.first
-            c.loop-done.invariant.last c.if-looked-before.true,
-        alike-fits g.R.Rule.KIND b c.args.depth c.args.budget c.loop-done.left d c.loop-done-test.true c.side.ensures.lawful
-            c.loop-done.invariant.none c.loop-done.invariant.spent c.in-Ok-NoWin.rest found c.loop-done.before c.loop-done.invariant.first
-            c.loop-done.invariant.last c.if-looked-before.true (none-passes c.all_alike.result _ c.all_alike.ensures.answer e),
-      ),
-      λ h. passes-none c.all_alike.result _ c.all_alike.ensures.answer
-          (fits-alike g.R.Rule.KIND b c.args.depth c.args.budget c.loop-done.left d c.loop-done-test.true c.side.ensures.lawful
-          c.loop-done.invariant.none c.loop-done.invariant.spent c.in-Ok-NoWin.rest found c.loop-done.before c.loop-done.invariant.first
-          c.loop-done.invariant.last c.if-looked-before.true h.1),
-    )
-
-pub returns-then-looked-before-clause-spent : goal.returns-then-looked-before-clause-spent
-returns-then-looked-before-clause-spent g c =
-    let b : Grid = g.V.Seen.position c.args.view.now in
-    let d : ℕ = c.loop-done.done in
-    let found : NoWin c.in-Ok-NoWin.rest ≡ found_at g.R.Rule.KIND (d + 1) b c.loop-done.left =
-    sym c.in-Ok-NoWin.field-0-is ∙ c.in-Ok-NoWin.ensures.found
-    ∙ ap (λ (w : Grid). found_at g.R.Rule.KIND (d + 1) w c.loop-done.left) c.loop-done.invariant.same in (
-      λ e. alike-short g.R.Rule.KIND b c.args.depth c.args.budget c.loop-done.left d c.loop-done-test.true c.side.ensures.lawful
-          c.loop-done.invariant.none c.loop-done.invariant.spent c.in-Ok-NoWin.rest found c.loop-done.before c.loop-done.invariant.first
-          c.loop-done.invariant.last c.if-looked-before.true (spent-fails c.all_alike.result _ c.all_alike.ensures.answer e),
-      λ h. fails-spent c.all_alike.result _ c.all_alike.ensures.answer
-          (short-alike g.R.Rule.KIND b c.args.depth c.args.budget c.loop-done.left d c.loop-done-test.true c.side.ensures.lawful
-          c.loop-done.invariant.none c.loop-done.invariant.spent c.in-Ok-NoWin.rest found c.loop-done.before c.loop-done.invariant.first
-          c.loop-done.invariant.last c.if-looked-before.true h),
-    )
-
-pub returns-then-looked-before-clause-no_win : goal.returns-then-looked-before-clause-no_win
-returns-then-looked-before-clause-no_win g c =
-    let b : Grid = g.V.Seen.position c.args.view.now in
-    let d : ℕ = c.loop-done.done in
-    let found : NoWin c.in-Ok-NoWin.rest ≡ found_at g.R.Rule.KIND (d + 1) b c.loop-done.left =
-    sym c.in-Ok-NoWin.field-0-is ∙ c.in-Ok-NoWin.ensures.found
-    ∙ ap (λ (w : Grid). found_at g.R.Rule.KIND (d + 1) w c.loop-done.left) c.loop-done.invariant.same in
-    λ e. no-win g.R.Rule.KIND c.args.depth b
-    (alike-none g.R.Rule.KIND b c.args.depth c.args.budget c.loop-done.left d c.loop-done-test.true c.side.ensures.lawful
-    c.loop-done.invariant.none c.loop-done.invariant.spent c.in-Ok-NoWin.rest found c.loop-done.before c.loop-done.invariant.first
-    c.loop-done.invariant.last c.if-looked-before.true)
+pub returns-in-Ok-Spent-clause-spent : goal.returns-in-Ok-Spent-clause-spent
+returns-in-Ok-Spent-clause-spent g c = (λ e. c.in-Ok-Spent.ensures.spent.0 c.in-Ok-Spent.field-0-is, λ h. refl)

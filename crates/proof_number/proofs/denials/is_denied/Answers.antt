@@ -1,12 +1,17 @@
-use Rattle.std.proofs.Common.{subst}
-use Rattle.game_rules.proofs.Common.{Grid, has_five, has_threat}
-use Rattle.game_rules.proofs.Games.{one-winner}
-use Rattle.four_search.specs.Answers.{IsFourWin, OnWin}
+use Rattle.std.proofs.Common.{◌≡◌, ◌≤◌, ◌↔◌, ℕ, Bool, true, IfOk, IsTrue, Result, Ok, Err}
+use Rattle.game_rules.specs.declared.RuleKind.{RuleKind}
+use Rattle.game_rules.proofs.Common.{Grid, has_five, has_threat, wins_by_fours}
+use Rattle.game_rules.proofs.Games.{one-winner, test-WinsUnder}
+use Rattle.four_search.specs.FourGame.{four_cost}
+use Rattle.threat_game.specs.ThreatGame.{LosesToThreats}
 use Rattle.proof_number.proofs.denials.is_denied.Goals as goal
 
-pub returns-in-Ok-Win-clause-denied : goal.returns-in-Ok-Win-clause-denied
-returns-in-Ok-Win-clause-denied g c = λ t moves loses.
-    let b : Grid = g.V.Seen.position c.args.view.now in
-    let four = subst (λ a. OnWin a (IsFourWin g.R.Rule.KIND 20 b c.four_search.new.compiler)) c.in-Ok-Win.field-0-is
-    c.in-Ok-Win.ensures.win in
-    one-winner (has_five g.R.Rule.KIND) (has_threat g.R.Rule.KIND) g.R.Rule.KIND c.in-Ok-Win.field-0-0.moves moves b four.fewest.wins loses
+denied : {E : Type 0} (rule : RuleKind) (b : Grid) (found : Result Bool E)
+    → IfOk found (λ found. IsTrue found ↔ ((wins_by_fours rule 20 b ≡ true) × (four_cost rule 20 b ≤ 50)))
+    → IfOk found (λ found. IsTrue found → (moves : ℕ) → LosesToThreats rule moves b → ⊥)
+denied rule b (Err e) h = tt
+denied rule b (Ok found) h = λ is moves loses.
+    one-winner (has_five rule) (has_threat rule) rule 20 moves b (test-WinsUnder (has_five rule) rule 20 b (h.0 is).0) loses
+
+pub returns-clause-denied : goal.returns-clause-denied
+returns-clause-denied g c = denied g.R.Rule.KIND (g.V.Seen.position c.args.view.now) c.finds_fours.result c.finds_fours.ensures.found
