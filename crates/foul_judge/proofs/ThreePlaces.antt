@@ -1,10 +1,8 @@
 -- Three points of a stone are among the places of the line around it, and the search for one that is no foul.
-use Rattle.std.proofs.Common.{◌≡◌, ◌≢◌, ℕ, ◌<◌, ◌/◌, ◌^◌, bit_and, Bool, true, false, cond, ◌&&◌, not, refl, sym, ap, add-one, ◌∙◌, arith}
-use Rattle.std.proofs.Common.{nat_eq}
+use Rattle.std.proofs.Common.{◌≡◌, ◌≢◌, ℕ, ◌<◌, ◌/◌, ◌^◌, bit_and, Bool, true, false, cond, ◌&&◌, not, refl, sym, ap, add-one, ◌∙◌}
 use Rattle.std.specs.Prelude.{Option, Some, None, is_none}
 use Rattle.std.specs.Int.{bit_at}
-use Rattle.std.proofs.lemmas.Nat.Bits.{shr_and_one, bit_at-zero}
-use Rattle.std.proofs.lemmas.Bool.Decides.{nat_tests}
+use Rattle.std.proofs.lemmas.Nat.Bits.{shr_and_one}
 use Rattle.game_rules.proofs.Common.{Grid, IsBoard, is_empty, put, along, points_of, holds, is_three_point, is_line_three_point}
 use Rattle.game_rules.proofs.Common.{is_line_three_at, five, black_foul, black_foul_within, stone_foul, is_three}
 use Rattle.game_rules.specs.declared.RuleKind.{RuleKind}
@@ -14,12 +12,10 @@ use Rattle.game_rules.specs.declared.Side.TheVariants.{Black}
 use Rattle.game_rules.proofs.Boards.{and_left, is_empty-on, empties_of-put}
 use Rattle.game_rules.proofs.Points.{points-found, none_of}
 use Rattle.game_rules.proofs.Threes.{three_empty, three_point-line, line_three, is_three-free}
-use Rattle.game_rules.proofs.Rows.{any_none}
 use Rattle.stone_board.specs.Steps.{kept_on}
 use Rattle.stone_board.proofs.Looks.{three-kept}
 use Rattle.row_shapes.proofs.ThreePoints.{three_near}
 use Rattle.foul_judge.specs.Threes.{free_three}
-use Rattle.foul_judge.specs.ShortCut.{has_line_three}
 
 -- ---- three points and five points
 
@@ -80,18 +76,3 @@ module _ (rule : RuleKind) (b : Grid) (d : Axis) (p : Point) where
 pub bit_clear : (n i : ℕ) (r : Bool) → bit_at n i ≡ cond r 1 0 → bit_and (n / 2 ^ i) 1 ≢ 1 → r ≡ false
 bit_clear n i true e h = absurd (h (shr_and_one n i ∙ e))
 bit_clear n i false e h = refl
-
--- no bits, no three points
-pub no_bits : (rule : RuleKind) (b : Grid) (d : Axis) (p : Point) (points : ℕ)
-    → ((i : ℕ) → i < 11 → bit_at points i ≡ cond (is_line_three_at rule b Black d p (along d p i 5)) 1 0) → not (nat_eq points 0) ≡ false
-    → has_line_three rule b d p ≡ false
-unfolding has_line_three
-no_bits rule b d p points bits none = any_none _ 11 0
-    (λ i low high. clear _ (sym (bits i (omega arith)) ∙ ap (λ n. bit_at n i) (zero (nat_eq points 0) refl) ∙ bit_at-zero i)) where
-      clear : (r : Bool) → ◌≡◌ {A = ℕ} (cond r 1 0) 0 → r ≡ false
-      clear true h = absurd (omega arith)
-      clear false h = refl
-
-      zero : (r : Bool) → nat_eq points 0 ≡ r → points ≡ 0
-      zero true e = grind (arith, nat_tests)
-      zero false e = absurd (let bad : true ≡ false = sym (ap not e) ∙ none in cc)

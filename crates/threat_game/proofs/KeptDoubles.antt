@@ -1,15 +1,14 @@
 -- Double points that are kept to settle replies by: each stays what it is after a stone of the other side beside it. The replies to a
 -- double point that wins.
-use Rattle.std.specs.List.{count_by}
-use Rattle.std.proofs.Common.{◌≡◌, ◌≤◌, ◌<◌, nat_le, Bool, true, false, ◌&&◌, not, refl, sym, ap, ◌∙◌, arith, List, All, Option, Some, None, is_none, nat_eq}
+use Rattle.std.proofs.Common.{◌≡◌, ◌≤◌, Bool, true, false, ◌&&◌, not, refl, sym, ap, ◌∙◌, arith, List, All, Option, Some, None, is_none}
+use Rattle.std.proofs.Common.{nat_eq}
+use Rattle.std.proofs.lemmas.Bool.{not-true}
 use Rattle.game_rules.specs.declared.RuleKind.{RuleKind}
-use Rattle.game_rules.specs.declared.RuleKind.TheVariants.{Freestyle, Exact, Renju}
 use Rattle.game_rules.specs.declared.Side.{Side}
-use Rattle.game_rules.specs.declared.Side.TheVariants.{Black, White}
 use Rattle.game_rules.specs.declared.Foul.{Foul}
 use Rattle.game_rules.specs.declared.Outcome.TheVariants.{GoesOn}
 use Rattle.game_rules.specs.declared.Point.{Point}
-use Rattle.game_rules.proofs.Common.{Grid, IsBoard, IsPosition, axes, is_empty, put, outcome, outcome_by, mover, other, after, five, foul_of}
+use Rattle.game_rules.proofs.Common.{Grid, IsPosition, is_empty, put, outcome, outcome_by, mover, other, after, five, foul_of}
 use Rattle.game_rules.proofs.Common.{empties_of, has_five, has_fouls, is_same_point, is_double_point, goes_on}
 use Rattle.game_rules.proofs.Boards.{and_left, and_right, empties_of-put, is_empty-on, other-other}
 use Rattle.game_rules.proofs.Fives.{five-empty}
@@ -17,15 +16,13 @@ use Rattle.game_rules.proofs.PointLists.{other_first}
 use Rattle.game_rules.proofs.Points.{points-found}
 use Rattle.game_rules.proofs.Positions.{GoesOn-empty, mover-then}
 use Rattle.game_rules.proofs.Wins.{no_five}
-use Rattle.row_shapes.specs.Reach.{stones_in_reach}
-use Rattle.threat_moves.proofs.GainLaws.{double-empty}
+use Rattle.threat_moves.specs.FreePoints.{StaysFree}
 use Rattle.threat_game.specs.declared.doubles.Double.{Double}
 use Rattle.threat_game.specs.declared.doubles.Kept.{Kept}
-use Rattle.threat_game.specs.Attacks.{IsDoubleWin, IsKept, IsStillKept, StaysFree}
+use Rattle.threat_game.specs.Attacks.{IsDoubleWin, IsKept, IsStillKept}
 use Rattle.threat_game.specs.Replies.{answer_nodes, has_reply_at, has_reply_beside}
 use Rattle.threat_game.proofs.Common.{IsBeside}
 use Rattle.threat_game.proofs.FreeMoves.{not_one, each-goes_on, double-safe, reply-at}
-use Rattle.threat_game.proofs.QuietLaws.{rows-free}
 use Rattle.threat_game.proofs.ReplyLaws.{both-kept}
 
 -- a double point is no foul
@@ -37,18 +34,10 @@ double-none rule b s p double = none_of (foul_of rule b s p)
       none_of None h = refl
       none_of (Some f) h = cc
 
--- and with too few stones within reach for two threes it stays none
-pub double-free : (rule : RuleKind) (b : Grid) (s : Side) (p : Point) → IsBoard b → is_double_point rule b s p ≡ true
-    → has_fouls rule s ≡ true → count_by (λ d. nat_le 2 (stones_in_reach b Black d p)) axes < 2 → StaysFree rule b s p
-double-free Renju b Black p ok double fouls rows = λ z free apart.
-    rows-free Renju b p ok (double-empty Renju b Black p double) rows (double-none Renju b Black p double) z free apart
-double-free Renju b White p ok double fouls rows = cc
-double-free Freestyle b s p ok double fouls rows = cc
-double-free Exact b s p ok double fouls rows = cc
-
-not-true : (r : Bool) → not r ≡ true → r ≡ false
-not-true true h = cc
-not-true false h = refl
+-- and where the point stays free it stays none
+pub double-free : (rule : RuleKind) (b : Grid) (s : Side) (p : Point) → is_double_point rule b s p ≡ true → StaysFree rule b s p
+    → (z : Point) → is_empty b z ≡ true → is_same_point p z ≡ false → foul_of rule (put b (other s) z) s p ≡ None
+double-free rule b s p double stays = stays (double-none rule b s p double)
 
 module _ (rule : RuleKind) (c : Grid) (q : Point) (lawful : IsPosition rule c) (on : outcome rule c q ≡ GoesOn) where
   -- one that is kept stays so after a reply beside it

@@ -71,14 +71,11 @@ pub record LeavesBoth (rule : RuleKind) (b : Grid) (s : Side) (d : Double) : Typ
   pub second : five rule (put b s d.at) s d.second ≡ true
   pub apart : is_same_point d.first d.second ≡ false
 
--- a stone of the side on the point p is no foul wherever the other side puts a stone
-abbrev pub StaysFree : RuleKind → Grid → Side → Point → Type 0
-StaysFree rule b s p = (z : Point) → is_empty b z ≡ true → is_same_point p z ≡ false → foul_of rule (put b (other s) z) s p ≡ None
-
--- a double point, and if it is sure, it stays no foul
+-- a double point, and if it is sure, its point is no foul of the side wherever the other side puts a stone
 pub record IsKept (rule : RuleKind) (b : Grid) (s : Side) (kept : Kept) : Type 0 where
   pub both : LeavesBoth rule b s kept.double
-  pub free : kept.sure ≡ true → StaysFree rule b s kept.double.at
+  pub free : kept.sure ≡ true → (z : Point) → is_empty b z ≡ true → is_same_point kept.double.at z ≡ false
+      → foul_of rule (put b (other s) z) s kept.double.at ≡ None
 
 -- the same after a stone of the other side, where the side is to move
 pub record IsStillKept (rule : RuleKind) (b : Grid) (kept : Kept) : Type 0 where

@@ -4,27 +4,26 @@
 //! reply took the first.
 #![tactic(auto)]
 
-ghost use Rattle.std.specs.Prelude.{◌≡◌, ◌≤◌, ◌+◌, ◌&&◌, not, ℕ, false, true, All, IfOk, IfSome, IsTrue};
+ghost use Rattle.std.specs.Prelude.{◌≡◌, ◌≤◌, ◌+◌, ◌&&◌, not, ℕ, false, All, IfOk, IfSome, IsTrue};
 ghost use Rattle.game_rules.specs.Grid.{Grid, is_empty, points_of};
 ghost use Rattle.game_rules.specs.Shapes.{is_same_point};
 ghost use Rattle.game_rules.specs.Play.{IsPosition, outcome as outcome_lem, mover, after, goes_on as goes_on_lem};
 ghost use Rattle.game_rules.specs.declared.Outcome.{Outcome};
-ghost use Rattle.game_rules.specs.Games.{has_five as has_five_lem, is_double_point};
+ghost use Rattle.game_rules.specs.Games.{has_five as has_five_lem};
 ghost use Rattle.strategy_compiler.specs.Growth.{Writes};
-ghost use Rattle.threat_game.specs.Attacks.{LeavesBoth, IsDoubleWin, IsKept, StaysFree};
+ghost use Rattle.threat_game.specs.Attacks.{LeavesBoth, IsDoubleWin, IsKept};
 ghost use Rattle.threat_game.specs.Replies.{answer_nodes, has_reply_at, has_reply_beside, replies_at};
 ghost use Rattle.threat_game.specs.Wins.{IsThreatWin};
 
 use crate::attacks::{each_goes_on, goes_on, goes_on_where};
 use crate::last_moves::has_fouls;
-use crate::quiet_points::rows_in_reach;
 use foul_judge::Seen;
 use game_rules::RuleKind;
 use row_shapes::Rule;
 use std::alloc::{AllocError, Global};
 use stone_board::{Board, Point, Side};
 use strategy_compiler::{Compiler, SearchError, WrittenWin};
-use threat_moves::is_new_double_point;
+use threat_moves::{is_new_double_point, stays_free};
 
 /// So many double points are kept at most to settle replies by.
 const MOST_KEPT: usize = 4;
@@ -83,25 +82,13 @@ pub(crate) fn first_doubles<R: Rule>(
     let mut found = Vec::new(alloc);
     for p in board.points() {
         if found.len() < MOST_KEPT && is_new_double_point::<R>(board, side, p) {
-            let sure = is_sure::<R>(board, side, p);
+            let sure = stays_free::<R>(board, side, p);
             if let Some(double) = double_at::<R>(alloc, board, side, p)? {
                 found.push(Kept { double, sure })?;
             }
         }
     }
     Ok(found)
-}
-
-/// Whether a double point is seen to stay no foul wherever the other side puts a stone: its side has no fouls, or too few stones
-/// within reach for two threes. A stone of White makes no foul then, and frees none.
-fn is_sure<R: Rule>(board: &Board, side: Side, p: Point) -> bool
-    requires double { is_double_point R.KIND board.now side p ≡ true }
-    ensures sure { IsTrue result → StaysFree R.KIND board.now side p }
-{
-    if !has_fouls::<R>(side) {
-        return true;
-    }
-    rows_in_reach(board, p) < 2
 }
 
 /// Which replies go on: the one on the first five point of a double point, and some other.

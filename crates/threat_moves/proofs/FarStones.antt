@@ -18,13 +18,15 @@ use Rattle.game_rules.specs.declared.Way.TheVariants.{Ahead, Behind}
 use Rattle.game_rules.proofs.Boards.{Apart, and_left, and_right, is_empty-on, is_empty-put, same_or_apart, other-other, stone_kept}
 use Rattle.game_rules.proofs.Fives.{five-other}
 use Rattle.game_rules.proofs.Lines.{OnLine, along-OnLine, along-same}
-use Rattle.game_rules.proofs.Points.{any_witness, points-found}
+use Rattle.game_rules.proofs.PointLists.{Apart-back}
+use Rattle.game_rules.proofs.Points.{any_witness, is_same_point-apart, points-found}
 use Rattle.game_rules.proofs.Positions.{IsBoard-put}
 use Rattle.game_rules.proofs.OneLine.{holds-put_others, towards_alike}
 use Rattle.game_rules.proofs.Threes.{three_empty}
 use Rattle.row_shapes.specs.Threes.{wins_past, is_open_four}
 use Rattle.row_shapes.proofs.ThreePoints.{three-open, three_first, three_near}
 use Rattle.foul_judge.proofs.FewerEmpties.{white-no_foul}
+use Rattle.threat_moves.specs.FreePoints.{StaysFree}
 use Rattle.threat_moves.proofs.Common.{is_straight_point, has_straight_point, stops_three, is_near, IsSure, CostsAreNear}
 use Rattle.threat_moves.proofs.GainLaws.{straight-line, line_three, empty-stops}
 
@@ -175,6 +177,15 @@ foul-stays Exact b s q z ok free_q free_z apart few h = refl
 foul-stays Renju b White q z ok free_q free_z apart few h = refl
 foul-stays Renju b Black q z ok free_q free_z apart few h =
     ap is_none (white-no_foul b q z ok free_q free_z apart Renju (few refl) (none_of (black_foul Renju b q) h)) where
+      none_of : (o : Option Foul) → is_none o ≡ true → o ≡ None
+      none_of None h = refl
+      none_of (Some f) h = cc
+
+-- so a point that is sure stays free
+pub stays-free : (rule : RuleKind) (b : Grid) (s : Side) (p : Point) → IsBoard b → is_empty b p ≡ true → IsSure rule b s p
+    → StaysFree rule b s p
+stays-free rule b s p ok empty sure = λ none z free apart. none_of (foul_of rule (put b (other s) z) s p)
+    (foul-stays rule b s p z ok empty free (Apart-back p z (is_same_point-apart p z apart)) sure (ap is_none none)) where
       none_of : (o : Option Foul) → is_none o ≡ true → o ≡ None
       none_of None h = refl
       none_of (Some f) h = cc

@@ -4,3 +4,4 @@ pub mod OneBlock
 pub mod Threats
 pub mod ThreeMoves
 pub mod FiveEnds
+pub mod FreePoints
