@@ -389,6 +389,7 @@ pub made-from : (t : List Node) (roots order : List ℕ) (u : List Node) → IsT
 made-from t roots order u table different is_order walked re = subst (λ (o : List ℕ). IsMadeFrom t roots o u) walked (record {
   table = made-table t roots order u table different is_order walked (from-renumbers t order u re);
   nodes = re;
+  few = let count = re.count in let short = is_order.short in omega (arith, count, short);
   different = made-different t roots order u table different is_order walked (from-renumbers t order u re);
   each_root = made-root t roots order u table different is_order walked (from-renumbers t order u re);
   each_start = made-start t roots order u table different is_order walked (from-renumbers t order u re);
@@ -472,6 +473,7 @@ module _ (t : List Node) (root : ℕ) (u : List Node) (lower : NamesLower t)
 pub record IsFinished (t : List Node) (root : ℕ) (u : List Node) : Type 0 where
   pub nodes : Renumbers t (completed t root) u
   pub some : 0 < length u
+  pub few : length u ≤ length t
   pub trees : (tree : Tree) → StandsFor t root tree → IsTableOf tree u
   pub reached : (i : ℕ) → i < length u → Reaches u (last u) i
   pub numbered : IsNumberedByWalk u
@@ -483,6 +485,7 @@ pub finished : (t s : List Node) (root : ℕ) (u : List Node) → s ≡ t → Is
 finished t s root u e table made = subst (λ (x : List Node). IsFinished x root u) e (record {
   nodes = one-nodes s root u (IsTable-lower s table) made;
   some = one-some s root u (IsTable-lower s table) made;
+  few = made.few;
   trees = one-trees s root u (IsTable-lower s table) made;
   reached = one-reached s root u (IsTable-lower s table) made;
   numbered = one-numbered s root u (IsTable-lower s table) made;

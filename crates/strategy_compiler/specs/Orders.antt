@@ -47,6 +47,7 @@ pub record IsMadeOf (t : List Node) (i : ℕ) (u : List Node) (j : ℕ) : Type 0
 pub record IsMadeFrom (t : List Node) (roots order : List ℕ) (u : List Node) : Type 0 where
   pub table : IsTable u
   pub nodes : Renumbers t order u
+  pub few : length u ≤ length t
   pub different : AreDifferent u
   pub each_root : (i : ℕ) → Contains roots i → IsMadeOf t i u (place_in order i)
   pub each_start : (a : Answers) → ((j : ℕ) → Contains (named a) j → Contains roots j)

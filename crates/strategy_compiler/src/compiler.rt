@@ -176,7 +176,8 @@ impl Compiler {
 
     /// The table of the nodes that the root reaches, numbered as each is completed in a walk from the root, which visits at each
     /// node that of the rest first and then those listed, in order. The root is the last. Each tree for which the root
-    /// stands has this table. It does not recurse, however long the chain of nodes. After an `Err` the compiler is gone.
+    /// stands has this table, which is no longer than the compiler. It does not recurse, however long the chain of nodes. After
+    /// an `Err` the compiler is gone.
     pub fn finish(self, root: u32) -> Result<Table, AllocError>
         requires in_compiler { root < length self }
         ensures nodes { IfOk result (λ t. Renumbers self (completed self root) t) }
@@ -185,6 +186,7 @@ impl Compiler {
 
         // Of every root, whether or not it stands for a tree.
         ensures some { IfOk result (λ t. 0 < length t) }
+        ensures few { IfOk result (λ t. length t ≤ length self) }
         ensures different { IfOk result AreDifferent }
         ensures reached { IfOk result (λ t. (i : ℕ) → i < length t → Reaches t (last t) i) }
         ensures numbered { IfOk result IsNumberedByWalk }
@@ -199,18 +201,19 @@ impl Compiler {
     /// The answers rise strictly in reading order, and each names a node of the compiler. The rest is chosen as by `node`: it
     /// answers the most of the replies, and only the answers that differ are listed; without answers the table is empty,
     /// and the rest is `Nothing`. The nodes are numbered as by `finish`, from the node of the rest first and then from those
-    /// listed, in order. After an `Err` the compiler is gone.
+    /// listed, in order, and are no more than the compiler has. After an `Err` the compiler is gone.
     pub fn finish_start(self, answers: &[Reply]) -> Result<(Table, Start), AllocError>
         requires rising { is_rising answers.now ≡ true }
         requires below { All (λ r. r.next < length self) answers.now }
         ensures made { IfOk result (λ made. IsMadeOfAnswers self answers.now made.0 made.1) }
+        ensures few { IfOk result (λ made. length made.0 ≤ length self) }
     {
         start_from(*self.nodes.allocator(), self.nodes.as_slice(), answers)
     }
 
     /// The table of a win that a search wrote: that of the node of the win, by `finish`. Where the win is one at a position, the
-    /// last node is accepted there, wins within the moves of the win, and the table names points of that board alone. After
-    /// an `Err` the compiler is gone.
+    /// last node is accepted there, wins within the moves of the win, and the table names points of that board alone. It is no
+    /// longer than the compiler. After an `Err` the compiler is gone.
     pub fn finish_win(self, win: WrittenWin) -> Result<Table, AllocError>
         requires in_compiler { win.node < length self }
         ensures win { IfOk result (λ t. (rule : RuleKind) (limit : ℕ) (b : Grid)
@@ -219,6 +222,7 @@ impl Compiler {
         ensures trees { IfOk result
             (λ t. (tree : Tree) → StandsFor self win.node tree → IsTableOf tree t) }
         ensures some { IfOk result (λ t. 0 < length t) }
+        ensures few { IfOk result (λ t. length t ≤ length self) }
         ensures different { IfOk result AreDifferent }
         ensures reached { IfOk result (λ t. (i : ℕ) → i < length t → Reaches t (last t) i) }
         ensures numbered { IfOk result IsNumberedByWalk }

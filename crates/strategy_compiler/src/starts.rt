@@ -2,7 +2,7 @@
 //! what they reach, and the start names these nodes by their places in it.
 #![tactic(auto)]
 
-ghost use Rattle.std.specs.Prelude.{◌≡◌, ◌<◌, true, false, length, slice_index, All, IfOk};
+ghost use Rattle.std.specs.Prelude.{◌≡◌, ◌<◌, ◌≤◌, true, false, length, slice_index, All, IfOk};
 ghost use Rattle.strategy_graph.specs.Tables.{is_rising, is_winning, names_below};
 ghost use Rattle.strategy_graph.specs.Renumbered.{renumbered_answers};
 ghost use Rattle.strategy_compiler.specs.Walks.{visits};
@@ -58,6 +58,7 @@ pub(crate) fn start_from(
     requires rising { is_rising answers.now ≡ true }
     requires below { All (λ r. r.next < length nodes.now) answers.now }
     ensures made { IfOk result (λ made. IsMadeOfAnswers nodes.now answers.now made.0 made.1) }
+    ensures few { IfOk result (λ made. length made.0 ≤ length nodes.now) }
 {
     let commonest = commonest_next(answers);
     let listed = answers_beside(alloc, answers, commonest)?;

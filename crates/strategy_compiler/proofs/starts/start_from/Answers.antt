@@ -43,4 +43,5 @@ returns c =
           (subst (ArePlaces (completed_from c.args.nodes.now c.as_slice.result.now)) (sym c.as_slice-2.ensures.value)
           c.in_ok-table.ensures.places)
           c.in_ok-start.ensures.start;
+      few = c.in_ok-table.ensures.made.few;
     }

@@ -11,6 +11,7 @@ returns c =
       nodes = done.nodes;
       trees = done.trees;
       some = done.some;
+      few = done.few;
       different = c.in_ok-made.ensures.made.different;
       reached = done.reached;
       numbered = done.numbered;
