@@ -69,6 +69,20 @@ module _ (rule : RuleKind) (s : Search) (t : Tree) (c : List Node) (searches : S
       ap (λ (m : ℕ). threat_tree rule m s.root) deep ∙ ap (threat_tree rule n) from in
       omega (arith, added-few, same, for_budget, before)
 
+  -- nor has the tree more nodes than positions of both sides are counted
+  tree-few : length t.links ≤ 2 * min s.budget (threat_tree rule s.depth s.root)
+  tree-few =
+      let first : threat_tree rule (left_at Game.left 0) s.root ≡ threat_tree rule s.depth s.root =
+      ap (λ (n : ℕ). threat_tree rule n s.root) root-left in
+      omega (arith, h.counted.nodes, h.counted.attacked_fits, h.counted.defended_fits, h.counted.attacks, h.counted.defences, first)
+
+  pub told-tree : (n budget : ℕ) (b : Grid) → s.depth ≡ n → s.budget ≡ budget → s.root ≡ b
+      → length t.links ≤ 2 * min budget (threat_tree rule n b)
+  told-tree n budget b deep for_budget from =
+      let same : threat_tree rule s.depth s.root ≡ threat_tree rule n b =
+      ap (λ (m : ℕ). threat_tree rule m s.root) deep ∙ ap (threat_tree rule n) from in
+      omega (arith, tree-few, same, for_budget)
+
   root-board : board_at Game 0 ≡ s.root
   root-board = board-root Game.tree.links Game.moves Game.start h.tree.linked
 

@@ -5,7 +5,7 @@
 //! win is compiled already.
 #![tactic(auto)]
 
-ghost use Rattle.std.specs.Prelude.{◌≡◌, ◌≤◌, ◌<◌, ◌+◌, ◌++◌, List, false, length, min, IfOk, OnOk, IsErrOf};
+ghost use Rattle.std.specs.Prelude.{◌≡◌, ◌≤◌, ◌<◌, ◌+◌, ◌*◌, ◌++◌, List, false, length, min, IfOk, OnOk, IsErrOf};
 ghost use Rattle.strategy_graph.specs.declared.Node.{Node};
 ghost use Rattle.strategy_graph.specs.declared.TheConstants.{MAX_NODES};
 ghost use Rattle.proof_tree.specs.Combining.{is_settled};
@@ -43,10 +43,10 @@ pub enum ProofAnswer {
 /// - `Spent` comes only where the game of threats has more positions within `depth` moves than the budget. The root is not
 ///   settled.
 ///
-/// With an answer no more nodes are added than positions may be counted, the lesser of the budget and those of the game of threats.
-/// `Full` comes only where the compiler has no room for as many; `Memory` where there is
-/// no memory. After each answer and refusal the view is as before, and the compiler's earlier nodes stay; the tree keeps the
-/// nodes that were made.
+/// With an answer no more nodes are added to the compiler than positions may be counted, the lesser of the budget and those of the
+/// game of threats, and the tree has at most twice as many. `Full` comes only where the compiler has no room for as many; `Memory`
+/// where there is no memory. After each answer and refusal the view is as before, and the compiler's earlier nodes stay; the tree
+/// keeps the nodes that were made.
 pub fn proof_number<R: Rule, V: Seen<R>>(
     alloc: Global,
     view: &mut V,
@@ -69,6 +69,7 @@ pub fn proof_number<R: Rule, V: Seen<R>>(
     // What every answer and refusal leaves, and when the compiler is full.
     ensures tree { IsTree tree.new }
     ensures grows { length tree.old.links ≤ length tree.new.links }
+    ensures tree_few { OnOk result (length tree.new.links ≤ 2 * min budget (threat_tree R.KIND depth (V.position view.old))) }
     ensures kept { (more : List Node) × (compiler.new ≡ compiler.old ++ more) }
     ensures few { OnOk result (length compiler.new ≤ length compiler.old + min budget (threat_tree R.KIND depth (V.position view.old))) }
     ensures full { IsErrOf result SearchError.Full

@@ -1,7 +1,8 @@
-use Rattle.std.proofs.Common.{rules, ◌≡◌, ◌∙◌, ◌<◌, [], append-nil, ◌≤◌, ◌+◌, ℕ, List, length, min, sym, ap, subst, arith, refl}
+use Rattle.std.proofs.Common.{rules, ◌≡◌, ◌∙◌, ◌<◌, [], append-nil, ◌≤◌, ◌+◌, ◌*◌, ℕ, List, length, min, sym, ap, subst, arith, refl}
 use Rattle.proof_tree.specs.Combining.{is_settled}
+use Rattle.proof_tree.specs.Trees.{Tree}
 use Rattle.proof_number.specs.Searches.{Searches, closed_nodes}
-use Rattle.proof_number.proofs.Ending.{begun-full, closed-few, root-noted, told-few, told-lost, told-none, told-proved, told-win}
+use Rattle.proof_number.proofs.Ending.{begun-full, closed-few, root-noted, told-few, told-lost, told-none, told-proved, told-tree, told-win}
 use Rattle.strategy_graph.specs.declared.Node.{Node}
 use Rattle.threat_game.specs.ThreatGame.{threat_tree}
 use Rattle.proof_number.proofs.StepLaws.{on-done, on-spent, searched-tree}
@@ -115,3 +116,33 @@ returns-in-Spent-clause-few g c =
     (c.loop-alloc.invariant.aim.root ∙ c.in_ok-begin.ensures.aim.root ∙ c.in_ok-search.ensures.begins.root_is ∙ c.board.ensures.board)
     (c.loop-alloc.invariant.aim.before ∙ c.in_ok-begin.ensures.aim.before ∙ c.in_ok-search.ensures.begins.before_is
     ∙ c.len-before.ensures.count))
+
+pub returns-in-Some-clause-tree_few : goal.returns-in-Some-clause-tree_few
+returns-in-Some-clause-tree_few g c =
+    told-tree g.R.Rule.KIND c.loop-alloc.search c.loop-alloc.tree c.loop-alloc.compiler c.loop-alloc.invariant.searching c.args.depth
+    c.args.budget (g.V.Seen.position c.args.view.now)
+    (c.loop-alloc.invariant.aim.depth ∙ c.in_ok-begin.ensures.aim.depth ∙ c.in_ok-search.ensures.begins.depth_is)
+    (c.loop-alloc.invariant.aim.budget ∙ c.in_ok-begin.ensures.aim.budget ∙ c.in_ok-search.ensures.begins.budget_is)
+    (c.loop-alloc.invariant.aim.root ∙ c.in_ok-begin.ensures.aim.root ∙ c.in_ok-search.ensures.begins.root_is ∙ c.board.ensures.board)
+
+pub returns-clause-tree_few : goal.returns-clause-tree_few
+returns-clause-tree_few g c =
+    told-tree g.R.Rule.KIND c.loop-alloc.search c.loop-alloc.tree c.loop-alloc.compiler c.loop-alloc.invariant.searching c.args.depth
+    c.args.budget (g.V.Seen.position c.args.view.now)
+    (c.loop-alloc.invariant.aim.depth ∙ c.in_ok-begin.ensures.aim.depth ∙ c.in_ok-search.ensures.begins.depth_is)
+    (c.loop-alloc.invariant.aim.budget ∙ c.in_ok-begin.ensures.aim.budget ∙ c.in_ok-search.ensures.begins.budget_is)
+    (c.loop-alloc.invariant.aim.root ∙ c.in_ok-begin.ensures.aim.root ∙ c.in_ok-search.ensures.begins.root_is ∙ c.board.ensures.board)
+
+pub returns-in-Spent-clause-tree_few : goal.returns-in-Spent-clause-tree_few
+returns-in-Spent-clause-tree_few g c =
+    let stays : c.step.new.tree ≡ c.loop-alloc.tree =
+    on-spent c.in_ok-step.field-0 (Searches g.R.Rule.KIND c.step.new.self c.step.new.tree c.step.new.compiler (λ i. ⊥))
+    (c.step.new.tree ≡ c.loop-alloc.tree) ℕ c.in-Spent.is c.in_ok-step.ensures.searching in
+    subst (λ (t : Tree). length t.links ≤ 2 * min c.args.budget
+    (threat_tree g.R.Rule.KIND c.args.depth (g.V.Seen.position c.args.view.now)))
+    (sym stays)
+    (told-tree g.R.Rule.KIND c.loop-alloc.search c.loop-alloc.tree c.loop-alloc.compiler c.loop-alloc.invariant.searching c.args.depth
+    c.args.budget (g.V.Seen.position c.args.view.now)
+    (c.loop-alloc.invariant.aim.depth ∙ c.in_ok-begin.ensures.aim.depth ∙ c.in_ok-search.ensures.begins.depth_is)
+    (c.loop-alloc.invariant.aim.budget ∙ c.in_ok-begin.ensures.aim.budget ∙ c.in_ok-search.ensures.begins.budget_is)
+    (c.loop-alloc.invariant.aim.root ∙ c.in_ok-begin.ensures.aim.root ∙ c.in_ok-search.ensures.begins.root_is ∙ c.board.ensures.board))
