@@ -143,3 +143,34 @@ fn one_win_meets_most_replies(rt: HostRuntime) -> Result<(), Fail> {
     assert_eq!(rt; moves, 3);
     Ok(())
 }
+
+/// A stone on either end of the three makes a straight four: two positions are counted behind it, one for the reply on its first
+/// five point and one for all others. The root is settled by that, so the tree keeps its one node.
+#[test]
+fn a_double_point_that_stands_wins_at_once(rt: HostRuntime) -> Result<(), Fail> {
+    let alloc = rt.alloc();
+    let three = [(6, 7), (7, 7), (8, 7)];
+    let (moves, root, len) = searched::<Freestyle>(&rt, alloc, &three, &CORNERS[1..], 2, 3)?;
+    assert_eq!(rt; moves, 2);
+    assert_eq!(rt; root.proof, 0);
+    assert_eq!(rt; len, 1);
+    Ok(())
+}
+
+/// Of the pair only four stones make a three that leaves a double point, those next to it and those one further. Each is met by
+/// a reply after which two moves are left, and these are looked through before a reply gets a node.
+#[test]
+fn replies_with_two_moves_left_are_looked_through(rt: HostRuntime) -> Result<(), Fail> {
+    let alloc = rt.alloc();
+    let (moves, _, len) = searched::<Freestyle>(
+        &rt,
+        alloc,
+        &[(7, 7), (8, 7)],
+        &CORNERS[2..],
+        3,
+        50,
+    )?;
+    assert_eq!(rt; moves, 0);
+    assert_eq!(rt; len, 5);
+    Ok(())
+}

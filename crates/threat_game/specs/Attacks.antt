@@ -19,6 +19,7 @@ use Rattle.threat_game.specs.declared.attacks.BestReply.TheVariants.{GoesOn as S
 use Rattle.threat_game.specs.declared.doubles.Double.{Double}
 use Rattle.threat_game.specs.declared.doubles.Kept.{Kept}
 use Rattle.threat_game.specs.ThreatGame.{is_threat_move, is_safe_threat}
+use Rattle.threat_game.specs.NearDoubles.{points_of_two}
 
 -- whether some move of the side to move goes on
 abbrev pub has_reply : RuleKind → Grid → Bool
@@ -88,6 +89,16 @@ pub record IsDoubleWin (rule : RuleKind) (b : Grid) (d : Double) : Type 0 where
   pub on : outcome rule b d.at ≡ GoesOn
   pub both : LeavesBoth rule b (mover b) d
   pub safe : has_five rule b (other (mover b)) ≡ false
+
+-- whether some double point of the side to move goes on
+abbrev pub has_standing_double : RuleKind → Grid → Bool
+has_standing_double rule b = list_any (λ p. goes_on (outcome rule b p)) (points_of_two rule b (mover b))
+
+-- a double point is told
+abbrev pub IsDoubleTold : Attacks → Type 0
+IsDoubleTold (DoubleWins d) = Unit {0}
+IsDoubleTold (NoReply p) = ⊥
+IsDoubleTold (Moves ps) = ⊥
 
 -- what the moves of the side to move, which has no five point, come to
 abbrev pub AreAttacks : RuleKind → Grid → Attacks → Type 0

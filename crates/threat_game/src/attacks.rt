@@ -6,7 +6,8 @@
 //! the stone that makes it, on which two others stand near that stone, so no other is looked at.
 #![tactic(auto)]
 
-ghost use Rattle.std.specs.Prelude.{◌≡◌, ◌&&◌, not, true, false, IfOk, IfSome, IsTrue};
+ghost use Rattle.std.specs.Prelude.{◌≡◌, ◌&&◌, not, true, false, All, IfOk, IfSome, IfNone, IsTrue};
+ghost use Rattle.std.specs.List.{list_any};
 ghost use Rattle.game_rules.specs.Grid.{Grid, is_empty};
 ghost use Rattle.game_rules.specs.Shapes.{is_same_point};
 ghost use Rattle.game_rules.specs.Play.{IsPosition, outcome as outcome_lem, mover, other, after, goes_on as goes_on_lem};
@@ -17,7 +18,8 @@ ghost use Rattle.threat_game.specs.ThreatGame.{is_threat_move as is_threat_move_
 ghost use Rattle.threat_game.specs.FreeMoves.{EachGoesOn};
 ghost use Rattle.threat_game.specs.NearDoubles.{AreNearStones, is_some_point as is_some_point_lem, makes_two as makes_two_lem};
 ghost use Rattle.threat_game.specs.NearDoubles.{points_of_two};
-ghost use Rattle.threat_game.specs.Attacks.{AreAttacks, IsAttempt, IsDoubleWin, best_reply as best_reply_lem};
+ghost use Rattle.threat_game.specs.Attacks.{AreAttacks, IsAttempt, IsDoubleTold, IsDoubleWin, has_standing_double};
+ghost use Rattle.threat_game.specs.Attacks.{best_reply as best_reply_lem};
 
 use crate::doubles::{Double, double_at};
 use crate::last_moves::has_fouls;
@@ -64,7 +66,8 @@ pub enum BestReply {
     Fouls,
 }
 
-/// The moves of the attacker. The view is as before, also where memory ran out, and so is the board, a copy of its own.
+/// The moves of the attacker. Where the other side has no five point and a double point goes on, one is told. The view is as before,
+/// also where memory ran out, and so is the board, a copy of its own.
 pub fn find_attacks<R: Rule, V: Seen<R>>(
     alloc: Global,
     view: &mut V,
@@ -73,6 +76,8 @@ pub fn find_attacks<R: Rule, V: Seen<R>>(
     requires none { has_five_lem R.KIND (V.position view.old) (mover (V.position view.old)) ≡ false }
     requires copy { board.old ≡ V.position view.old }
     ensures attacks { IfOk result (λ a. AreAttacks R.KIND (V.position view.old) a) }
+    ensures standing { has_five_lem R.KIND (V.position view.old) (other (mover (V.position view.old))) ≡ false
+        → has_standing_double R.KIND (V.position view.old) ≡ true → IfOk result IsDoubleTold }
     ensures same { V.position view.new ≡ V.position view.old }
     ensures same_board { board.new ≡ board.old }
 {
@@ -89,7 +94,7 @@ pub fn find_attacks<R: Rule, V: Seen<R>>(
     }
 }
 
-/// A double point that goes on, if there is one. Neither side has a five point. These points make two.
+/// A double point that goes on, if one of these points does, which make two. Neither side has a five point.
 fn find_double<R: Rule, V: Seen<R>>(
     alloc: Global,
     view: &mut V,
@@ -99,7 +104,10 @@ fn find_double<R: Rule, V: Seen<R>>(
     requires none { has_five_lem R.KIND (V.position view.old) (mover (V.position view.old)) ≡ false }
     requires safe { has_five_lem R.KIND (V.position view.old) (other (mover (V.position view.old))) ≡ false }
     requires copy { board.old ≡ V.position view.old }
+    requires twos { All (λ p. makes_two_lem R.KIND (V.position view.old) (mover (V.position view.old)) p ≡ true) twos.now }
     ensures double { IfOk result (λ found. IfSome found (IsDoubleWin R.KIND (V.position view.old))) }
+    ensures none { IfOk result (λ found. IfNone found (list_any (λ p. goes_on_lem (outcome_lem R.KIND (V.position view.old) p)) twos.now
+        ≡ false)) }
     ensures same { V.position view.new ≡ V.position view.old }
     ensures same_board { board.new ≡ board.old }
 {

@@ -4,7 +4,7 @@
 //! reply took the first.
 #![tactic(auto)]
 
-ghost use Rattle.std.specs.Prelude.{◌≡◌, ◌≤◌, ◌+◌, ◌&&◌, not, ℕ, false, All, IfOk, IfSome, IsTrue};
+ghost use Rattle.std.specs.Prelude.{◌≡◌, ◌≤◌, ◌+◌, ◌&&◌, not, ℕ, false, All, IfOk, IfSome, IfNone, IsTrue};
 ghost use Rattle.game_rules.specs.Grid.{Grid, is_empty, points_of};
 ghost use Rattle.game_rules.specs.Shapes.{is_same_point};
 ghost use Rattle.game_rules.specs.Play.{IsPosition, outcome as outcome_lem, mover, after, goes_on as goes_on_lem};
@@ -12,6 +12,7 @@ ghost use Rattle.game_rules.specs.declared.Outcome.{Outcome};
 ghost use Rattle.game_rules.specs.Games.{has_five as has_five_lem};
 ghost use Rattle.strategy_compiler.specs.Growth.{Writes};
 ghost use Rattle.threat_game.specs.Attacks.{LeavesBoth, IsDoubleWin, IsKept};
+ghost use Rattle.threat_game.specs.NearDoubles.{makes_two};
 ghost use Rattle.threat_game.specs.Replies.{answer_nodes, has_reply_at, has_reply_beside, replies_at};
 ghost use Rattle.threat_game.specs.Wins.{IsThreatWin};
 
@@ -36,7 +37,8 @@ pub struct Double {
     pub second: Point,
 }
 
-/// The double point at an empty point whose stone leaves two five points or more, if it does. The board is as before.
+/// The double point at an empty point whose stone leaves two five points or more: there is none only where it doesn't. The board is as
+/// before.
 pub fn double_at<R: Rule>(
     alloc: Global,
     board: &mut Board,
@@ -46,6 +48,7 @@ pub fn double_at<R: Rule>(
     requires empty { IsTrue (is_empty board.old at) }
     ensures both { IfOk result (λ found. IfSome found (LeavesBoth R.KIND board.old side)) }
     ensures here { IfOk result (λ found. IfSome found (λ d. d.at ≡ at)) }
+    ensures told { IfOk result (λ found. IfNone found (makes_two R.KIND board.old side at ≡ false)) }
     ensures same { board.new ≡ board.old }
 {
     board.put(at, side);
