@@ -65,31 +65,33 @@ module _ (limit : ℕ) (kind : RuleKind) (b : Grid) (t : List Node) (bad given :
   pub lost-made : IsLostStart kind limit b u a
   lost-made = beaten-replies-win kind limit b t bad u a none beaten (subst (λ (rs : List Reply). IsMadeOfAnswers t rs u a) same made)
 
-  pub lost-text : (moves : ℕ) → moves ≡ start_depth u a → (text : List ℕ)
+  pub lost-text : length u ≤ most_nodes limit b → (moves : ℕ) → moves ≡ start_depth u a → (text : List ℕ)
       → IsTextOfTable (record { kind = kind; board = b; table = u; root = Defend a; moves = moves }) text
       → IsLostText limit (file_at kind b) text
-  lost-text moves deep text written = record {
+  lost-text few moves deep text written = record {
     table = u;
     start = a;
     accepted = lost-made.accepted;
     within = lost-made.within;
     different = made.different;
     reached = made.reached;
+    few = few;
     written = subst (λ (m : ℕ). IsTextOfTable (record { kind = kind; board = b; table = u; root = Defend a; moves = m }) text) deep written;
   }
 
 -- where no move holds, the text of that start is what is said
 pub lost-says : {E : Type 0} (limit nodes : ℕ) (rule : RuleKind) (p : Grid) (r : Result Answer E) (b : Grid) (t : List Node)
     (bad : List Reply) → b ≡ p → defences_of rule limit p ≡ [] → None ≡ first_spent rule limit nodes p → AreBeaten rule limit p t bad
-    → IfOk r (λ a. a.status ≡ Done)
-    → IfOk r (λ a. (limit : ℕ) → defences_of rule limit b ≡ [] → AreBeaten rule limit b t bad
+    → length t ≤ most_nodes limit p → IfOk r (λ a. a.status ≡ Done)
+    → IfOk r (λ a. (limit : ℕ) → defences_of rule limit b ≡ [] → AreBeaten rule limit b t bad → length t ≤ most_nodes limit b
     → IsLostText limit (file_at rule b) a.text) → IfOk r (λ a. DefenceSays limit nodes (file_at rule p) a.status a.text)
-lost-says limit nodes rule p (Err e) b t bad there none enough beaten done text = tt
-lost-says limit nodes rule p (Ok a) b t bad there none enough beaten done text =
-    let at : (limit : ℕ) → defences_of rule limit p ≡ [] → AreBeaten rule limit p t bad → IsLostText limit (file_at rule p) a.text =
-    subst (λ (c : Grid). (limit : ℕ) → defences_of rule limit c ≡ [] → AreBeaten rule limit c t bad
+lost-says limit nodes rule p (Err e) b t bad there none enough beaten short done text = tt
+lost-says limit nodes rule p (Ok a) b t bad there none enough beaten short done text =
+    let at : (limit : ℕ) → defences_of rule limit p ≡ [] → AreBeaten rule limit p t bad → length t ≤ most_nodes limit p
+    → IsLostText limit (file_at rule p) a.text =
+    subst (λ (c : Grid). (limit : ℕ) → defences_of rule limit c ≡ [] → AreBeaten rule limit c t bad → length t ≤ most_nodes limit c
     → IsLostText limit (file_at rule c) a.text) there text in
-    inr (inl (record { enough = sym enough; none = none; ends = done; lost = at limit none beaten }))
+    inr (inl (record { enough = sym enough; none = none; ends = done; lost = at limit none beaten short }))
 
 -- ---- a new compiler has room
 

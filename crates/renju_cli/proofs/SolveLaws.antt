@@ -1,5 +1,5 @@
 -- The command `solve`: its words, its answers, and what its statuses show.
-use Rattle.std.proofs.Common.{◌≡◌, true, inl, inr, sym, ap, subst, ◌∙◌, ◌⊎◌, ℕ, List, arith}
+use Rattle.std.proofs.Common.{◌≡◌, true, inl, inr, sym, ap, subst, ◌∙◌, ◌⊎◌, ℕ, List, length, arith}
 use Rattle.std.specs.Prelude.{IfSome}
 use Rattle.game_rules.specs.Games.{WinsWithin, has_five}
 use Rattle.game_rules.proofs.Games.{WinsUnder-more}
@@ -46,20 +46,22 @@ silent number other e = grind arith
 module _ (limit nodes : ℕ) (run : Run) where
   module _ (file : PositionFile) (text : List ℕ) (whole : Takes run.output.before text run.output.after) where
     -- the table that is written wins within the limit
-    writes : IsWonByAStep limit nodes file → IsWinText limit file text → WritesSolution limit nodes file run.output
-    writes way win = record {
+    writes : (win : IsWinText limit file text) → IsWonByAStep limit nodes file (length win.table)
+        → WritesSolution limit nodes file run.output
+    writes win way = record {
       text = text;
-      way = way;
       win = win;
+      way = way;
       whole = whole;
       wins = WinsUnder-more (λ c s. true) file.kind win.moves limit file.board win.within
           (subst (λ (n : ℕ). WinsWithin file.kind n file.board) win.deep
           (accepted-wins file.kind win.table (last win.table) file.board win.accepted));
     }
 
-    done-solved : run.status ≡ 0 → IsWonByAStep limit nodes file → IsWinText limit file text → IsSolved limit nodes file run
-    done-solved here way win = record {
-      won = λ e. writes way win;
+    done-solved : run.status ≡ 0 → (win : IsWinText limit file text) → IsWonByAStep limit nodes file (length win.table)
+        → IsSolved limit nodes file run
+    done-solved here win way = record {
+      won = λ e. writes win way;
       none = λ (e : run.status ≡ 9). absurd (let no : 0 ≡ 9 = sym here ∙ e in cc);
       spent = λ (e : run.status ≡ 5). absurd (let no : 0 ≡ 5 = sym here ∙ e in cc);
       full = λ (e : run.status ≡ 12). absurd (let no : 0 ≡ 12 = sym here ∙ e in cc);
@@ -70,11 +72,12 @@ module _ (limit nodes : ℕ) (run : Run) where
 
     solved-by : (status : Status) → run.status ≡ status_number status → SolutionSays limit nodes file status text
         → IsSolved limit nodes file run
-    solved-by status ends (inl first) = done-solved (ends ∙ ap status_number first.found.ends)
-        (inl (first-won limit nodes file status text first.found)) first.win
-    solved-by status ends (inr (inl line)) = done-solved (ends ∙ ap status_number line.ends) (inr (inl line.along)) line.win
-    solved-by status ends (inr (inr (inl threats))) = done-solved (ends ∙ ap status_number threats.ends) (inr (inr threats.by_threats))
-        threats.win
+    solved-by status ends (inl first) = done-solved (ends ∙ ap status_number first.found.ends) first.win
+        (inl (first-won limit nodes file status text first.found, first.few))
+    solved-by status ends (inr (inl line)) = done-solved (ends ∙ ap status_number line.ends) line.win
+        (inr (inl (line.along, line.few)))
+    solved-by status ends (inr (inr (inl threats))) = done-solved (ends ∙ ap status_number threats.ends) threats.win
+        (inr (inr (threats.by_threats, threats.few)))
     solved-by status ends (inr (inr (inr (inl unwon)))) =
         let here = ends ∙ ap status_number unwon.ends in
         record {

@@ -9,6 +9,7 @@ use Rattle.strategy_graph.specs.Tables.{Answers, named, start_depth}
 use Rattle.strategy_graph.specs.Acceptance.{AcceptedStart}
 use Rattle.strategy_compiler.specs.Walks.{AreDifferent, ReachedFrom}
 use Rattle.defence_finder.specs.Defences.{defences_of, first_spent, SufficesAfterEach, IsShortAfter}
+use Rattle.defence_finder.specs.Answers.{most_nodes}
 use Rattle.defence_finder.specs.Lines.{defences_text}
 use Rattle.text_lines.specs.Lines.{ended}
 use Rattle.text_lines.specs.Spellings.{point_text}
@@ -48,7 +49,7 @@ start_at file table start =
     record { kind = file.kind; board = file.board; table = table; root = Defend start; moves = start_depth table start }
 
 -- The text is that of a table at the position whose start is accepted there, is no deeper than the limit, and reaches each node; no
--- two nodes are equal.
+-- two nodes are equal, and there are at most two for each empty point and each move of the limit.
 pub record IsLostText (limit : ℕ) (file : PositionFile) (text : List ℕ) : Type 0 where
   pub table : List Node
   pub start : Answers
@@ -56,6 +57,7 @@ pub record IsLostText (limit : ℕ) (file : PositionFile) (text : List ℕ) : Ty
   pub within : start_depth table start ≤ limit
   pub different : AreDifferent table
   pub reached : (k : ℕ) → k < length table → ReachedFrom table (named start) k
+  pub few : length table ≤ most_nodes limit file.board
   pub written : IsTextOfTable (start_at file table start) text
 
 -- the budget is enough after each move, and some move holds: those that hold are listed

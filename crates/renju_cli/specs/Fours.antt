@@ -1,5 +1,5 @@
 -- The command `fours`: its words, what it says of its input, and what its statuses 0, 9 and 5 show.
-use Rattle.std.specs.Prelude.{◌≡◌, ◌⊎◌, ℕ, ◌*◌, ◌≤◌, ◌<◌, List, [], ◌∷◌, codes, Option, IfSome}
+use Rattle.std.specs.Prelude.{◌≡◌, ◌⊎◌, ℕ, ◌*◌, ◌≤◌, ◌<◌, List, [], ◌∷◌, length, codes, Option, IfSome}
 use Rattle.std.specs.Fmt.{decimal}
 use Rattle.game_rules.specs.Games.{WinsByFours}
 use Rattle.strategy_graph.specs.declared.Node.{Node}
@@ -31,12 +31,13 @@ abbrev pub none_line : List ℕ
 none_line = ended (codes "none")
 
 -- The table of the plan of a win by fours with so many moves: its last node is accepted at the position, is as deep as the
--- win has moves, and has at most so many arrivals for each of them as the board has points.
+-- win has moves, and has at most so many arrivals for each of them as the board has points. It has at most two nodes for each.
 pub record IsFourTable (file : PositionFile) (moves : ℕ) (table : List Node) : Type 0 where
   pub plan : IsTableOf (four_plan file.kind moves file.board) table
   pub accepted : Accepted file.kind table (last table) file.board
   pub deep : depth table (last table) ≡ moves
   pub short : arrivals file.kind table (last table) file.board ≤ file.board.width * file.board.height * moves
+  pub few : length table ≤ 2 * moves
 
 -- the table, with its last node as root, at the position
 abbrev pub table_at : PositionFile → ℕ → List Node → TableFile

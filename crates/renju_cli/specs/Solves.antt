@@ -1,7 +1,9 @@
 -- The command `solve`: its words, what it says of its input, and what its statuses show.
-use Rattle.std.specs.Prelude.{◌≡◌, ◌⊎◌, ℕ, ◌≤◌, ◌<◌, min, true, List, [], ◌∷◌, length, codes, Option, Some, IfSome}
+use Rattle.std.specs.Prelude.{◌≡◌, ◌⊎◌, ℕ, ◌*◌, ◌≤◌, ◌<◌, min, true, List, [], ◌∷◌, length, codes, Option, Some, IfSome}
 use Rattle.std.specs.Fmt.{decimal}
 use Rattle.game_rules.specs.Games.{WinsByFours, WinsByThreats, WinsWithin}
+use Rattle.game_rules.specs.Grid.{Grid}
+use Rattle.game_rules.specs.declared.RuleKind.{RuleKind}
 use Rattle.game_rules.specs.declared.Point.{Point}
 use Rattle.strategy_graph.specs.declared.Node.{Node}
 use Rattle.strategy_graph.specs.declared.TheConstants.{MAX_NODES}
@@ -13,12 +15,15 @@ use Rattle.threat_moves.specs.declared.threat_list.Threat.{Threat}
 use Rattle.threat_space.specs.declared.TheConstants.{MAX_LENGTH}
 use Rattle.line_proof.specs.Lines.{line_wins, line_tree}
 use Rattle.threat_game.specs.ThreatGame.{threat_tree}
+use Rattle.threat_game.specs.Wins.{IsThreatWin}
 use Rattle.text_lines.specs.Lines.{ended}
 use Rattle.position_files.specs.declared.PositionFile.{PositionFile}
 use Rattle.position_files.specs.Tables.{IsTextOfTable}
 use Rattle.renju_io.specs.Told.{Takes}
 use Rattle.renju_cli.specs.declared.status.Status.{Status}
 use Rattle.renju_cli.specs.declared.status.Status.TheVariants.{Done, Spent, NotFound, Full}
+use Rattle.renju_cli.specs.declared.solve.Searched.{Searched}
+use Rattle.renju_cli.specs.declared.solve.Searched.TheVariants.{Win, None as NoWin, Spent as OverBudget, Full as NoRoom}
 use Rattle.renju_cli.specs.Statuses.{status_number}
 use Rattle.renju_cli.specs.Texts.{spent_line}
 use Rattle.renju_cli.specs.Runs.{Change, Run}
@@ -66,16 +71,18 @@ pub record IsWinText (limit : ℕ) (file : PositionFile) (text : List ℕ) : Typ
   pub reached : (i : ℕ) → i < length table → Reaches table (last table) i
   pub written : IsTextOfTable (table_at file moves table) text
 
--- the win of the first step is what `fours` writes
+-- the win of the first step is what `fours` writes: its table has at most two nodes for each move
 pub record IsFirstWin (limit nodes : ℕ) (file : PositionFile) (status : Status) (text : List ℕ) : Type 0 where
   pub found : IsFoundWin limit nodes file status text
   pub win : IsWinText limit file text
+  pub few : length win.table ≤ 2 * limit
 
--- the first step has no win, and that of the second is written
+-- the first step has no win, and that of the second is written, in no more nodes than a proof of it may need
 pub record IsLineWin (limit nodes : ℕ) (file : PositionFile) (status : Status) (text : List ℕ) : Type 0 where
   pub later : ¬ IsWonByFours limit nodes file
   pub along : IsWonByLine limit nodes file
   pub win : IsWinText limit file text
+  pub few : length win.table ≤ line_tree file.kind along.line limit file.board
   pub ends : status ≡ Done
 
 -- no win of the first two steps
@@ -83,11 +90,13 @@ pub record IsLeftOver (limit nodes : ℕ) (file : PositionFile) : Type 0 where
   pub no_fours : ¬ IsWonByFours limit nodes file
   pub no_line : ¬ IsWonByLine limit nodes file
 
--- the first two steps have no win, there is one by threats, and it is written
+-- the first two steps have no win, there is one by threats, and it is written, in no more nodes than positions may be counted: the
+-- lesser of the budget and of those of the game of threats
 pub record IsThreatsWin (limit nodes : ℕ) (file : PositionFile) (status : Status) (text : List ℕ) : Type 0 where
   pub left : IsLeftOver limit nodes file
   pub by_threats : WinsByThreats file.kind limit file.board
   pub win : IsWinText limit file text
+  pub few : length win.table ≤ min nodes (threat_tree file.kind limit file.board)
   pub ends : status ≡ Done
 
 -- the first two steps have no win, and there is none by threats
@@ -128,6 +137,19 @@ SolutionSays limit nodes file status text =
     ⊎ IsUndecided limit nodes file status text
     ⊎ IsTooGreat limit nodes file status text
 
+-- the text is that of a win, and its table has at most so many nodes
+abbrev pub IsShortWinText : ℕ → ℕ → PositionFile → List ℕ → Type 0
+IsShortWinText limit most file text = (win : IsWinText limit file text) × (length win.table ≤ most)
+
+-- What a search for a win by threats within so many moves, with so many positions to look at, comes to. The compiler of a win has no
+-- more nodes than positions may be counted.
+abbrev pub IsToldByThreats : RuleKind → ℕ → ℕ → Grid → Searched → Type 0
+IsToldByThreats rule limit nodes b (Win compiler win) =
+    IsThreatWin rule limit b compiler win × (length compiler ≤ min nodes (threat_tree rule limit b))
+IsToldByThreats rule limit nodes b NoWin = ¬ WinsByThreats rule limit b
+IsToldByThreats rule limit nodes b OverBudget = nodes < threat_tree rule limit b
+IsToldByThreats rule limit nodes b NoRoom = MAX_NODES < min nodes (threat_tree rule limit b)
+
 -- the words `solve DEPTH NODES`, with both numbers in decimal without leading zeros
 abbrev pub solve_words : ℕ → ℕ → List (List ℕ)
 solve_words depth nodes = codes "solve" ∷ decimal depth ∷ decimal nodes ∷ []
@@ -143,17 +165,21 @@ solve_command depth nodes = record {
   IsAnswer = λ status. (status ≡ Done) ⊎ (status ≡ NotFound) ⊎ (status ≡ Full);
 }
 
--- The side to move wins within the limit by fours, or along its first sequence of threats, for whose search the budget is enough,
--- or by threats whatever the order.
-abbrev pub IsWonByAStep : ℕ → ℕ → PositionFile → Type 0
-IsWonByAStep limit nodes file = IsWonByFours limit nodes file ⊎ IsWonByLine limit nodes file ⊎ WinsByThreats file.kind limit file.board
+-- The side to move wins within the limit in one of the ways that are searched, and so many nodes are no more than that way may need: by
+-- fours, two for each move; along its first sequence of threats, for whose search the budget is enough, those of a proof; or by
+-- threats whatever the order, one for each position that may be counted, of which there are no more than the budget.
+abbrev pub IsWonByAStep : ℕ → ℕ → PositionFile → ℕ → Type 0
+IsWonByAStep limit nodes file count =
+    (IsWonByFours limit nodes file × (count ≤ 2 * limit))
+    ⊎ ((along : IsWonByLine limit nodes file) × (count ≤ line_tree file.kind along.line limit file.board))
+    ⊎ (WinsByThreats file.kind limit file.board × (count ≤ min nodes (threat_tree file.kind limit file.board)))
 
 -- The output took the text of a table whose last node is accepted, whole, and the side to move wins within the limit, in one of the
--- ways that are searched.
+-- ways that are searched, for which the table has no more nodes than it may need.
 pub record WritesSolution (limit nodes : ℕ) (file : PositionFile) (output : Change (Option (List ℕ))) : Type 0 where
   pub text : List ℕ
-  pub way : IsWonByAStep limit nodes file
   pub win : IsWinText limit file text
+  pub way : IsWonByAStep limit nodes file (length win.table)
   pub whole : Takes output.before text output.after
   pub wins : WinsWithin file.kind limit file.board
 

@@ -4,10 +4,10 @@
 //! there is none, the nodes that answer all moves make a start, and its table is one that `check` accepts.
 #![tactic(auto)]
 
-ghost use Rattle.std.specs.Prelude.{◌≡◌, ◌≤◌, ◌∷◌, [], ℕ, codes, map, IfOk, MatchOption, string_bytes};
+ghost use Rattle.std.specs.Prelude.{◌≡◌, ◌≤◌, ◌∷◌, [], ℕ, codes, length, map, IfOk, MatchOption, string_bytes};
 ghost use Rattle.game_rules.specs.Play.{IsPosition};
 ghost use Rattle.defence_finder.specs.Defences.{defences_of};
-ghost use Rattle.defence_finder.specs.Answers.{AreBeaten};
+ghost use Rattle.defence_finder.specs.Answers.{AreBeaten, most_nodes};
 ghost use Rattle.defence_finder.specs.Lines.{defences_text};
 ghost use Rattle.renju_cli.specs.Commands.{IsForm, HasForm};
 ghost use Rattle.renju_cli.specs.Defends.{DefenceSays, IsLostText, spent_after_line};
@@ -97,7 +97,8 @@ fn listed(alloc: Global, good: &Points) -> Result<Answer, AllocError>
     Ok(Answer::written(Status::Done, write_defences(alloc, good)?))
 }
 
-/// The table of the other side's win, as a text, where no move holds and these answer all that go on.
+/// The table of the other side's win, as a text, where no move holds and these answer all that go on. It is no longer than the
+/// compiler.
 fn lost(
     alloc: Global,
     kind: RuleKind,
@@ -109,7 +110,7 @@ fn lost(
         × AreBeaten kind limit board.now compiler bad.now }
     ensures status { IfOk result (λ answer. answer.status ≡ Status.Done) }
     ensures text { IfOk result (λ answer. (limit : ℕ) → defences_of kind limit board.now ≡ []
-        → AreBeaten kind limit board.now compiler bad.now
+        → AreBeaten kind limit board.now compiler bad.now → length compiler ≤ most_nodes limit board.now
         → IsLostText limit (record { kind = kind; board = board.now }) answer.text) }
 {
     let (table, start) = compiler.finish_start(bad.as_slice())?;

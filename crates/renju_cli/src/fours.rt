@@ -4,12 +4,12 @@
 //! `check` accepts.
 #![tactic(auto)]
 
-ghost use Rattle.std.specs.Prelude.{◌≡◌, ◌≤◌, ◌∷◌, ℕ, codes, map, IfOk, MatchOption, string_bytes};
+ghost use Rattle.std.specs.Prelude.{◌≡◌, ◌≤◌, ◌*◌, ◌∷◌, ℕ, codes, length, map, IfOk, MatchOption, string_bytes};
 ghost use Rattle.strategy_compiler.specs.Wins.{IsWrittenWin};
 ghost use Rattle.four_search.specs.Answers.{IsFourWin};
 ghost use Rattle.renju_cli.specs.Commands.{IsForm, HasForm};
 ghost use Rattle.renju_cli.specs.Fours.{SearchSays, IsFourText, none_line};
-ghost use Rattle.renju_cli.specs.Solves.{IsWinText};
+ghost use Rattle.renju_cli.specs.Solves.{IsShortWinText};
 
 use crate::answer::{Answer, spent};
 use crate::numbers::two_counts;
@@ -17,11 +17,9 @@ use crate::positions::AtPosition;
 use crate::{Form, MAX_SEARCHED, Status};
 use foul_judge::Position;
 use four_search::{FourAnswer, MAX_DEPTH, four_search};
-use game_rules::RuleKind;
 use position_files::write_table;
 use row_shapes::Rule;
 use std::alloc::{AllocError, Global};
-use stone_board::Board;
 use strategy_compiler::{Compiler, SearchError, WrittenWin};
 use strategy_graph::Root;
 
@@ -70,10 +68,7 @@ fn search<R: Rule>(
     let mut view = position;
     let mut compiler = Compiler::new(alloc);
     match four_search::<R, Position<R>>(alloc, &mut view, depth, nodes, &mut compiler) {
-        Ok(FourAnswer::Win(win)) => {
-            let board = view.into_board();
-            win_text(alloc, R::KIND, &board, compiler, win)
-        }
+        Ok(FourAnswer::Win(win)) => win_text(alloc, view, compiler, win),
         Ok(FourAnswer::None) => Ok(none()),
         Ok(FourAnswer::Spent) => Ok(spent()),
         Err(SearchError::Full) => unreachable!(),
@@ -81,24 +76,25 @@ fn search<R: Rule>(
     }
 }
 
-/// The table of a win, as a text: by fours, or any.
-pub(crate) fn win_text(
+/// The table of a win at the position, as a text: by fours, where the compiler has at most two nodes for each move, or any. It is no
+/// longer than the compiler.
+pub(crate) fn win_text<R: Rule>(
     alloc: Global,
-    kind: RuleKind,
-    board: &Board,
+    position: Position<R>,
     compiler: Compiler,
     win: WrittenWin,
 ) -> Result<Answer, AllocError>
-    requires win { (limit : ℕ) × (limit ≤ MAX_DEPTH) × IsWrittenWin kind limit board.now compiler win }
+    requires win { (limit : ℕ) × (limit ≤ MAX_DEPTH) × IsWrittenWin R.KIND limit position compiler win }
     ensures status { IfOk result (λ answer. answer.status ≡ Status.Done) }
-    ensures text { IfOk result (λ answer. (limit : ℕ) → IsFourWin kind limit board.now compiler win
-        → IsFourText limit (record { kind = kind; board = board.now }) answer.text) }
-    ensures shown { IfOk result (λ answer. (limit : ℕ) → IsWrittenWin kind limit board.now compiler win
-        → IsWinText limit (record { kind = kind; board = board.now }) answer.text) }
+    ensures text { IfOk result (λ answer. (limit : ℕ) → IsFourWin R.KIND limit position compiler win → length compiler ≤ 2 * win.moves
+        → IsFourText limit (record { kind = R.KIND; board = position }) answer.text) }
+    ensures shown { IfOk result (λ answer. (limit : ℕ) → IsWrittenWin R.KIND limit position compiler win
+        → IsShortWinText limit (length compiler) (record { kind = R.KIND; board = position }) answer.text) }
 {
+    let board = position.into_board();
     let table = compiler.finish_win(win)?;
     let root = Root::Attack(table.len() - 1);
-    let bytes = write_table(alloc, kind, board, &table, &root, win.moves)?;
+    let bytes = write_table(alloc, R::KIND, &board, &table, &root, win.moves)?;
     Ok(Answer::written(Status::Done, bytes))
 }
 

@@ -6,11 +6,10 @@
 //! not told.
 #![tactic(auto)]
 
-ghost use Rattle.std.specs.Prelude.{◌≡◌, ◌≤◌, ◌∷◌, List, codes, map, IfOk, IfSome, MatchOption, string_bytes};
+ghost use Rattle.std.specs.Prelude.{◌≡◌, ◌≤◌, ◌∷◌, List, codes, map, IfOk, MatchOption, string_bytes};
 ghost use Rattle.threat_moves.specs.declared.threat_list.Threat.{Threat};
-ghost use Rattle.threat_game.specs.Wins.{IsThreatWin};
 ghost use Rattle.renju_cli.specs.Commands.{IsForm, HasForm};
-ghost use Rattle.renju_cli.specs.Solves.{SolutionSays, IsWonByFours, IsFirstLine, IsLeftOver, full_line};
+ghost use Rattle.renju_cli.specs.Solves.{SolutionSays, IsWonByFours, IsFirstLine, IsLeftOver, IsToldByThreats, full_line};
 
 use crate::answer::{Answer, spent};
 use crate::fours::{none, win_text};
@@ -75,10 +74,7 @@ fn by_fours<R: Rule>(
     let mut view = position;
     let mut compiler = Compiler::new(alloc);
     match four_search::<R, Position<R>>(alloc, &mut view, depth, nodes, &mut compiler) {
-        Ok(FourAnswer::Win(win)) => {
-            let board = view.into_board();
-            win_text(alloc, R::KIND, &board, compiler, win)
-        }
+        Ok(FourAnswer::Win(win)) => win_text(alloc, view, compiler, win),
         Ok(FourAnswer::None) => by_line(alloc, view, depth, nodes),
         Ok(FourAnswer::Spent) => by_line(alloc, view, depth, nodes),
         Err(SearchError::Full) => unreachable!(),
@@ -146,18 +142,14 @@ fn prove_first<R: Rule>(
     let mut view = position;
     let mut compiler = Compiler::new(alloc);
     match prove_line::<R, Position<R>>(alloc, &mut view, line, depth, &mut compiler) {
-        Ok(LineAnswer::Proved(win)) => {
-            let board = view.into_board();
-            win_text(alloc, R::KIND, &board, compiler, win)
-        }
+        Ok(LineAnswer::Proved(win)) => win_text(alloc, view, compiler, win),
         Ok(LineAnswer::Fails) => by_threats(alloc, view, depth, nodes),
         Err(SearchError::Full) => Ok(full()),
         Err(SearchError::Memory) => Err(AllocError),
     }
 }
 
-/// The third step. Many wins take fewer moves than they may, and within fewer there is less to be searched: so two thirds of the moves
-/// are searched first, and else what is found within all of them decides.
+/// The third step.
 fn by_threats<R: Rule>(
     alloc: Global,
     position: Position<R>,
@@ -172,92 +164,68 @@ fn by_threats<R: Rule>(
     ensures says { IfOk result (λ answer. SolutionSays depth nodes (record { kind = R.KIND; board = position }) answer.status answer.text) }
 {
     let mut view = position;
-    match sooner::<R>(alloc, &mut view, depth, nodes)? {
-        None => by_all_moves(alloc, view, depth, nodes),
-        Some(found) => {
-            let board = view.into_board();
-            win_text(alloc, R::KIND, &board, found.compiler, found.win)
-        }
+    match searched_in_turn::<R>(alloc, &mut view, depth, nodes)? {
+        Searched::Win { compiler, win } => win_text(alloc, view, compiler, win),
+        Searched::None => Ok(none()),
+        Searched::Spent => Ok(spent()),
+        Searched::Full => Ok(full()),
     }
 }
 
-/// A win by threats, and the compiler that has its node.
+/// What a search for a win by threats comes to: the win, with the compiler that has its node, or why there is none.
 #[derive(Drop)]
-struct ThreatWin {
-    compiler: Compiler,
-    win: WrittenWin,
+enum Searched {
+    Win { compiler: Compiler, win: WrittenWin },
+    None,
+    Spent,
+    Full,
 }
 
-/// A win by threats within two thirds of the moves, if these are fewer, and the budget is enough to find one.
-fn sooner<R: Rule>(
+/// What the search for a win by threats comes to. Many wins take fewer moves than they may, and within fewer there is less to be
+/// searched: so two thirds of the moves are searched first, and else what is found within all of them decides.
+fn searched_in_turn<R: Rule>(
     alloc: Global,
     view: &mut Position<R>,
     depth: u32,
     nodes: u64,
-) -> Result<Option<ThreatWin>, AllocError>
+) -> Result<Searched, AllocError>
     requires some_depth { 1 ≤ depth }
     requires depth_fits { depth ≤ MAX_DEPTH }
     requires some_nodes { 1 ≤ nodes }
     requires nodes_fit { nodes ≤ MAX_SEARCHED }
-    ensures win { IfOk result (λ found. IfSome found (λ f. IsThreatWin R.KIND depth view.old f.compiler f.win)) }
+    ensures told { IfOk result (IsToldByThreats R.KIND depth nodes view.old) }
     ensures same { view.new ≡ view.old }
 {
     if depth < 3 {
-        return Ok(None);
+        return searched_within::<R>(alloc, view, depth, nodes);
     }
-    win_within::<R>(alloc, view, depth - depth / 3, nodes)
+    match searched_within::<R>(alloc, view, depth - depth / 3, nodes)? {
+        Searched::Win { compiler, win } => Ok(Searched::Win { compiler, win }),
+        _ => searched_within::<R>(alloc, view, depth, nodes),
+    }
 }
 
-/// A win by threats within so many moves, if the budget is enough to find one.
-fn win_within<R: Rule>(
+/// What the search for a win by threats within so many moves comes to.
+fn searched_within<R: Rule>(
     alloc: Global,
     view: &mut Position<R>,
     moves: u32,
     nodes: u64,
-) -> Result<Option<ThreatWin>, AllocError>
+) -> Result<Searched, AllocError>
     requires some_moves { 1 ≤ moves }
     requires moves_fit { moves ≤ MAX_DEPTH }
     requires some_nodes { 1 ≤ nodes }
     requires nodes_fit { nodes ≤ MAX_SEARCHED }
-    ensures win { IfOk result (λ found. IfSome found (λ f. IsThreatWin R.KIND moves view.old f.compiler f.win)) }
+    ensures told { IfOk result (IsToldByThreats R.KIND moves nodes view.old) }
     ensures same { view.new ≡ view.old }
 {
     let mut compiler = Compiler::new(alloc);
     let mut tree = ProofTree::new(alloc)?;
     match proof_number::<R, Position<R>>(alloc, view, moves, nodes, &mut tree, &mut compiler) {
-        Ok(ProofAnswer::Win(win)) => Ok(Some(ThreatWin { compiler, win })),
-        Ok(ProofAnswer::None) => Ok(None),
-        Ok(ProofAnswer::Spent) => Ok(None),
-        Err(SearchError::Full) => Ok(None),
-        Err(SearchError::Memory) => Err(AllocError),
-    }
-}
-
-/// What the search for a win by threats within all moves comes to, whose answer decides.
-fn by_all_moves<R: Rule>(
-    alloc: Global,
-    position: Position<R>,
-    depth: u32,
-    nodes: u64,
-) -> Result<Answer, AllocError>
-    requires some_depth { 1 ≤ depth }
-    requires depth_fits { depth ≤ MAX_DEPTH }
-    requires some_nodes { 1 ≤ nodes }
-    requires nodes_fit { nodes ≤ MAX_SEARCHED }
-    requires left { IsLeftOver depth nodes (record { kind = R.KIND; board = position }) }
-    ensures says { IfOk result (λ answer. SolutionSays depth nodes (record { kind = R.KIND; board = position }) answer.status answer.text) }
-{
-    let mut view = position;
-    let mut compiler = Compiler::new(alloc);
-    let mut tree = ProofTree::new(alloc)?;
-    match proof_number::<R, Position<R>>(alloc, &mut view, depth, nodes, &mut tree, &mut compiler) {
-        Ok(ProofAnswer::Win(win)) => {
-            let board = view.into_board();
-            win_text(alloc, R::KIND, &board, compiler, win)
-        }
-        Ok(ProofAnswer::None) => Ok(none()),
-        Ok(ProofAnswer::Spent) => Ok(spent()),
-        Err(SearchError::Full) => Ok(full()),
+        Ok(ProofAnswer::Win(win)) => Ok(Searched::Win { compiler, win }),
+        Ok(ProofAnswer::None) => Ok(Searched::None),
+        Ok(ProofAnswer::Spent) => Ok(Searched::Spent),
+        Err(SearchError::Full) => Ok(Searched::Full),
         Err(SearchError::Memory) => Err(AllocError),
     }
 }

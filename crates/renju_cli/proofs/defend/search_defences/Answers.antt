@@ -1,4 +1,4 @@
-use Rattle.std.proofs.Common.{◌≡◌, ◌<◌, ◌+◌, ◌∙◌, sym, ap, subst, List, [], None, length, arith}
+use Rattle.std.proofs.Common.{◌≡◌, ◌<◌, ◌≤◌, ◌+◌, ◌∙◌, sym, ap, subst, List, [], None, length, arith}
 use Rattle.std.specs.Prelude.{Err, IfOk, ℕ}
 use Rattle.game_rules.proofs.Common.{IsBoard}
 use Rattle.game_rules.specs.declared.RuleKind.{RuleKind}
@@ -11,6 +11,7 @@ use Rattle.defence_finder.specs.declared.finder.DefenceAnswer.{DefenceAnswer}
 use Rattle.renju_cli.specs.Defends.{IsLostText}
 use Rattle.renju_cli.proofs.DefendLaws.{few-nodes, lost-says}
 use Rattle.renju_cli.proofs.PositionLaws.{file_at}
+use Rattle.renju_cli.proofs.Searches.{new-few}
 use Rattle.renju_cli.proofs.defend.search_defences.Goals as goal
 
 -- a new compiler has room for what may be added
@@ -46,11 +47,14 @@ returns-else-len-gt0 g c =
     let few = c.if-len-gt0.false in
     let none : defences_of rule n p ≡ [] = sym good_are ∙ no_points good (omega (arith, count, few)) in
     let there = c.into_board-board.ensures.board ∙ c.defences.ensures.same in
+    let short : length t ≤ most_nodes n p =
+    new-few c.new-compiler.result t (most_nodes n p) c.new-compiler.ensures.empty c.in-Ok-Known.ensures.writes.grows in
     let text : IfOk c.lost.result (λ a. (limit : ℕ) → defences_of rule limit b ≡ [] → AreBeaten rule limit b t bad
-    → IsLostText limit (file_at rule b) a.text) =
+    → length t ≤ most_nodes limit b → IsLostText limit (file_at rule b) a.text) =
     subst (λ (k : RuleKind). IfOk c.lost.result (λ a. (limit : ℕ) → defences_of k limit b ≡ [] → AreBeaten k limit b t bad
-    → IsLostText limit (file_at k b) a.text))
+    → length t ≤ most_nodes limit b → IsLostText limit (file_at k b) a.text))
     c.KIND.ensures c.lost.ensures.text in
     record {
-      says = lost-says n c.args.nodes rule p c.lost.result b t bad there none enough beaten c.lost.ensures.status text;
+      says = lost-says n c.args.nodes rule p c.lost.result b t bad there none enough beaten short
+          c.lost.ensures.status text;
     }

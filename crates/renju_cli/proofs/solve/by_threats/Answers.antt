@@ -1,35 +1,64 @@
-use Rattle.std.proofs.Common.{◌∙◌, subst, ap, sym, ℕ, List}
-use Rattle.std.specs.Prelude.{IfOk, IfSome, Option}
+use Rattle.std.proofs.Common.{inr, sym, subst}
 use Rattle.game_rules.specs.Grid.{Grid}
-use Rattle.game_rules.specs.declared.RuleKind.{RuleKind}
 use Rattle.strategy_compiler.specs.Wins.{IsWrittenWin}
-use Rattle.threat_game.specs.Wins.{IsThreatWin}
-use Rattle.renju_cli.specs.Solves.{IsLeftOver, IsWinText}
-use Rattle.renju_cli.specs.declared.solve.ThreatWin.{ThreatWin}
+use Rattle.renju_cli.specs.declared.solve.Searched.{Searched}
+use Rattle.renju_cli.specs.Solves.{IsToldByThreats}
 use Rattle.renju_cli.proofs.PositionLaws.{file_at}
-use Rattle.renju_cli.proofs.Solutions.{threats-says}
+use Rattle.renju_cli.proofs.Solutions.{threats-says, unwon-says, undecided-says, full-says}
 use Rattle.renju_cli.proofs.solve.by_threats.Goals as goal
 
-pub returns-in-Some : goal.returns-in-Some
-returns-in-Some g c =
+pub win_text-requires : goal.win_text-requires
+win_text-requires g c =
     let rule = g.R.Rule.KIND in
-    let p = c.args.position in
-    let b = c.into_board-board.result in
-    let found : ThreatWin = c.in-Some.found in
-    let there = c.into_board-board.ensures.board ∙ c.sooner.ensures.same in
-    let is : IsThreatWin rule c.args.depth p found.compiler found.win =
-    subst (λ (o : Option ThreatWin). IfSome o (λ f. IsThreatWin rule c.args.depth p f.compiler f.win)) c.in-Some.is
-    c.in_ok-sooner.ensures.win in
-    let shown : IfOk c.win_text.result
-    (λ a. (limit : ℕ) → IsWrittenWin rule limit b found.compiler found.win → IsWinText limit (file_at rule b) a.text) =
-    subst (λ (k : RuleKind). IfOk c.win_text.result
-    (λ a. (limit : ℕ) → IsWrittenWin k limit b found.compiler found.win → IsWinText limit (file_at k b) a.text)) c.KIND.ensures
-    c.win_text.ensures.shown in
+    let is = subst (λ (s : Searched). IsToldByThreats rule c.args.depth c.args.nodes c.args.position s) c.in-Win.is
+    c.in_ok-compiler.ensures.told in
     record {
-      says = threats-says c.win_text.result c.args.depth c.args.nodes rule p b there found.compiler found.win is c.requires.left
-          c.win_text.ensures.status shown;
+      win = (
+        c.args.depth,
+        c.requires.depth_fits,
+        subst (λ (b : Grid). IsWrittenWin rule c.args.depth b c.in-Win.compiler c.in-Win.win) (sym c.searched_in_turn.ensures.same)
+            is.0.written,
+      );
     }
 
-pub by_all_moves-requires-clause-left : goal.by_all_moves-requires-clause-left
-by_all_moves-requires-clause-left g c =
-    subst (λ (b : Grid). IsLeftOver c.args.depth c.args.nodes (file_at g.R.Rule.KIND b)) (sym c.sooner.ensures.same) c.requires.left
+pub returns-in-Win : goal.returns-in-Win
+returns-in-Win g c =
+    let rule = g.R.Rule.KIND in
+    let p = c.args.position in
+    let is = subst (λ (s : Searched). IsToldByThreats rule c.args.depth c.args.nodes p s) c.in-Win.is
+    c.in_ok-compiler.ensures.told in
+    record {
+      says = threats-says c.win_text.result c.args.depth c.args.nodes rule p c.searched_in_turn.new.view
+          c.searched_in_turn.ensures.same c.in-Win.compiler c.in-Win.win is c.requires.left c.win_text.ensures.status
+          c.win_text.ensures.shown;
+    }
+
+pub returns-in-None : goal.returns-in-None
+returns-in-None g c =
+    let rule = g.R.Rule.KIND in
+    let none = subst (λ (s : Searched). IsToldByThreats rule c.args.depth c.args.nodes c.args.position s) c.in-None.is
+    c.in_ok-compiler.ensures.told in
+    record {
+      says = unwon-says c.none.result c.args.depth c.args.nodes (file_at rule c.args.position) c.requires.left none
+          c.none.ensures.status c.none.ensures.text;
+    }
+
+pub returns-in-Spent : goal.returns-in-Spent
+returns-in-Spent g c =
+    let rule = g.R.Rule.KIND in
+    let more = subst (λ (s : Searched). IsToldByThreats rule c.args.depth c.args.nodes c.args.position s) c.in-Spent.is
+    c.in_ok-compiler.ensures.told in
+    record {
+      says = undecided-says c.spent.result c.args.depth c.args.nodes (file_at rule c.args.position) c.requires.left more
+          c.spent.ensures.status c.spent.ensures.text;
+    }
+
+pub returns-in-Full : goal.returns-in-Full
+returns-in-Full g c =
+    let rule = g.R.Rule.KIND in
+    let above = subst (λ (s : Searched). IsToldByThreats rule c.args.depth c.args.nodes c.args.position s) c.in-Full.is
+    c.in_ok-compiler.ensures.told in
+    record {
+      says = full-says c.full.result c.args.depth c.args.nodes (file_at rule c.args.position) c.requires.left.no_fours (inr above)
+          c.full.ensures.status c.full.ensures.text;
+    }
