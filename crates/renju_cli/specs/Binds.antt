@@ -17,7 +17,7 @@ use Rattle.renju_cli.specs.declared.status.Status.{Status}
 use Rattle.renju_cli.specs.declared.status.Status.TheVariants.{Done, Full}
 use Rattle.renju_cli.specs.Statuses.{status_number}
 use Rattle.renju_cli.specs.Runs.{Change, Run, HasFailed, IsDelivered, IsOutOfMemory, HasNoFault, IsAskedNoMore, IsUnasked}
-use Rattle.renju_cli.specs.Forms.{Command, HasWords}
+use Rattle.renju_cli.specs.Forms.{Command}
 use Rattle.renju_cli.specs.Checks.{IsTableAt}
 use Rattle.renju_cli.specs.Brains.{IsFileName, IsFit, IsUnheld, TableFileSays}
 use Rattle.renju_cli.specs.Solves.{full_line}
@@ -165,5 +165,5 @@ pub record ShowsBound (names : List (List ℕ)) (shelf : Files) (run : Run) : Ty
 -- The headline of the binder: what status 0 of `bind` shows, where the shelf tells its files.
 abbrev pub ShowsBinding : Run → Type 0
 ShowsBinding run =
-    (names : List (List ℕ)) → HasWords run.words (bind_words names) (AreNames names) → run.status ≡ status_number Done
+    (names : List (List ℕ)) → run.words ≡ bind_words names → AreNames names → run.status ≡ 0
     → IfSome run.shelf.before (λ shelf. ShowsBound names shelf run)

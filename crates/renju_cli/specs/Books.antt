@@ -19,13 +19,12 @@ use Rattle.table_book.specs.Holding.{IsAccepted, IsHoldFault, entry_arrivals}
 use Rattle.renju_io.specs.Told.{Takes}
 use Rattle.renju_cli.specs.declared.status.Status.{Status}
 use Rattle.renju_cli.specs.declared.status.Status.TheVariants.{Done, RefusedText, RefusedTable, Spent, Memory}
-use Rattle.renju_cli.specs.Statuses.{status_number}
 use Rattle.renju_cli.specs.Texts.{spent_line}
 use Rattle.renju_cli.specs.Runs.{Change, Run}
-use Rattle.renju_cli.specs.Forms.{HasWords}
 use Rattle.renju_cli.specs.Told.{ToldCommand}
 use Rattle.renju_cli.specs.Refusals.{bad_line, refusal_line}
-use Rattle.renju_cli.specs.Checks.{IsWork, refused_table_line, why_word}
+use Rattle.renju_cli.specs.declared.TheConstants.{MAX_WORK}
+use Rattle.renju_cli.specs.Checks.{refused_table_line, why_word}
 
 -- a book of which each entry is accepted: their number, and all arrivals
 abbrev pub accepted_book_line : ℕ → ℕ → List ℕ
@@ -111,7 +110,7 @@ AreWithin work book = AllByRecursion (λ e. entry_arrivals book.table e ≤ work
 abbrev pub book_command : ℕ → ToldCommand
 book_command work = record {
   words = book_words work;
-  in_range = IsWork work;
+  in_range = (1 ≤ work) × (work ≤ MAX_WORK);
   Says = BookSays work;
   IsAnswerable = λ input. (book : Book) × IsBookAt book input × AreWithin work book;
   IsAnswer = λ status. (status ≡ Done) ⊎ (status ≡ RefusedTable);
@@ -136,5 +135,5 @@ pub record IsWonBook (work : ℕ) (bytes : List ℕ) (output : Change (Option (L
 -- The headline of `book`: where it answers 0, and the input tells its bytes, each entry of the book is accepted and wins.
 abbrev pub ShowsBook : Run → Type 0
 ShowsBook run =
-    (work : ℕ) → HasWords run.words (book_words work) (IsWork work) → run.status ≡ status_number Done
+    (work : ℕ) → run.words ≡ book_words work → 1 ≤ work → work ≤ MAX_WORK → run.status ≡ 0
     → IfSome run.input.before (λ bytes. IsWonBook work bytes run.output)

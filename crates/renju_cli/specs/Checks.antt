@@ -15,10 +15,8 @@ use Rattle.renju_io.specs.Told.{Takes}
 use Rattle.renju_cli.specs.declared.status.Status.{Status}
 use Rattle.renju_cli.specs.declared.status.Status.TheVariants.{Done, RefusedTable, Spent}
 use Rattle.renju_cli.specs.declared.TheConstants.{MAX_WORK}
-use Rattle.renju_cli.specs.Statuses.{status_number}
 use Rattle.renju_cli.specs.Texts.{spent_line}
 use Rattle.renju_cli.specs.Runs.{Change, Run}
-use Rattle.renju_cli.specs.Forms.{HasWords}
 use Rattle.renju_cli.specs.Told.{ToldCommand}
 use Rattle.renju_cli.specs.Refusals.{IsRefusedText}
 
@@ -83,16 +81,12 @@ CheckSays work input status text =
 abbrev pub check_words : ℕ → List (List ℕ)
 check_words work = codes "check" ∷ decimal work ∷ []
 
--- WORK is from 1 to MAX_WORK
-abbrev pub IsWork : ℕ → Type 0
-IsWork work = (1 ≤ work) × (work ≤ MAX_WORK)
-
 -- `check WORK`. It answers for a table at a lawful position with its number of moves and no more arrivals than are allowed:
 -- it accepts it or refuses it.
 abbrev pub check_command : ℕ → ToldCommand
 check_command work = record {
   words = check_words work;
-  in_range = IsWork work;
+  in_range = (1 ≤ work) × (work ≤ MAX_WORK);
   Says = CheckSays work;
   IsAnswerable = λ input. (file : TableFile) × IsTableAt file input × (root_arrivals file.kind file.table file.root file.board ≤ work);
   IsAnswer = λ status. (status ≡ Done) ⊎ (status ≡ RefusedTable);
@@ -113,5 +107,5 @@ pub record IsAcceptedInput (work : ℕ) (bytes : List ℕ) (output : Change (Opt
 
 -- The headline of the checker: where `check` answers 0, and the input tells its bytes, they are accepted.
 abbrev pub ShowsWin : Run → Type 0
-ShowsWin run = (work : ℕ) → HasWords run.words (check_words work) (IsWork work) → run.status ≡ status_number Done
+ShowsWin run = (work : ℕ) → run.words ≡ check_words work → 1 ≤ work → work ≤ MAX_WORK → run.status ≡ 0
     → IfSome run.input.before (λ bytes. IsAcceptedInput work bytes run.output)

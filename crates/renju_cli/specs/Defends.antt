@@ -21,7 +21,6 @@ use Rattle.renju_cli.specs.declared.status.Status.{Status}
 use Rattle.renju_cli.specs.declared.status.Status.TheVariants.{Done, Spent}
 use Rattle.renju_cli.specs.Statuses.{status_number}
 use Rattle.renju_cli.specs.Runs.{Change, Run}
-use Rattle.renju_cli.specs.Forms.{HasWords}
 use Rattle.renju_cli.specs.Told.{IsYielded}
 use Rattle.renju_cli.specs.Positions.{PositionCommand}
 use Rattle.renju_cli.specs.Searches.{ShowsOfPosition}
@@ -130,5 +129,5 @@ pub record IsJudgedDefence (limit nodes : ℕ) (file : PositionFile) (run : Run)
 -- The headline of `defend`: what its statuses show, where the input tells its bytes.
 abbrev pub ShowsDefence : Run → Type 0
 ShowsDefence run =
-    (depth nodes : ℕ) → HasWords run.words (defend_words depth nodes) (AreLimits depth nodes)
+    (depth nodes : ℕ) → run.words ≡ defend_words depth nodes → AreLimits depth nodes
     → IfSome run.input.before (ShowsOfPosition (SpeaksOfDefence run.status) (λ file. IsJudgedDefence depth nodes file run))

@@ -10,7 +10,7 @@ use Rattle.renju_cli.specs.declared.TheConstants.{MAX_DRILL}
 use Rattle.renju_cli.specs.declared.status.Status.TheVariants.{Done}
 use Rattle.renju_cli.specs.Statuses.{status_number}
 use Rattle.renju_cli.specs.Runs.{Change, Run, HasFailed, IsUnasked, IsDelivered, IsOutOfMemory}
-use Rattle.renju_cli.specs.Forms.{Command, HasWords}
+use Rattle.renju_cli.specs.Forms.{Command}
 
 -- The lines
 
@@ -83,4 +83,4 @@ pub record ShowsCounts (n : ℕ) (run : Run) : Type 0 where
 
 -- The headline of the drill.
 abbrev pub ShowsDrill : Run → Type 0
-ShowsDrill run = (n : ℕ) → HasWords run.words (drill_words n) (n ≤ MAX_DRILL) → run.status ≡ status_number Done → ShowsCounts n run
+ShowsDrill run = (n : ℕ) → run.words ≡ drill_words n → n ≤ MAX_DRILL → run.status ≡ 0 → ShowsCounts n run

@@ -22,7 +22,6 @@ use Rattle.renju_cli.specs.declared.status.Status.TheVariants.{Done, Spent, NotF
 use Rattle.renju_cli.specs.declared.TheConstants.{MAX_SEARCHED}
 use Rattle.renju_cli.specs.Texts.{spent_line}
 use Rattle.renju_cli.specs.Runs.{Change, Run}
-use Rattle.renju_cli.specs.Forms.{HasWords}
 use Rattle.renju_cli.specs.Positions.{PositionCommand}
 use Rattle.renju_cli.specs.Searches.{SpeaksOfPosition, IsSearched, ShowsOfPosition}
 
@@ -110,5 +109,5 @@ IsSearchedByFours limit nodes file run =
 -- The headline of the search: what the statuses of `fours` show, where the input tells its bytes.
 abbrev pub ShowsSearch : Run → Type 0
 ShowsSearch run =
-    (depth nodes : ℕ) → HasWords run.words (fours_words depth nodes) (AreLimits depth nodes)
+    (depth nodes : ℕ) → run.words ≡ fours_words depth nodes → AreLimits depth nodes
     → IfSome run.input.before (ShowsOfPosition (SpeaksOfPosition run.status) (λ file. IsSearchedByFours depth nodes file run))

@@ -23,7 +23,6 @@ use Rattle.brain_session.specs.TurnLines.{AnswersInBytes}
 use Rattle.renju_cli.specs.declared.status.Status.TheVariants.{Done, ReadFault, WriteFault}
 use Rattle.renju_cli.specs.Statuses.{status_number}
 use Rattle.renju_cli.specs.Runs.{Run, HasFailed}
-use Rattle.renju_cli.specs.Forms.{HasWords}
 use Rattle.renju_cli.specs.Brains.{brain_words, brain_with_words, IsFileName, nothing_held, held_by, held_with, HeldFile, NamedRoot}
 use Rattle.renju_cli.specs.Brains.{IsSession, IsUnbegun, GivesHeld}
 
@@ -117,7 +116,7 @@ pub record ShowsGames (name : List ℕ) (files : Files) (run : Run) : Type 0 whe
 -- The headline of the brain: what `brain FILE` shows of the games that it plays by FILE, where the shelf tells its files.
 abbrev pub ShowsHeldGames : Run → Type 0
 ShowsHeldGames run =
-    (name : List ℕ) → HasWords run.words (brain_with_words name) (IsFileName name)
+    (name : List ℕ) → run.words ≡ brain_with_words name → IsFileName name
     → IfSome run.shelf.before (λ files. ShowsGames name files run)
 
 -- a brain that holds nothing served the input, so that lines were answered, unless memory ran out before; and each game by a win of
@@ -130,7 +129,7 @@ pub record PlaysOwnWins (run : Run) : Type 0 where
 -- What `brain` and `brain FILE` show of the games that the brain plays by wins of its own, of which those of `brain FILE` are games of a
 -- brain that holds what a FILE gives.
 pub record ShowsOwnGames (run : Run) : Type 0 where
-  pub alone : HasWords run.words brain_words (Unit {0}) → PlaysOwnWins run
-  pub with_file : (name : List ℕ) → HasWords run.words (brain_with_words name) (IsFileName name)
+  pub alone : run.words ≡ brain_words → PlaysOwnWins run
+  pub with_file : (name : List ℕ) → run.words ≡ brain_with_words name → IsFileName name
       → IfSome run.shelf.before (λ files. (file : HeldFile) → GivesHeld name files file → (asked : List Asked)
       → OwnGamesGoWellIn (held_by file) asked)

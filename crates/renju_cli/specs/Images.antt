@@ -12,9 +12,7 @@ use Rattle.board_symmetry.specs.declared.symmetry.Symmetry.TheVariants.{AntiDiag
 use Rattle.renju_io.specs.Told.{Takes}
 use Rattle.renju_cli.specs.declared.status.Status.{Status}
 use Rattle.renju_cli.specs.declared.status.Status.TheVariants.{Done, RefusedText}
-use Rattle.renju_cli.specs.Statuses.{status_number}
 use Rattle.renju_cli.specs.Runs.{Run, Change}
-use Rattle.renju_cli.specs.Forms.{HasWords}
 use Rattle.renju_cli.specs.Told.{ToldCommand}
 use Rattle.renju_cli.specs.Refusals.{IsRefusedText}
 use Rattle.renju_cli.specs.Checks.{IsTableAt}
@@ -87,5 +85,5 @@ pub record IsImagedInput (s : Symmetry) (bytes : List ℕ) (output : Change (Opt
 -- The headline of `image`: where it answers 0, and the input tells its bytes, the output took the image.
 abbrev pub ShowsImage : Run → Type 0
 ShowsImage run =
-    (s : Symmetry) → HasWords run.words (image_words s) (Unit {0}) → run.status ≡ status_number Done
+    (s : Symmetry) → run.words ≡ image_words s → run.status ≡ 0
     → IfSome run.input.before (λ bytes. IsImagedInput s bytes run.output)

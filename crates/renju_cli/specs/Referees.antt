@@ -27,9 +27,8 @@ use Rattle.renju_io.specs.Files.{Files}
 use Rattle.renju_io.specs.declared.TheConstants.{MAX_INPUT_BYTES}
 use Rattle.renju_cli.specs.declared.status.Status.{Status}
 use Rattle.renju_cli.specs.declared.status.Status.TheVariants.{Done}
-use Rattle.renju_cli.specs.Statuses.{status_number}
 use Rattle.renju_cli.specs.Runs.{Run, IsAskedOnly}
-use Rattle.renju_cli.specs.Forms.{Command, HasWords}
+use Rattle.renju_cli.specs.Forms.{Command}
 use Rattle.renju_cli.specs.Told.{AnswersTold, EndsTold, ToldCommand}
 use Rattle.renju_cli.specs.Refusals.{IsRefusedText}
 use Rattle.renju_cli.specs.Checks.{IsTableAt}
@@ -176,5 +175,5 @@ pub record ShowsGame (name : List ℕ) (files : Files) (input : List ℕ) (run :
 -- The headline of the referee: what status 0 of `referee FILE` shows, where the shelf tells its files and the input its bytes.
 abbrev pub ShowsReferee : Run → Type 0
 ShowsReferee run =
-    (name : List ℕ) → HasWords run.words (referee_with_words name) (IsFileName name) → run.status ≡ status_number Done
+    (name : List ℕ) → run.words ≡ referee_with_words name → IsFileName name → run.status ≡ 0
     → IfSome run.shelf.before (λ files. IfSome run.input.before (λ input. ShowsGame name files input run))

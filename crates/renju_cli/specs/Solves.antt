@@ -27,7 +27,6 @@ use Rattle.renju_cli.specs.declared.solve.Searched.TheVariants.{Win, None as NoW
 use Rattle.renju_cli.specs.Statuses.{status_number}
 use Rattle.renju_cli.specs.Texts.{spent_line}
 use Rattle.renju_cli.specs.Runs.{Change, Run}
-use Rattle.renju_cli.specs.Forms.{HasWords}
 use Rattle.renju_cli.specs.Told.{IsYielded}
 use Rattle.renju_cli.specs.Positions.{PositionCommand}
 use Rattle.renju_cli.specs.Searches.{ShowsOfPosition}
@@ -43,15 +42,12 @@ pub record IsWonByFours (limit nodes : ℕ) (file : PositionFile) : Type 0 where
   pub wins : WinsByFours file.kind limit file.board
   pub enough : four_cost file.kind limit file.board ≤ nodes
 
--- the most threats of a sequence that is searched within so many moves
-abbrev pub most_threats : ℕ → ℕ
-most_threats limit = min limit MAX_LENGTH
-
--- the threats of the first sequence of the side to move, for whose search the budget is enough
+-- the threats of the first sequence of the side to move of at most as many threats as moves, and no more than MAX_LENGTH, for whose
+-- search the budget is enough
 pub record IsFirstLine (limit nodes : ℕ) (file : PositionFile) (line : List Threat) : Type 0 where
   pub final : Point
-  pub first : sequence_at (most_threats limit) file ≡ Some (line, final)
-  pub enough : cost_at (most_threats limit) file ≤ nodes
+  pub first : sequence_at (min limit MAX_LENGTH) file ≡ Some (line, final)
+  pub enough : cost_at (min limit MAX_LENGTH) file ≤ nodes
 
 -- the win of the second step: the first sequence is found within the budget, and wins along its threats
 pub record IsWonByLine (limit nodes : ℕ) (file : PositionFile) : Type 0 where
@@ -204,5 +200,5 @@ pub record IsSolved (limit nodes : ℕ) (file : PositionFile) (run : Run) : Type
 -- The headline of the solver: what the statuses of `solve` show, where the input tells its bytes.
 abbrev pub ShowsSolution : Run → Type 0
 ShowsSolution run =
-    (depth nodes : ℕ) → HasWords run.words (solve_words depth nodes) (AreLimits depth nodes)
+    (depth nodes : ℕ) → run.words ≡ solve_words depth nodes → AreLimits depth nodes
     → IfSome run.input.before (ShowsOfPosition (SpeaksOfSolution run.status) (λ file. IsSolved depth nodes file run))

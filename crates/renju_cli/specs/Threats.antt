@@ -20,7 +20,6 @@ use Rattle.renju_cli.specs.declared.status.Status.TheVariants.{Done, Spent, NotF
 use Rattle.renju_cli.specs.declared.TheConstants.{MAX_SEARCHED}
 use Rattle.renju_cli.specs.Texts.{spent_line}
 use Rattle.renju_cli.specs.Runs.{Change, Run}
-use Rattle.renju_cli.specs.Forms.{HasWords}
 use Rattle.renju_cli.specs.Positions.{PositionCommand}
 use Rattle.renju_cli.specs.Searches.{SpeaksOfPosition, IsSearched, ShowsOfPosition}
 use Rattle.renju_cli.specs.Fours.{none_line}
@@ -116,5 +115,5 @@ IsSequenceSearched limit nodes file run = IsSearched (cost_at limit file) nodes 
 -- The headline of the search for sequences: what the statuses of `threats` show, where the input tells its bytes.
 abbrev pub ShowsSequence : Run → Type 0
 ShowsSequence run =
-    (limit nodes : ℕ) → HasWords run.words (threats_words limit nodes) (AreLengthAndNodes limit nodes)
+    (limit nodes : ℕ) → run.words ≡ threats_words limit nodes → AreLengthAndNodes limit nodes
     → IfSome run.input.before (ShowsOfPosition (SpeaksOfPosition run.status) (λ file. IsSequenceSearched limit nodes file run))
