@@ -1,14 +1,13 @@
--- The command `bind`: its words, how far its files are bound, its answers, and what its runs show.
+-- The command `bind`: how far its files are bound, its answers, and what its runs show.
 use Rattle.std.proofs.Common.{◌≡◌, ◌⊎◌, inl, inr, refl, sym, ap, subst, ◌∙◌, ℕ, zero, suc, ◌<◌, ◌≤◌, ◌+◌, List, [], ◌∷◌, ◌++◌, length, take}
-use Rattle.std.proofs.Common.{drop, get_or, map, arith, length-append, Result, Ok, Err, IfOk}
-use Rattle.std.specs.Prelude.{Option, Some, None, IfSome, codes}
+use Rattle.std.proofs.Common.{drop, get_or, map, arith, Result, Ok, Err, IfOk}
+use Rattle.std.specs.Prelude.{Option, Some, None, IfSome}
 use Rattle.std.specs.List.{AllByRecursion}
 use Rattle.strategy_graph.specs.declared.TheConstants.{MAX_NODES}
 use Rattle.strategy_compiler.specs.Unfolded.{HoldMore}
 use Rattle.position_files.specs.declared.TableFile.{TableFile}
 use Rattle.renju_io.specs.Faults.{HasRisen}
 use Rattle.renju_io.specs.Files.{Files, file_under}
-use Rattle.renju_io.specs.Told.{Takes}
 use Rattle.std.proofs.lemmas.Option.{same_Some}
 use Rattle.std.proofs.lemmas.List.{length-map, length-take-le, map_more, take_all}
 use Rattle.renju_io.specs.declared.TheConstants.{MAX_INPUT_BYTES}
@@ -16,35 +15,22 @@ use Rattle.table_book.specs.Books.{IsTextOfBook, IsWellFormed}
 use Rattle.renju_cli.specs.declared.answer.Answer.{Answer}
 use Rattle.table_book.specs.declared.Book.{Book}
 use Rattle.table_book.specs.declared.TheConstants.{MAX_ENTRIES}
-use Rattle.table_book.specs.Binding.{AreEntriesOf, IsBound, tables_of}
+use Rattle.table_book.specs.Binding.{IsBound, tables_of}
 use Rattle.table_book.proofs.Binding.{bound-few, bound-full, entries-count, hold-longer}
-use Rattle.renju_cli.specs.declared.TheConstants.{MAX_FILES}
-use Rattle.renju_cli.specs.declared.commands.Form.TheVariants.{Bind}
 use Rattle.renju_cli.specs.declared.status.Status.{Status}
 use Rattle.renju_cli.specs.declared.status.Status.TheVariants.{Done, Full}
 use Rattle.renju_cli.specs.Statuses.{status_number}
 use Rattle.renju_cli.specs.Runs.{Change, Run, IsDelivered, IsOutOfMemory, HasNoFault}
 use Rattle.renju_cli.specs.Checks.{IsTableAt}
 use Rattle.renju_cli.specs.Brains.{IsFileName, IsFit, IsLoaded, IsUnheld, TableFileSays}
-use Rattle.renju_cli.specs.Binds.{AreBindable, AreFew, AreNames, BindSays, HasBound, IsBind, IsBindable, IsBookFull, IsBookTold}
-use Rattle.renju_cli.specs.Binds.{IsFileRefused, IsUnhinderedBind, ShowsBound, StopsAt, TellsBook, bind_words, of_file, words_after}
+use Rattle.renju_cli.specs.Binds.{AreBindable, AreFew, AreNames, BindSays, HasBound, IsBind, IsBindable}
+use Rattle.renju_cli.specs.Binds.{IsUnhinderedBind, ShowsBound, StopsAt, TellsBook, of_file}
 use Rattle.renju_cli.specs.Binders.{BindsMore, IsAdded, IsAddedText}
 use Rattle.renju_cli.specs.Solves.{full_line}
-use Rattle.renju_cli.specs.Commands.{HasForm, IsForm}
-use Rattle.renju_cli.proofs.FormLaws.{after-name, has-told}
 use Rattle.renju_cli.proofs.ToldLaws.{where-told}
 use Rattle.renju_cli.proofs.BrainLaws.{not-told, table-not_told}
 use Rattle.renju_cli.proofs.CheckLaws.{one-table}
 use Rattle.renju_cli.proofs.GameLaws.{delivered-other, not-other, table_told-other, unheld-other}
-
--- ---- words
-
--- names are the words of a form, and other words have none
-pub names-form : (names : List (List ℕ)) → AreNames names → IsForm (codes "bind" ∷ names) Bind
-names-form names are = record { spelled = refl; in_range = are }
-
-pub no-bind : (names : List (List ℕ)) → (AreNames names → ⊥) → ¬ HasForm (codes "bind" ∷ names)
-no-bind names none h = let is = has-told (codes "bind" ∷ names) h in none is.in_range
 
 -- ---- files under names
 

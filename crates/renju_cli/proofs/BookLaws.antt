@@ -1,8 +1,7 @@
 -- The command `book`: its words, its answers, and what its status 0 shows.
 use Rattle.std.proofs.Common.{◌≡◌, inl, inr, refl, sym, subst, ◌∙◌, ◌⊎◌, ℕ, ◌-◌, ◌≤◌, List, [], ◌∷◌, arith}
-use Rattle.std.specs.Prelude.{codes, IfSome}
+use Rattle.std.specs.Prelude.{IfSome}
 use Rattle.std.specs.List.{AllByRecursion}
-use Rattle.std.specs.Fmt.{decimal}
 use Rattle.game_rules.proofs.Tests.{all_get}
 use Rattle.strategy_graph.specs.declared.Node.{Node}
 use Rattle.strategy_graph.specs.Roots.{RootWins}
@@ -17,23 +16,12 @@ use Rattle.table_book.specs.Holding.{IsAccepted, IsHoldFault, entry_arrivals}
 use Rattle.table_book.proofs.Soundness.{book-read-back}
 use Rattle.renju_cli.specs.declared.status.Status.{Status}
 use Rattle.renju_cli.specs.declared.status.Status.TheVariants.{Done, RefusedText, RefusedTable}
-use Rattle.renju_cli.specs.declared.TheConstants.{MAX_WORK}
 use Rattle.renju_cli.specs.Statuses.{status_number}
 use Rattle.renju_cli.specs.Runs.{Run}
 use Rattle.renju_cli.specs.Told.{IsTold}
 use Rattle.renju_cli.specs.Books.{AreAccepted, AreWithin, BookSays, EntriesSay, IsBookAt, IsRefusedBook, IsRefusedEntry, IsWonBook}
 use Rattle.renju_cli.specs.Books.{IsWonEntry, book_command, hold_refusal_status}
-use Rattle.renju_cli.specs.Commands.{HasForm}
-use Rattle.renju_cli.proofs.FormLaws.{has-told}
 use Rattle.renju_cli.proofs.ToldLaws.{done-told, other-status}
-
--- `book` and words that are no number in its range have no form
-pub no-book : (rest : List (List ℕ)) → ((work : ℕ) → (1 ≤ work) × (work ≤ MAX_WORK) → rest ≡ decimal work ∷ [] → ⊥)
-    → ¬ HasForm (codes "book" ∷ rest)
-no-book rest none h =
-    let is = has-told (codes "book" ∷ rest) h in
-    let spelled = is.spelled in
-    none _ is.in_range (cc)
 
 -- ---- one book
 

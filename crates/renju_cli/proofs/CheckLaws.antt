@@ -1,29 +1,17 @@
 -- The command `check`: its words, its answers, and what its status 0 shows.
-use Rattle.std.proofs.Common.{◌≡◌, inl, inr, sym, ap, subst, ◌∙◌, ◌⊎◌, ℕ, ◌≤◌, List, [], ◌∷◌, arith}
-use Rattle.std.specs.Prelude.{codes, IfSome}
-use Rattle.std.specs.Fmt.{decimal}
+use Rattle.std.proofs.Common.{◌≡◌, inl, inr, sym, ap, subst, ◌∙◌, ◌⊎◌, ℕ, ◌≤◌, List, arith}
+use Rattle.std.specs.Prelude.{IfSome}
 use Rattle.strategy_graph.specs.Roots.{root_arrivals, RootWins}
 use Rattle.position_files.specs.declared.TableFile.{TableFile}
 use Rattle.position_files.proofs.ReadBack.{table-read-back}
 use Rattle.renju_io.specs.Told.{Takes}
 use Rattle.renju_cli.specs.declared.status.Status.{Status}
 use Rattle.renju_cli.specs.declared.status.Status.TheVariants.{Done, RefusedText, RefusedTable, Spent}
-use Rattle.renju_cli.specs.declared.TheConstants.{MAX_WORK}
 use Rattle.renju_cli.specs.Statuses.{status_number}
 use Rattle.renju_cli.specs.Runs.{Run}
 use Rattle.renju_cli.specs.Told.{IsTold}
 use Rattle.renju_cli.specs.Checks.{accepted_line, IsTableAt, IsAcceptedTable, TableSays, CheckSays, check_command, IsAcceptedInput}
-use Rattle.renju_cli.specs.Commands.{HasForm}
-use Rattle.renju_cli.proofs.FormLaws.{has-told}
 use Rattle.renju_cli.proofs.ToldLaws.{done-told, other-status}
-
--- `check` and words that are no number in its range have no form
-pub no-check : (rest : List (List ℕ)) → ((work : ℕ) → (1 ≤ work) × (work ≤ MAX_WORK) → rest ≡ decimal work ∷ [] → ⊥)
-    → ¬ HasForm (codes "check" ∷ rest)
-no-check rest none h =
-    let is = has-told (codes "check" ∷ rest) h in
-    let spelled = is.spelled in
-    none _ is.in_range (cc)
 
 -- bytes are the text of one table at a lawful position with its number of moves
 pub one-table : (file other : TableFile) (bytes : List ℕ) → IsTableAt file bytes → IsTableAt other bytes → other ≡ file

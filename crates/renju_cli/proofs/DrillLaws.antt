@@ -1,23 +1,11 @@
--- The command `drill`: its words, when it answers, and what its status 0 shows.
-use Rattle.std.proofs.Common.{◌≡◌, ◌⊎◌, inl, inr, subst, ℕ, ◌≤◌, List, [], ◌∷◌, arith}
-use Rattle.std.specs.Prelude.{codes}
-use Rattle.std.specs.Fmt.{decimal}
-use Rattle.renju_cli.specs.declared.TheConstants.{MAX_DRILL}
+-- The command `drill`: when it answers, and what its status 0 shows.
+use Rattle.std.proofs.Common.{◌≡◌, ◌⊎◌, inl, inr, subst, ℕ, List, arith}
 use Rattle.renju_cli.specs.declared.status.Status.TheVariants.{Done}
 use Rattle.renju_io.specs.Told.{Takes}
 use Rattle.strength_drill.proofs.DrillCounts.{only-counts}
 use Rattle.renju_cli.specs.Statuses.{status_number}
 use Rattle.renju_cli.specs.Runs.{Run, IsDelivered, IsOutOfMemory}
 use Rattle.renju_cli.specs.Drills.{IsDrillText, EndsDrill, IsDrill, WritesDrill, AnswersDrill, ShowsCounts}
-use Rattle.renju_cli.specs.Commands.{HasForm}
-use Rattle.renju_cli.proofs.FormLaws.{has-told}
-
--- words whose first is `drill`, and whose others are no number in the range, have no form
-pub no-drill : (rest : List (List ℕ)) → ((n : ℕ) → n ≤ MAX_DRILL → rest ≡ decimal n ∷ [] → ⊥) → ¬ HasForm (codes "drill" ∷ rest)
-no-drill rest none h =
-    let is = has-told (codes "drill" ∷ rest) h in
-    let spelled = is.spelled in
-    none _ is.in_range (cc)
 
 -- what `drill` did in a run
 pub drill-answers : (n : ℕ) (run : Run) → IsDrill n run → AnswersDrill n run

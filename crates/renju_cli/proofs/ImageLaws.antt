@@ -1,6 +1,6 @@
--- The command `image`: its words, its answers, and what its status 0 shows.
-use Rattle.std.proofs.Common.{◌≡◌, inl, inr, sym, ap, subst, ◌∙◌, ◌⊎◌, ℕ, Bool, true, List, [], ◌∷◌, get_or, refl}
-use Rattle.std.specs.Prelude.{codes, IfSome}
+-- The command `image`: its answers, and what its status 0 shows.
+use Rattle.std.proofs.Common.{◌≡◌, inl, inr, sym, ap, subst, ◌∙◌, ℕ, Bool, true, List, refl}
+use Rattle.std.specs.Prelude.{IfSome}
 use Rattle.std.proofs.lemmas.Bool.{both_ways}
 use Rattle.game_rules.specs.Play.{IsPosition}
 use Rattle.game_rules.specs.Grid.{Grid}
@@ -24,17 +24,8 @@ use Rattle.renju_cli.specs.Statuses.{status_number}
 use Rattle.renju_cli.specs.Runs.{Run}
 use Rattle.renju_cli.specs.Told.{IsTold}
 use Rattle.renju_cli.specs.Checks.{IsTableAt}
-use Rattle.renju_cli.specs.Images.{symmetry_word, ImagedFileSays, ImageSays, image_command, IsImage, IsImagedInput}
-use Rattle.renju_cli.specs.Commands.{HasForm}
-use Rattle.renju_cli.proofs.FormLaws.{has-told, symmetry_told}
+use Rattle.renju_cli.specs.Images.{ImagedFileSays, ImageSays, image_command, IsImage, IsImagedInput}
 use Rattle.renju_cli.proofs.ToldLaws.{done-told}
-
--- `image` and words that are no symmetry's have no form
-pub no-image : (rest : List (List ℕ)) → ((s : Symmetry) → rest ≡ symmetry_word s ∷ [] → ⊥) → ¬ HasForm (codes "image" ∷ rest)
-no-image rest none h =
-    let is = has-told (codes "image" ∷ rest) h in
-    let spelled = is.spelled in
-    none (symmetry_told (get_or rest 0 [])) (cc)
 
 -- what is said of a text whose board the symmetry fits is an answer
 pub image-answers : (s : Symmetry) (bytes : List ℕ) → (image_command s).IsAnswerable bytes → (status : Status) (text : List ℕ)

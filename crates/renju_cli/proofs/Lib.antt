@@ -1,5 +1,4 @@
 mod Words
-mod FormLaws
 mod ToldLaws
 mod Searches
 mod CheckLaws
@@ -17,4 +16,6 @@ mod ImageLaws
 mod DefendLaws
 mod RefereeLaws
 mod BindLaws
+mod EachCommand
+mod FormLaws
 mod ReportLaws

@@ -1,5 +1,6 @@
--- The commands, by their forms of words.
-use Rattle.std.specs.Prelude.{ℕ, List}
+-- The commands, by their forms of words, and the line that tells them.
+use Rattle.std.specs.Prelude.{ℕ, List, codes}
+use Rattle.text_lines.specs.Lines.{ended}
 use Rattle.renju_cli.specs.declared.commands.Form.{Form}
 use Rattle.renju_cli.specs.declared.commands.Form.TheVariants.{Check, Foul, Fours, Threats, Solve, Brain, BrainWith, Drill, Referee}
 use Rattle.renju_cli.specs.declared.commands.Form.TheVariants.{RefereeWith, Image, Defend, Bind, Book}
@@ -43,3 +44,8 @@ IsForm words form = IsSpelled words (command words form)
 -- the words have some form
 abbrev pub HasForm : List (List ℕ) → Type 0
 HasForm words = (form : Form) × IsForm words form
+
+-- what words without a form are answered with
+abbrev pub usage_line : List ℕ
+usage_line = ended (codes
+    "usage: renju check WORK, foul, fours DEPTH NODES, threats LENGTH NODES, solve DEPTH NODES, brain [FILE], drill N, image SYMMETRY, referee [FILE], defend DEPTH NODES, bind FILE .., book WORK")

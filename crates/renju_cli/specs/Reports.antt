@@ -2,9 +2,8 @@
 use Rattle.std.specs.Prelude.{◌⊎◌}
 use Rattle.renju_cli.specs.declared.status.Status.TheVariants.{Usage}
 use Rattle.renju_cli.specs.declared.commands.Form.{Form}
-use Rattle.renju_cli.specs.Texts.{usage_line}
 use Rattle.renju_cli.specs.Runs.{Run, IsUnasked, IsDelivered}
-use Rattle.renju_cli.specs.Commands.{command, IsForm, HasForm}
+use Rattle.renju_cli.specs.Commands.{command, usage_line, IsForm, HasForm}
 
 -- the words have no form: the usage line is due, and input and shelf are not asked
 pub record IsUsage (run : Run) : Type 0 where

@@ -13,8 +13,3 @@ too_long_line = ended (codes "input too long")
 -- the shelf failed
 abbrev pub shelf_line : List ℕ
 shelf_line = ended (codes "shelf failed")
-
--- what words without a form are answered with
-abbrev pub usage_line : List ℕ
-usage_line = ended (codes
-    "usage: renju check WORK, foul, fours DEPTH NODES, threats LENGTH NODES, solve DEPTH NODES, brain [FILE], drill N, image SYMMETRY, referee [FILE], defend DEPTH NODES, bind FILE .., book WORK")

@@ -1,8 +1,16 @@
-use Rattle.std.proofs.Common.{◌≡◌, length, arith}
-use Rattle.std.specs.Prelude.{string_bytes}
+use Rattle.std.proofs.Common.{◌≡◌, ℕ, List, [], ◌∷◌, length, arith}
+use Rattle.std.specs.Prelude.{string_bytes, codes}
+use Rattle.renju_cli.specs.Commands.{HasForm}
 use Rattle.renju_cli.proofs.Words.{same-count}
-use Rattle.renju_cli.proofs.FoulLaws.{no-foul}
+use Rattle.renju_cli.proofs.FormLaws.{has-told}
 use Rattle.renju_cli.proofs.fouls.form.Goals as goal
+
+-- `foul` and other words have no form
+no-foul : (rest : List (List ℕ)) → (rest ≡ [] → ⊥) → ¬ HasForm (codes "foul" ∷ rest)
+no-foul rest some h =
+    let is = has-told (codes "foul" ∷ rest) h in
+    let spelled = is.spelled in
+    some (cc)
 
 -- some word
 pub returns-in_default : goal.returns-in_default

@@ -1,7 +1,91 @@
-use Rattle.renju_cli.proofs.ReportLaws.{report-won, report-searched, report-sequences, report-solved, report-games, report-own_games}
-use Rattle.renju_cli.proofs.ReportLaws.{report-drilled, report-complete, report-refereed, report-imaged, report-defended, report-booked}
-use Rattle.renju_cli.proofs.ReportLaws.{report-bound}
+-- What the statuses of each command show follows from the report of its run.
+use Rattle.std.proofs.Common.{◌≡◌, sym, ap, subst, ℕ, List}
+use Rattle.renju_cli.specs.declared.commands.Form.TheVariants.{Check, Fours, Threats, Solve, Brain, BrainWith, Drill, Image, Book}
+use Rattle.renju_cli.specs.declared.commands.Form.TheVariants.{RefereeWith, Defend, Bind}
+use Rattle.renju_cli.specs.Runs.{Run}
+use Rattle.renju_cli.specs.Forms.{HasWords}
+use Rattle.renju_cli.specs.Checks.{ShowsWin}
+use Rattle.renju_cli.specs.Fours.{ShowsSearch}
+use Rattle.renju_cli.specs.Threats.{ShowsSequence}
+use Rattle.renju_cli.specs.Solves.{ShowsSolution}
+use Rattle.renju_cli.specs.Brains.{brain_with_words, IsFileName, second_word, IsBrainWith}
+use Rattle.renju_cli.specs.Games.{ShowsHeldGames, ShowsOwnGames}
+use Rattle.renju_cli.specs.Drills.{ShowsDrill}
+use Rattle.renju_cli.specs.Images.{ShowsImage}
+use Rattle.renju_cli.specs.Referees.{referee_with_words, IsRefereeWith, ShowsReferee}
+use Rattle.renju_cli.specs.Defends.{ShowsDefence}
+use Rattle.renju_cli.specs.Binds.{AreNames, IsBind, ShowsBinding, bind_words, words_after}
+use Rattle.renju_cli.specs.Books.{ShowsBook}
+use Rattle.renju_cli.specs.Reports.{Report}
+use Rattle.renju_cli.proofs.CheckLaws.{check-won}
+use Rattle.renju_cli.proofs.FoursLaws.{fours-searched}
+use Rattle.renju_cli.proofs.ThreatsLaws.{threats-searched}
+use Rattle.renju_cli.proofs.SolveLaws.{solve-shown}
+use Rattle.renju_cli.proofs.GameLaws.{brain-plays, brain-plays-own, file-plays-own}
+use Rattle.renju_cli.proofs.DrillLaws.{drill-shown}
+use Rattle.renju_cli.proofs.ImageLaws.{image-shown}
+use Rattle.renju_cli.proofs.RefereeLaws.{referee-shown}
+use Rattle.renju_cli.proofs.DefendLaws.{defend-shown}
+use Rattle.renju_cli.proofs.BindLaws.{bind-shown}
+use Rattle.renju_cli.proofs.BookLaws.{book-shown}
+use Rattle.renju_cli.proofs.ReportLaws.{does-of, has_words, report-complete}
 use Rattle.renju_cli.proofs.run.run_renju.Goals as goal
+
+report-won : (run : Run) → Report run → ShowsWin run
+report-won run report work words low high zero = check-won work run zero (does-of run report (Check work) (has_words words (low, high)))
+
+report-games : (run : Run) → Report run → ShowsHeldGames run
+report-games run report name words range =
+    let second : second_word run.words ≡ name = ap second_word words in
+    let is : HasWords run.words (brain_with_words (second_word run.words)) (IsFileName (second_word run.words)) =
+    subst (λ (n : List ℕ). HasWords run.words (brain_with_words n) (IsFileName n)) (sym second) (has_words words range) in
+    brain-plays name run (subst (λ (n : List ℕ). IsBrainWith n run) second (does-of run report BrainWith is))
+
+report-own_games : (run : Run) → Report run → ShowsOwnGames run
+report-own_games run report = record {
+  alone = λ words. brain-plays-own run (does-of run report Brain (has_words words tt));
+  with_file = λ name words range. file-plays-own name run;
+}
+
+report-searched : (run : Run) → Report run → ShowsSearch run
+report-searched run report depth nodes words range =
+    fours-searched depth nodes run (does-of run report (Fours depth nodes) (has_words words range))
+
+report-drilled : (run : Run) → Report run → ShowsDrill run
+report-drilled run report n words range done = drill-shown n run (does-of run report (Drill n) (has_words words range)) done
+
+report-sequences : (run : Run) → Report run → ShowsSequence run
+report-sequences run report limit nodes words range =
+    threats-searched limit nodes run (does-of run report (Threats limit nodes) (has_words words range))
+
+report-solved : (run : Run) → Report run → ShowsSolution run
+report-solved run report depth nodes words range =
+    solve-shown depth nodes run (does-of run report (Solve depth nodes) (has_words words range))
+
+report-imaged : (run : Run) → Report run → ShowsImage run
+report-imaged run report s words zero = image-shown s run zero (does-of run report (Image s) (has_words words tt))
+
+report-defended : (run : Run) → Report run → ShowsDefence run
+report-defended run report depth nodes words range =
+    defend-shown depth nodes run (does-of run report (Defend depth nodes) (has_words words range))
+
+report-booked : (run : Run) → Report run → ShowsBook run
+report-booked run report work words low high done =
+    book-shown work run done (does-of run report (Book work) (has_words words (low, high)))
+
+report-refereed : (run : Run) → Report run → ShowsReferee run
+report-refereed run report name words range done =
+    let second : second_word run.words ≡ name = ap second_word words in
+    let is : HasWords run.words (referee_with_words (second_word run.words)) (IsFileName (second_word run.words)) =
+    subst (λ (n : List ℕ). HasWords run.words (referee_with_words n) (IsFileName n)) (sym second) (has_words words range) in
+    referee-shown name run (subst (λ (n : List ℕ). IsRefereeWith n run) second (does-of run report RefereeWith is)) done
+
+report-bound : (run : Run) → Report run → ShowsBinding run
+report-bound run report names words range done =
+    let after : words_after run.words ≡ names = ap words_after words in
+    let is : HasWords run.words (bind_words (words_after run.words)) (AreNames (words_after run.words)) =
+    subst (λ (ns : List (List ℕ)). HasWords run.words (bind_words ns) (AreNames ns)) (sym after) (has_words words range) in
+    bind-shown names run (subst (λ (ns : List (List ℕ)). IsBind ns run) after (does-of run report Bind is)) done
 
 -- all that holds of a run follows from its report
 pub returns : goal.returns

@@ -1,0 +1,124 @@
+-- What is proved of each command in turn: that its words tell its form, and that it answers where it is sure to.
+use Rattle.std.proofs.Common.{◌≡◌, refl, ap, ℕ, ◌≤◌, List, [], length, get_or, arith}
+use Rattle.std.specs.Prelude.{codes, if◌then◌else◌, nat_lt}
+use Rattle.std.specs.Str.{bytes_eq}
+use Rattle.std.specs.Str.Parse.{digits_value}
+use Rattle.std.specs.Fmt.{decimal}
+use Rattle.std.proofs.lemmas.Fmt.{decimal_is_IsNumeral}
+use Rattle.board_symmetry.specs.declared.symmetry.Symmetry.{Symmetry}
+use Rattle.board_symmetry.specs.declared.symmetry.Symmetry.TheVariants.{Identity, Half, FlipX, FlipY, Quarter, ThreeQuarter, Diagonal}
+use Rattle.board_symmetry.specs.declared.symmetry.Symmetry.TheVariants.{AntiDiagonal}
+use Rattle.renju_cli.specs.declared.commands.Form.{Form}
+use Rattle.renju_cli.specs.declared.commands.Form.TheVariants.{Check, Foul, Fours, Threats, Solve, Brain, BrainWith, Drill, Referee}
+use Rattle.renju_cli.specs.declared.commands.Form.TheVariants.{RefereeWith, Image, Defend, Bind, Book}
+use Rattle.renju_cli.specs.declared.TheConstants.{MAX_WORK}
+use Rattle.renju_cli.specs.Runs.{Run}
+use Rattle.renju_cli.specs.Commands.{command}
+use Rattle.renju_cli.specs.Checks.{check_command}
+use Rattle.renju_cli.specs.Fouls.{foul_command}
+use Rattle.renju_cli.specs.Fours.{fours_command}
+use Rattle.renju_cli.specs.Threats.{threats_command}
+use Rattle.renju_cli.specs.Solves.{solve_command}
+use Rattle.renju_cli.specs.Brains.{second_word}
+use Rattle.renju_cli.specs.Images.{image_command, symmetry_word}
+use Rattle.renju_cli.specs.Referees.{referee_command}
+use Rattle.renju_cli.specs.Defends.{defend_command}
+use Rattle.renju_cli.specs.Binds.{words_after}
+use Rattle.renju_cli.specs.Books.{book_command}
+use Rattle.renju_cli.proofs.ToldLaws.{answers-told}
+use Rattle.renju_cli.proofs.PositionLaws.{position-answers}
+use Rattle.renju_cli.proofs.CheckLaws.{check-answers}
+use Rattle.renju_cli.proofs.FoulLaws.{foul-answers}
+use Rattle.renju_cli.proofs.FoursLaws.{fours-answers}
+use Rattle.renju_cli.proofs.ThreatsLaws.{threats-answers}
+use Rattle.renju_cli.proofs.SolveLaws.{solve-answers}
+use Rattle.renju_cli.proofs.BrainLaws.{brain-answers, brain-with-answers}
+use Rattle.renju_cli.proofs.DrillLaws.{drill-answers}
+use Rattle.renju_cli.proofs.ImageLaws.{image-answers}
+use Rattle.renju_cli.proofs.RefereeLaws.{referee-answers, referee-with-answers}
+use Rattle.renju_cli.proofs.DefendLaws.{defend-answers}
+use Rattle.renju_cli.proofs.BindLaws.{bind-answers}
+use Rattle.renju_cli.proofs.BookLaws.{book-answers}
+
+-- the number that a word writes
+abbrev number_at : List (List ℕ) → ℕ → ℕ
+number_at words k = digits_value 10 (get_or words k [])
+
+-- the symmetry that a word tells, if it tells one
+abbrev pub symmetry_told : List ℕ → Symmetry
+symmetry_told word =
+    if bytes_eq word (codes "half") then Half
+    else (if bytes_eq word (codes "flip-x") then FlipX
+    else (if bytes_eq word (codes "flip-y") then FlipY
+    else (if bytes_eq word (codes "quarter") then Quarter
+    else (if bytes_eq word (codes "three-quarter") then ThreeQuarter
+    else (if bytes_eq word (codes "diagonal") then Diagonal
+    else (if bytes_eq word (codes "antidiagonal") then AntiDiagonal
+    else Identity))))))
+
+symmetry-spelled : (s : Symmetry) → symmetry_told (symmetry_word s) ≡ s
+symmetry-spelled Identity = refl
+symmetry-spelled Half = refl
+symmetry-spelled FlipX = refl
+symmetry-spelled FlipY = refl
+symmetry-spelled Quarter = refl
+symmetry-spelled ThreeQuarter = refl
+symmetry-spelled Diagonal = refl
+symmetry-spelled AntiDiagonal = refl
+
+-- the form that words tell, if they have one
+abbrev pub form_told : List (List ℕ) → Form
+form_told words =
+    if bytes_eq (get_or words 0 []) (codes "check") then Check (number_at words 1)
+    else (if bytes_eq (get_or words 0 []) (codes "fours") then Fours (number_at words 1) (number_at words 2)
+    else (if bytes_eq (get_or words 0 []) (codes "threats") then Threats (number_at words 1) (number_at words 2)
+    else (if bytes_eq (get_or words 0 []) (codes "solve") then Solve (number_at words 1) (number_at words 2)
+    else (if bytes_eq (get_or words 0 []) (codes "foul") then Foul
+    else (if bytes_eq (get_or words 0 []) (codes "drill") then Drill (number_at words 1)
+    else (if bytes_eq (get_or words 0 []) (codes "image") then Image (symmetry_told (get_or words 1 []))
+    else (if bytes_eq (get_or words 0 []) (codes "referee") then (if nat_lt 1 (length words) then RefereeWith else Referee)
+    else (if bytes_eq (get_or words 0 []) (codes "defend") then Defend (number_at words 1) (number_at words 2)
+    else (if bytes_eq (get_or words 0 []) (codes "bind") then Bind
+    else (if bytes_eq (get_or words 0 []) (codes "book") then Book (number_at words 1)
+    else (if nat_lt 1 (length words) then BrainWith else Brain)))))))))))
+
+number-written : (n : ℕ) → n ≤ MAX_WORK → digits_value 10 (decimal n) ≡ n
+number-written n few = let d = decimal_is_IsNumeral n (omega (arith, few)) in d.1
+
+two-written : (form : ℕ → ℕ → Form) (m n : ℕ) → m ≤ MAX_WORK → n ≤ MAX_WORK
+    → form (digits_value 10 (decimal m)) (digits_value 10 (decimal n)) ≡ form m n
+two-written form m n first second = let one = number-written m first in let two = number-written n second in λ i. form (one i) (two i)
+
+-- the words of a form tell it
+pub form-spelled : (words : List (List ℕ)) (form : Form) → (command words form).in_range → form_told (command words form).words ≡ form
+form-spelled words (Check work) range = ap Check (number-written work range.1)
+form-spelled words Foul range = refl
+form-spelled words Brain range = refl
+form-spelled words BrainWith range = refl
+form-spelled words (Image s) range = ap Image (symmetry-spelled s)
+form-spelled words Referee range = refl
+form-spelled words RefereeWith range = refl
+form-spelled words Bind range = refl
+form-spelled words (Book work) range = ap Book (number-written work range.1)
+form-spelled words (Drill number) range = ap Drill (number-written number (omega (arith, range)))
+form-spelled words (Fours depth nodes) range = two-written Fours depth nodes (omega (arith, range.1)) (omega (arith, range.3))
+form-spelled words (Threats limit nodes) range = two-written Threats limit nodes (omega (arith, range.1)) (omega (arith, range.3))
+form-spelled words (Solve depth nodes) range = two-written Solve depth nodes (omega (arith, range.1)) (omega (arith, range.3))
+form-spelled words (Defend depth nodes) range = two-written Defend depth nodes (omega (arith, range.1)) (omega (arith, range.3))
+
+-- a command that did what it does answered where it is sure to
+pub answers : (form : Form) (run : Run) → (command run.words form).Does run → (command run.words form).Answers run
+answers (Check work) run does = answers-told (check_command work) (check-answers work) run does
+answers Foul run does = position-answers foul_command foul-answers run does
+answers Brain run does = brain-answers run does
+answers BrainWith run does = brain-with-answers (second_word run.words) run does
+answers (Drill number) run does = drill-answers number run does
+answers Bind run does = bind-answers (words_after run.words) run does
+answers (Image s) run does = answers-told (image_command s) (image-answers s) run does
+answers Referee run does = answers-told referee_command referee-answers run does
+answers (Book work) run does = answers-told (book_command work) (book-answers work) run does
+answers RefereeWith run does = referee-with-answers (second_word run.words) run does
+answers (Fours depth nodes) run does = position-answers (fours_command depth nodes) (fours-answers depth nodes) run does
+answers (Threats limit nodes) run does = position-answers (threats_command limit nodes) (threats-answers limit nodes) run does
+answers (Solve depth nodes) run does = position-answers (solve_command depth nodes) (solve-answers depth nodes) run does
+answers (Defend depth nodes) run does = position-answers (defend_command depth nodes) (defend-answers depth nodes) run does
