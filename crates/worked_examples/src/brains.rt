@@ -204,9 +204,20 @@ pub fn serve(
     failing: &Failing<'_>,
     loads: &[u64],
 ) -> Result<Served, AllocError> {
+    let lines = Vec::from_slice(alloc, session.lines.as_bytes())?;
+    serve_lines(alloc, session, lines, failing, loads)
+}
+
+/// The same over other lines.
+fn serve_lines(
+    alloc: Global,
+    session: &Session,
+    lines: Vec<u8>,
+    failing: &Failing<'_>,
+    loads: &[u64],
+) -> Result<Served, AllocError> {
     let words = words_of(alloc, &session.words)?;
     let piece = if failing.piece == 0 { 1 } else { failing.piece };
-    let lines = Vec::from_slice(alloc, session.lines.as_bytes())?;
     let mut source = MemorySource::new(lines, piece, Vec::from_slice(alloc, failing.reads)?);
     let mut sink = MemorySink::new(alloc, failing.kept, Vec::from_slice(alloc, failing.writes)?);
     let mut shelf = shelf_of(alloc, session.file, loads)?;
@@ -223,17 +234,46 @@ pub fn serve(
     }
 }
 
+/// Devices that do not fail, of which the input gives one byte at each read.
+const SINGLE_BYTES: Failing<'static> = Failing {
+    piece: 1,
+    reads: &[],
+    writes: &[],
+    kept: 0,
+};
+
+/// The lines with a carriage return at the end of each.
+fn with_returns(alloc: Global, lines: &str) -> Result<Vec<u8>, AllocError> {
+    let mut bytes = Vec::new(alloc);
+    for byte in lines.as_bytes() {
+        if *byte == b'\n' {
+            bytes.push(b'\r')?;
+        }
+        bytes.push(*byte)?;
+    }
+    Ok(bytes)
+}
+
+/// As they stand, a byte at each read, and with carriage returns, as a manager sends them.
 #[test]
 fn sessions_are_answered(rt: HostRuntime) -> Result<(), Fail> {
+    let alloc = rt.alloc();
     for session in &SESSIONS {
         let name = session.name;
-        let served = serve(rt.alloc(), session, &SOUND, &[])?;
-        assert_eq!(rt;
-            served.run.output.as_slice(),
-            session.output.as_bytes(),
-            "{name}"
-        );
-        assert_eq!(rt; served.run.status, session.status, "{name}");
+        let lines = with_returns(alloc, session.lines)?;
+        let each = [
+            serve(alloc, session, &SOUND, &[])?,
+            serve(alloc, session, &SINGLE_BYTES, &[])?,
+            serve_lines(alloc, session, lines, &SOUND, &[])?,
+        ];
+        for served in &each {
+            assert_eq!(rt;
+                served.run.output.as_slice(),
+                session.output.as_bytes(),
+                "{name}"
+            );
+            assert_eq!(rt; served.run.status, session.status, "{name}");
+        }
     }
     Ok(())
 }
