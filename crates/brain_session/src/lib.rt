@@ -16,8 +16,6 @@ mod own_win;
 mod plain_move;
 mod round;
 mod sessions;
-#[cfg(test)]
-mod tests;
 mod under_rule;
 
 pub use batch::BatchStone;

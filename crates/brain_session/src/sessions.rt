@@ -154,6 +154,3 @@ fn answer<O: Sink>(
         Err(_) => Err(ServeError::Memory),
     }
 }
-
-#[cfg(test)]
-mod tests;

@@ -6,8 +6,6 @@
 #![tactic(auto)]
 
 mod finder;
-#[cfg(test)]
-mod tests;
 mod theorems;
 mod written;
 

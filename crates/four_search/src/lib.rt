@@ -12,8 +12,6 @@ mod memory;
 mod plan;
 mod root;
 mod search;
-#[cfg(test)]
-mod tests;
 
 pub use answer::{FourAnswer, finds_fours, four_search, four_search_with};
 pub use memory::FourMemory;

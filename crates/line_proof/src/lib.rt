@@ -9,8 +9,6 @@ mod answers;
 mod doubles;
 mod fives;
 mod proof;
-#[cfg(test)]
-mod tests;
 
 pub use proof::{LineAnswer, prove_line};
 pub use strategy_compiler::SearchError;

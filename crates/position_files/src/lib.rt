@@ -17,8 +17,6 @@ mod nodes;
 mod positions;
 mod sections;
 mod tables;
-#[cfg(test)]
-mod tests;
 mod theorems;
 mod words;
 mod writers;

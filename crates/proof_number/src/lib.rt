@@ -14,8 +14,6 @@ mod denials;
 mod notes;
 mod record;
 mod search;
-#[cfg(test)]
-mod tests;
 mod walk;
 
 pub use answer::{ProofAnswer, proof_number};

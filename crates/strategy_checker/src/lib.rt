@@ -11,8 +11,6 @@ mod held;
 mod meeting;
 mod others;
 mod outlook;
-#[cfg(test)]
-mod tests;
 mod walk;
 
 pub use checks::{check, check_root, check_start};

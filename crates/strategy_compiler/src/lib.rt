@@ -30,6 +30,3 @@ pub use theorems::{
 };
 pub use win_nodes::answer_node;
 pub use wins::WrittenWin;
-
-#[cfg(test)]
-mod tests;

@@ -12,8 +12,6 @@ mod entry_lines;
 mod error;
 mod holding;
 mod reading;
-#[cfg(test)]
-mod tests;
 mod theorems;
 mod writing;
 

@@ -12,8 +12,6 @@ mod five_points;
 mod gains;
 mod laws;
 mod moves;
-#[cfg(test)]
-mod tests;
 mod threat_list;
 
 pub use block::{BlockAnswer, by_block, forced};

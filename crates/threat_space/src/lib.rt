@@ -11,8 +11,6 @@ mod answer;
 mod boards;
 mod needs;
 mod pairs;
-#[cfg(test)]
-mod tests;
 mod walk;
 
 pub use answer::{SpaceAnswer, threat_space};

@@ -1,14 +1,14 @@
 //! Five points, four moves and their fates on worked positions. Expected values are from the rules by hand.
 
-use crate::{
-    BlockAnswer, FivePoints, ThreatKind, fives, fives_in_short, fives_made, forced, four_moves,
-    has_five, is_double_point, is_four_move, threats_at, three_moves,
-};
 use foul_judge::{Outcome, Position, Seen};
 use row_shapes::{ExactFive, Freestyle, Renju, Rule};
 use std::alloc::{AllocError, Global};
 use std::test::Fail;
 use stone_board::{Axis, Board, Point, Side};
+use threat_moves::{
+    BlockAnswer, FivePoints, ThreatKind, fives, fives_in_short, fives_made, forced, four_moves,
+    has_five, is_double_point, is_four_move, threats_at, three_moves,
+};
 
 fn at(x: u8, y: u8) -> Point {
     Point { x, y }

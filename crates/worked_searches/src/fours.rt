@@ -1,6 +1,6 @@
 //! Wins by fours on worked positions, with the tables of their plans as text.
-use crate::{FourAnswer, FourMemory, MAX_DEPTH, four_search, four_search_with};
 use foul_judge::Position;
+use four_search::{FourAnswer, FourMemory, MAX_DEPTH, four_search, four_search_with};
 use row_shapes::{ExactFive, Freestyle, Renju, Rule, RuleKind};
 use std::alloc::{AllocError, Global};
 use std::test::Fail;

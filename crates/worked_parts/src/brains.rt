@@ -1,5 +1,5 @@
 //! What the brain says to a few commands, worked out by hand from what it is defined to do, and as it was seen elsewhere.
-use crate::{Brain, Reaction};
+use brain_session::{Brain, Reaction};
 use game_rules::Point;
 use gomocup_text::{Answer, Command, ErrorText};
 use std::alloc::Global;

@@ -1,7 +1,7 @@
 //! Line proofs on worked positions. Expected values are from the rules by hand.
 
-use crate::{LineAnswer, SearchError, prove_line};
 use foul_judge::Position;
+use line_proof::{LineAnswer, SearchError, prove_line};
 use row_shapes::Freestyle;
 use std::alloc::{AllocError, Global};
 use std::test::Fail;

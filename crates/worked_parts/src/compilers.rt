@@ -3,11 +3,11 @@
 
 ghost use Rattle.std.specs.Prelude.{◌↔◌, ◌<◌, length, All, IsTrue};
 
-use crate::{CompileError, Compiler, SearchError, WrittenWin};
 use game_rules::Point;
 use std::alloc::{AllocError, Global};
 use std::process::Abort;
 use std::test::Fail;
+use strategy_compiler::{CompileError, Compiler, SearchError, WrittenWin};
 use strategy_graph::{MAX_NODES, Node, Replies, Reply, Rest, Start, Table};
 
 fn point(x: u8, y: u8) -> Point {

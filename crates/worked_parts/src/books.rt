@@ -1,14 +1,14 @@
 //! Texts of books that were worked out by hand, and what is said of them.
 
-use crate::{
-    Binder, Book, BookError, HoldError, MAX_ENTRIES, books_read_back, check_book, hold_book,
-    is_book, read_book, write_book,
-};
 use foul_judge::PositionError;
 use position_files::read_table;
 use std::alloc::Global;
 use std::process::Abort;
 use std::test::Fail;
+use table_book::{
+    Binder, Book, BookError, HoldError, MAX_ENTRIES, books_read_back, check_book, hold_book,
+    is_book, read_book, write_book,
+};
 
 /// The first lines of the book: three nodes, the first two of which win at once.
 const NODES: &str = "renju-book 1\nnodes 3\n3,7 wins\n8,7 wins\n4,7 rest 0 3,7>1\n";

@@ -1,7 +1,7 @@
 use Rattle.std.proofs.Common.{ap, sym, ◌∙◌}
 use Rattle.game_rules.specs.Grid.{Grid}
 use Rattle.threat_moves.specs.FourMoves.{is_four_move}
-use Rattle.threat_moves.proofs.tests.blocked.Goals as goal
+use Rattle.worked_searches.proofs.moves.blocked.Goals as goal
 
 pub forced-requires : goal.forced-requires
 forced-requires g c =

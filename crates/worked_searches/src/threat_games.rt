@@ -1,6 +1,6 @@
 //! Searches on worked positions, and what the tree shows after them.
-use crate::{ProofAnswer, proof_number};
 use foul_judge::Position;
+use proof_number::{ProofAnswer, proof_number};
 use proof_tree::{INFINITE, Numbers, ProofTree};
 use row_shapes::{Freestyle, Renju, Rule};
 use std::alloc::Global;

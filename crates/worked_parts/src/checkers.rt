@@ -1,10 +1,10 @@
 //! Verdicts on small tables, worked out by hand, and on the longest one.
-use crate::{Held, HeldError, MAX_ROOTS, Verdict, Why, check, check_start};
 use foul_judge::Position;
 use row_shapes::{ExactFive, Freestyle, Renju, Rule, RuleKind};
 use std::alloc::Global;
 use std::test::Fail;
 use stone_board::{Board, Point, Side};
+use strategy_checker::{Held, HeldError, MAX_ROOTS, Verdict, Why, check, check_start};
 use strategy_graph::{MAX_NODES, Node, Replies, Reply, Rest, Root, Start, Table};
 
 fn at(x: u8, y: u8) -> Point {

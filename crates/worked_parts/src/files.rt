@@ -1,11 +1,11 @@
 //! Texts that are read, and texts that are refused.
 
-use crate::{
+use foul_judge::PositionError;
+use game_rules::{Point, RuleKind, Side};
+use position_files::{
     FileError, GameError, HeadError, read_game, read_head, read_nodes, read_position, read_start,
     read_table, write_position, write_table,
 };
-use foul_judge::PositionError;
-use game_rules::{Point, RuleKind, Side};
 use std::test::Fail;
 use strategy_graph::Root;
 

@@ -1,8 +1,7 @@
 //! How a session ends: at END, at a read and at a write that fail, and what it has read and written then.
 ghost use Rattle.std.specs.Prelude.{◌<◌};
 
-use super::{ServeError, serve};
-use crate::Brain;
+use brain_session::{Brain, ServeError, serve};
 use renju_io::{Failed, MemorySink, MemorySource, Source};
 use std::alloc::{AllocError, Global};
 use std::io;

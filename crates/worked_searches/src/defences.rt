@@ -1,5 +1,5 @@
 //! Moves that hold on worked positions, and the lines that list them.
-use crate::{DefenceAnswer, defences, write_defences};
+use defence_finder::{DefenceAnswer, defences, write_defences};
 use foul_judge::Position;
 use four_search::MAX_DEPTH;
 use row_shapes::{ExactFive, Freestyle, Renju, Rule, RuleKind};

@@ -1,11 +1,11 @@
 //! Sequences on worked positions. Expected values are from the rules by hand.
 
-use crate::{SpaceAnswer, threat_space};
 use row_shapes::Freestyle;
 use std::alloc::{AllocError, Global};
 use std::test::Fail;
 use stone_board::{Axis, Board, Point, Side};
 use threat_moves::ThreatKind;
+use threat_space::{SpaceAnswer, threat_space};
 
 fn at(x: u8, y: u8) -> Point {
     Point { x, y }
