@@ -1,5 +1,5 @@
 -- The command `threats`: its words, its answers, and what its statuses 0, 9 and 5 show.
-use Rattle.std.proofs.Common.{◌≡◌, inl, inr, ap, subst, ◌∙◌, ◌⊎◌, ℕ, List, arith}
+use Rattle.std.proofs.Common.{◌≡◌, inl, inr, ap, subst, ◌∙◌, ℕ, List, arith}
 use Rattle.std.specs.Prelude.{IfSome}
 use Rattle.position_files.specs.declared.PositionFile.{PositionFile}
 use Rattle.renju_io.specs.Told.{Takes}

@@ -17,7 +17,8 @@ use Rattle.renju_cli.specs.declared.loading.Loaded.TheVariants.{Holds, Tells}
 use Rattle.renju_cli.specs.Runs.{Change}
 use Rattle.renju_cli.specs.Checks.{IsTableAt, IsRefusedTable, IsSpentWork}
 use Rattle.renju_cli.specs.Books.{AreAccepted, IsBookAt, IsRefusedEntry}
-use Rattle.renju_cli.specs.Brains.{BookFileSays, FileSays, HeldFile, IsFit, IsHeldText, IsLoaded, IsUnheld, TableFileSays, held_by, of_book, of_table}
+use Rattle.renju_cli.specs.Brains.{BookFileSays, FileSays, HeldFile, IsFit, IsHeldText, IsLoaded, IsUnheld, TableFileSays, held_by, of_book}
+use Rattle.renju_cli.specs.Brains.{of_table}
 
 -- the status of a session that ended so
 abbrev pub session_status : Result (Unit {0}) ServeError → Status

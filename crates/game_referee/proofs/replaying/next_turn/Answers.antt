@@ -11,7 +11,8 @@ use Rattle.game_referee.specs.Replays.{in_turn, next_turn}
 use Rattle.game_referee.proofs.replaying.next_turn.Goals as goal
 
 -- the node that answers the reply, where its answers are those of this node
-answers_turn : (t : List Node) (p : Point) (o : Option Node) → option_map (λ (j : ℕ). Attack j) (option_and_then (λ n. answer (answers_of n) p) o)
+answers_turn : (t : List Node) (p : Point) (o : Option Node)
+    → option_map (λ (j : ℕ). Attack j) (option_and_then (λ n. answer (answers_of n) p) o)
     ≡ next_turn t (option_map (λ n. Defend (answers_of n)) o) p
 answers_turn t p None = refl
 answers_turn t p (Some n) = refl

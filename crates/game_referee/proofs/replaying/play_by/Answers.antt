@@ -8,12 +8,14 @@ use Rattle.game_rules.specs.declared.Outcome.TheVariants.{GoesOn}
 use Rattle.game_rules.specs.declared.Point.{Point}
 use Rattle.game_referee.specs.Played.{WentOn}
 use Rattle.game_referee.specs.Replays.{in_turn}
-use Rattle.game_referee.proofs.Playing.{played-few, follows-end, replayed-none, replayed-all, replayed-stray, replayed-over, replayed-end, replayed-more}
+use Rattle.game_referee.proofs.Playing.{played-few, follows-end, replayed-none, replayed-all, replayed-stray, replayed-over, replayed-end}
+use Rattle.game_referee.proofs.Playing.{replayed-more}
 use Rattle.game_referee.proofs.replaying.play_by.Goals as goal
 
 pub loop-played-init : goal.loop-played-init
 loop-played-init g c =
-    replayed-none g.R.Rule.KIND c.args.table.now (in_turn c.args.table.now c.args.first) c.args.position.now c.args.moves.now c.requires.lawful
+    replayed-none g.R.Rule.KIND c.args.table.now (in_turn c.args.table.now c.args.first) c.args.position.now c.args.moves.now
+    c.requires.lawful
 
 pub overflow_cast-result : goal.overflow_cast-result
 overflow_cast-result g c =
@@ -35,7 +37,8 @@ returns-then-is_stray-clause-answer g c =
     let none : Point = record { x = 0; y = 0 } in
     replayed-stray g.R.Rule.KIND c.args.table.now (in_turn c.args.table.now c.args.first) c.args.position.now c.args.moves.now
     c.loop-played.played (in_turn c.args.table.now c.loop-played.turn) c.loop-played.position c.loop-played.invariant
-    (slice_index_or c.args.moves.now c.loop-played.played none) (drop_more c.args.moves.now c.loop-played.played none c.loop-played-test.true)
+    (slice_index_or c.args.moves.now c.loop-played.played none)
+    (drop_more c.args.moves.now c.loop-played.played none c.loop-played-test.true)
     (sym c.is_stray.ensures.stray ∙ c.if-is_stray.true)
 
 pub returns-in_default-clause-played : goal.returns-in_default-clause-played
@@ -46,7 +49,8 @@ returns-in_default-clause-answer g c =
     let none : Point = record { x = 0; y = 0 } in
     replayed-over g.R.Rule.KIND c.args.table.now (in_turn c.args.table.now c.args.first) c.args.position.now c.args.moves.now
     c.loop-played.played (in_turn c.args.table.now c.loop-played.turn) c.loop-played.position c.loop-played.invariant
-    (slice_index_or c.args.moves.now c.loop-played.played none) (drop_more c.args.moves.now c.loop-played.played none c.loop-played-test.true)
+    (slice_index_or c.args.moves.now c.loop-played.played none)
+    (drop_more c.args.moves.now c.loop-played.played none c.loop-played-test.true)
     (sym c.is_stray.ensures.stray ∙ c.if-is_stray.false)
     (sym c.next_turn.ensures.next ∙ ap (option_and_then (in_turn c.args.table.now)) c.in_default.is)
 
@@ -83,6 +87,7 @@ returns-in-Refused g c =
       answer = replayed-end g.R.Rule.KIND c.args.table.now (in_turn c.args.table.now c.args.first) c.args.position.now c.args.moves.now
           c.loop-played.played (in_turn c.args.table.now c.loop-played.turn) c.loop-played.position c.loop-played.invariant
           (slice_index_or c.args.moves.now c.loop-played.played none)
-          (drop_more c.args.moves.now c.loop-played.played none c.loop-played-test.true) (sym c.is_stray.ensures.stray ∙ c.if-is_stray.false)
+          (drop_more c.args.moves.now c.loop-played.played none c.loop-played-test.true)
+          (sym c.is_stray.ensures.stray ∙ c.if-is_stray.false)
           c.outcome.result c.outcome.ensures.outcome (follows-end c.outcome.result c.in-Refused.is c.loop-played.played);
     }

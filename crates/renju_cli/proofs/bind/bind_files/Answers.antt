@@ -1,6 +1,6 @@
 -- File by file, up to the first that is not added.
-use Rattle.std.proofs.Common.{◌≡◌, ◌∙◌, ◌+◌, ◌<◌, suc, refl, ap, sym, subst, length, map, take, drop, ℕ, List, arith}
-use Rattle.std.specs.Prelude.{string_bytes, Option, Some, None}
+use Rattle.std.proofs.Common.{◌∙◌, ◌+◌, suc, refl, ap, sym, subst, map, take, drop, ℕ, List, arith}
+use Rattle.std.specs.Prelude.{string_bytes, Option}
 use Rattle.std.proofs.lemmas.List.{length-map}
 use Rattle.renju_io.specs.Files.{Files}
 use Rattle.renju_io.proofs.AskedCalls.{few_more, few_then}

@@ -1,4 +1,4 @@
-use Rattle.std.proofs.Common.{◌≡◌, ℕ, ◌≤◌, List, arith, inl, refl, sym, subst, ◌∙◌, length}
+use Rattle.std.proofs.Common.{◌≡◌, ℕ, List, arith, inl, refl, sym, subst, ◌∙◌, length}
 use Rattle.std.specs.Prelude.{map, string_bytes}
 use Rattle.renju_io.proofs.AskedCalls.{by_each_none}
 use Rattle.renju_cli.specs.declared.commands.Form.{Form}

@@ -15,7 +15,8 @@ returns-in-Ok-clause-loaded g c =
     rw c.as_slice.ensures.value (record { found = c.in-Ok.ensures.found; sound = c.in-Ok.ensures.uncounted }) in
     IfOk-weaker c.load_text.result (IsLoadedAs c.args.holdable c.as_slice.result.now)
     (IsLoadedFrom c.args.holdable shelf c.args.file.now)
-    (λ text. loaded-from c.args.holdable shelf c.args.file.now c.as_slice.result.now loaded (rw c.as_slice.ensures.value c.in-Ok.ensures.short)
+    (λ text. loaded-from c.args.holdable shelf c.args.file.now c.as_slice.result.now loaded
+    (rw c.as_slice.ensures.value c.in-Ok.ensures.short)
     text)
     c.load_text.ensures.loaded
 

@@ -21,7 +21,8 @@ returns-then-not-some-clause-threat g c =
     (subst (λ (w : Grid). AreNearStones w c.side-side.result c.args.p c.near_stones-near.result) c.requires.copy
     c.near_stones-near.ensures.near) in
     few-no_threat b (mover b) c.args.p c.near_stones-near.result near g.R.Rule.KIND c.side-side.ensures.lawful.board c.requires.empty
-    c.requires.none (sym c.some.ensures.some ∙ c.if-not-some.true) (sym c.requires.twos ∙ nil-by c.args.twos.now (sym c.is_empty.ensures ∙ c.if-is_empty.true))
+    c.requires.none (sym c.some.ensures.some ∙ c.if-not-some.true)
+    (sym c.requires.twos ∙ nil-by c.args.twos.now (sym c.is_empty.ensures ∙ c.if-is_empty.true))
 
 pub fives_by-requires-clause-near : goal.fives_by-requires-clause-near
 fives_by-requires-clause-near g c =

@@ -20,7 +20,8 @@ returns-then-has_two_quiet-clause-no_win g c =
     let fouls : has_fouls g.R.Rule.KIND (other (mover b)) ≡ true =
     ap (has_fouls g.R.Rule.KIND) (sym (c.other-defender.ensures.other ∙ ap other c.side.ensures.side)) ∙ sym c.has_fouls.ensures.fouls
     ∙ c.if-not-has_fouls.false in
-    let two : HasTwoQuiet b = subst (λ (w : Grid). HasTwoQuiet w) c.board.ensures.board (c.has_two_quiet.ensures.two c.if-has_two_quiet.true) in
+    let two : HasTwoQuiet b = subst (λ (w : Grid). HasTwoQuiet w) c.board.ensures.board
+    (c.has_two_quiet.ensures.two c.if-has_two_quiet.true) in
     none-last g.R.Rule.KIND b c.side.ensures.lawful c.requires.none
     (no_last g.R.Rule.KIND b c.side.ensures.lawful (white-turn g.R.Rule.KIND (mover b) fouls) two)
 
