@@ -12,7 +12,7 @@ use Rattle.std.proofs.lemmas.Bool.Decides.{nat_tests}
 use Rattle.std.proofs.lemmas.List.Sums.{length-filter, sum_by-le-sum_by}
 use Rattle.game_rules.specs.Grid.{Grid, IsBoard, is_on, is_empty, put, along, points_of, holds}
 use Rattle.game_rules.specs.Lines.{same_line}
-use Rattle.game_rules.specs.Shapes.{stone_at, wins_on, five}
+use Rattle.game_rules.specs.Shapes.{stone_at, wins_on, five, is_same_point}
 use Rattle.game_rules.specs.Ways.{go, towards, opposite, stones_towards, run_end}
 use Rattle.game_rules.specs.Games.{has_five, five_points, has_threat, is_double_point}
 use Rattle.game_rules.specs.declared.RuleKind.{RuleKind}
@@ -42,12 +42,15 @@ use Rattle.game_rules.proofs.Ways.{go-then, go-same, go-opposite, go-zero, else_
 use Rattle.game_rules.proofs.Ways.{run_before_end}
 use Rattle.game_rules.proofs.Wins.{wins_on-ways, no_win, row_wins-five}
 use Rattle.row_shapes.specs.FivePoints.{in_short}
+use Rattle.row_shapes.specs.FiveEnds.{end_five, with_more}
+use Rattle.row_shapes.specs.declared.fives.FivePoints.TheVariants.{None as NoPoint, One, Several}
+use Rattle.row_shapes.proofs.NewFives.{end_wins}
 use Rattle.row_shapes.proofs.FiveLaws.{none-short}
 use Rattle.threat_moves.specs.ThreeMoves.{is_several}
 use Rattle.threat_moves.specs.ThreeMoves.{has_double_point}
 use Rattle.threat_moves.proofs.GainLaws.{several, few-double, double-empty, threat-by_double, taken-no_gain, no_gain-double}
-use Rattle.threat_game.specs.NearDoubles.{AreNearStones, DoublesAreNear, IsInReach, is_double_at, makes_two, reach, some_has}
-use Rattle.threat_game.specs.NearDoubles.{points_of_two, stones_around}
+use Rattle.threat_game.specs.NearDoubles.{AreNearStones, DoublesAreNear, IsInReach, is_double_on, makes_on, makes_two, reach, some_has}
+use Rattle.threat_game.specs.NearDoubles.{is_some_point, points_of_two, stones_around}
 use Rattle.threat_game.specs.declared.near_stones.NearStones.{NearStones}
 
 -- ---- tests of the numbers from 1 to 4
@@ -228,6 +231,17 @@ steps_by : (v : Way) (d : Axis) (p q : Point) → same_line d p q ≡ true → (
 steps_by Ahead d p q h = steps_to d p q h
 steps_by Behind d p q h = let s = steps_to d p q h in (s.1, s.0, s.2)
 
+-- one of two ends that is kept is a five point
+some_made : (o e : Option Point) (w : Point) → (o ≡ Some w) ⊎ (e ≡ Some w) → is_some_point (with_more (with_more NoPoint o) e) ≡ true
+some_made None None w (inl h) = cc
+some_made None None w (inr h) = cc
+some_made None (Some q) w h = refl
+some_made (Some v) None w h = refl
+some_made (Some v) (Some q) w h = by_test (is_same_point v q) where
+  by_test : (r : Bool) → is_some_point (cond r (One v) Several) ≡ true
+  by_test true = refl
+  by_test false = refl
+
 -- ---- a stone on p, and then one on q
 
 module _ (rule : RuleKind) (b : Grid) (s : Side) (p q : Point) (ok : IsBoard b) (empty : is_empty b p ≡ true)
@@ -331,6 +345,18 @@ module _ (rule : RuleKind) (b : Grid) (s : Side) (p q : Point) (ok : IsBoard b) 
         sym (wins_alike full (put with_q s p) s d w (λ z line. holds_both z) refl rule ok_full (IsBoard-put with_q s p ok_q)
         (free_w ∙ sym (is_empty-put with_q s p w on_p beside_p.0 ∙ free_w_q))) ∙ wins
 
+    -- q's stone makes it one on the axis
+    made_on : makes_on rule with_p s d q ≡ true
+    unfolding makes_on
+    made_on =
+        let there = new_end with_p s q ok_p free_q rule d w (no_win rule with_p s d w none) wins in
+        some_made (end_five rule with_p s d q Ahead) (end_five rule with_p s d q Behind) w
+        (by_way there.0 (end_wins with_p s q ok_p free_q there.0 d w there.1 rule wins)) where
+          by_way : (v : Way) → end_five rule with_p s d q v ≡ Some w
+              → (end_five rule with_p s d q Ahead ≡ Some w) ⊎ (end_five rule with_p s d q Behind ≡ Some w)
+          by_way Ahead h = inl h
+          by_way Behind h = inr h
+
     module _ (v : Way) (x y : ℕ) (at : go v d p x y ≡ Some q) where
       same_there : (k l : ℕ) → k ≢ l → x + l ≢ k + y → stone_at with_q s (go v d p k l) ≡ stone_at with_p s (go v d p k l)
       same_there k l off differ =
@@ -388,7 +414,7 @@ module _ (rule : RuleKind) (b : Grid) (s : Side) (p q : Point) (ok : IsBoard b) 
           | inr close ↦ reach_two _ k two_others close
         ]
 
-    pub in_reach : IsInReach with_p s p q
+    pub in_reach : IsInReach rule with_p s p q
     in_reach =
         let there = end rule with_q s p w d ok_q free_p no_win_q again in
         let at = steps_by there.0 d p q one_line in
@@ -403,7 +429,7 @@ module _ (rule : RuleKind) (b : Grid) (s : Side) (p q : Point) (ok : IsBoard b) 
           some_steps v (suc k) at = omega arith
 
           by_side : (v : Way) (here : run_end with_q s d v p ≡ Some w) (x y : ℕ) (at : go v d p x y ≡ Some q)
-              → (x < y) ⊎ (y ≤ x) → IsInReach with_p s p q
+              → (x < y) ⊎ (y ≤ x) → IsInReach rule with_p s p q
           by_side v here x y at (inl behind) =
               let back : go (opposite v) d p (y - x) 0 ≡ Some q =
               go-opposite v d p (y - x) 0 ∙ go-same v d p 0 (y - x) x y (omega arith) ∙ at in record {
@@ -413,6 +439,7 @@ module _ (rule : RuleKind) (b : Grid) (s : Side) (p q : Point) (ok : IsBoard b) 
                 some = omega arith;
                 near = within v x y at here (y - x) (near_board (opposite v) (y - x) back) (inr (omega arith));
                 at = back;
+                made = made_on;
               }
           by_side v here x y at (inr ahead) =
               let fore : go v d p (x - y) 0 ≡ Some q = go-same v d p (x - y) 0 x y (omega arith) ∙ at in record {
@@ -422,6 +449,7 @@ module _ (rule : RuleKind) (b : Grid) (s : Side) (p q : Point) (ok : IsBoard b) 
                 some = some_steps v (x - y) fore;
                 near = within v x y at here (x - y) (near_board v (x - y) fore) (inl (omega arith));
                 at = fore;
+                made = made_on;
               }
 
   -- ---- two five points after both stones
@@ -457,7 +485,7 @@ module _ (rule : RuleKind) (b : Grid) (s : Side) (p q : Point) (ok : IsBoard b) 
         ∙ several (five_points rule with_q s) ∙ still in
         absurd (both_ways _ quiet here)
 
-  pub near_when : makes_two rule b s q ≡ false → is_several (in_short (five_points rule full s)) ≡ true → IsInReach with_p s p q
+  pub near_when : makes_two rule b s q ≡ false → is_several (in_short (five_points rule full s)) ≡ true → IsInReach rule with_p s p q
   near_when quiet two =
       let many : nat_le 2 (length (five_points rule full s)) ≡ true = sym (several (five_points rule full s)) ∙ two in
       let w : Point = unwrap_or (find new_there (points_of b)) p in
@@ -472,12 +500,12 @@ pub doubles-near : (rule : RuleKind) (b : Grid) (s : Side) (p : Point) → IsBoa
     → has_five rule (put b s p) s ≡ false → DoublesAreNear rule (put b s p) s p (points_of_two rule b s)
 doubles-near rule b s p ok empty none = record { near = λ none_two q double. by_two none_two q double (makes_two rule b s q) refl } where
   by_test : (q : Point) → is_double_point rule (put b s p) s q ≡ true → makes_two rule b s q ≡ false → (r : Bool)
-      → is_several (in_short (five_points rule (put (put b s p) s q) s)) ≡ r → IsInReach (put b s p) s p q
+      → is_several (in_short (five_points rule (put (put b s p) s q) s)) ≡ r → IsInReach rule (put b s p) s p q
   by_test q double quiet true two = near_when rule b s p q ok empty none (double-empty rule (put b s p) s q double) quiet two
   by_test q double quiet false few = absurd (both_ways _ (few-double rule (put b s p) s q few) double)
 
   by_two : list_any (is_double_point rule (put b s p) s) (points_of_two rule b s) ≡ false → (q : Point)
-      → is_double_point rule (put b s p) s q ≡ true → (r : Bool) → makes_two rule b s q ≡ r → IsInReach (put b s p) s p q
+      → is_double_point rule (put b s p) s q ≡ true → (r : Bool) → makes_two rule b s q ≡ r → IsInReach rule (put b s p) s p q
   by_two none_two q double false quiet = by_test q double quiet (is_several (in_short (five_points rule (put (put b s p) s q) s))) refl
   by_two none_two q double true two =
       let both : (makes_two rule b s q && is_double_point rule (put b s p) s q) ≡ true = rw (two, double) refl in
@@ -533,16 +561,16 @@ module _ (b : Grid) (s : Side) (p : Point) (near : NearStones) (are : AreNearSto
       (test_of d near n (let low = at_most d in omega (arith, many, low)))
 
   -- where no double point was found as near as it may be, there is none
-  pub none-near : (rule : RuleKind) → ((q : Point) → is_double_point rule b s q ≡ true → IsInReach b s p q)
-      → ((d : Axis) (w : Way) (k : ℕ) (q : Point) → 1 ≤ k → k ≤ reach (near_on near d) → towards w d p k ≡ Some q
-      → is_double_point rule b s q ≡ false)
+  pub none-near : (rule : RuleKind) → ((q : Point) → is_double_point rule b s q ≡ true → IsInReach rule b s p q)
+      → ((d : Axis) (w : Way) (k : ℕ) → 1 ≤ k → k ≤ reach (near_on near d) → is_double_on rule b s d (towards w d p k) ≡ false)
       → has_double_point rule b s ≡ false
   none-near rule far none = false_from_ne_true _ (λ h.
       let found = any_witness (is_double_point rule b s) (points_of b) h in
       let at = far found.0 found.1 in
       let low = at.near in
       let more = reach-more (stones_around b s at.axis p) (near_on near at.axis) (at_most at.axis) in
-      both_ways _ (none at.axis at.way at.steps found.0 at.some (omega (arith, low, more)) at.at) found.1)
+      let both : (makes_on rule b s at.axis found.0 && is_double_point rule b s found.0) ≡ true = rw (at.made, found.1) refl in
+      both_ways _ (none at.axis at.way at.steps at.some (omega (arith, low, more))) (ap (is_double_on rule b s at.axis) at.at ∙ both))
 
   -- the same holds once a stone stands on the point
   pub near-put : is_on b p ≡ true → AreNearStones (put b s p) s p near
@@ -593,25 +621,36 @@ no_five-no_double rule b s q none = few-double rule b s q (ap is_several (none-s
 
 -- ---- a point some steps away
 
--- where it is off the board it is no double point
-pub at-none : (rule : RuleKind) (b : Grid) (s : Side) (o : Option Point) → kept_on b o ≡ None → false ≡ is_double_at rule b s o
-at-none rule b s None h = refl
-at-none rule b s (Some q) h = by_test (is_on b q) refl h where
-  by_test : (r : Bool) → is_on b q ≡ r → cond r (Some q) None ≡ None → false ≡ is_double_point rule b s q
-  by_test true e h = cc
-  by_test false e h = sym (no_gain-double rule b s q (taken-no_gain rule b s q
-      (false_from_ne_true _ (λ empty. both_ways _ e (is_empty-on b q empty)))))
+-- not both where the second is not
+second_no : (r t : Bool) → t ≡ false → (r && t) ≡ false
+second_no true t h = h
+second_no false t h = refl
 
-pub at-some : (rule : RuleKind) (b : Grid) (s : Side) (o : Option Point) (q : Point) → kept_on b o ≡ Some q
-    → is_double_point rule b s q ≡ is_double_at rule b s o
-at-some rule b s None q h = cc
-at-some rule b s (Some p) q h = ap (is_double_point rule b s) (sym (kept_by b p q (is_on b p) refl h).0)
+-- where it is taken it is no double point
+pub taken-no_double : (rule : RuleKind) (b : Grid) (s : Side) (d : Axis) (q : Point) → is_empty b q ≡ false
+    → false ≡ (makes_on rule b s d q && is_double_point rule b s q)
+taken-no_double rule b s d q taken = sym (second_no (makes_on rule b s d q) _ (no_gain-double rule b s q (taken-no_gain rule b s q taken)))
+
+-- nor where it is off the board
+pub at-none : (rule : RuleKind) (b : Grid) (s : Side) (d : Axis) (o : Option Point) → kept_on b o ≡ None → false ≡ is_double_on rule b s d o
+at-none rule b s d None h = refl
+at-none rule b s d (Some q) h = by_test (is_on b q) refl h where
+  by_test : (r : Bool) → is_on b q ≡ r → cond r (Some q) None ≡ None → false ≡ (makes_on rule b s d q && is_double_point rule b s q)
+  by_test true e h = cc
+  by_test false e h = taken-no_double rule b s d q (false_from_ne_true _ (λ empty. both_ways _ e (is_empty-on b q empty)))
+
+pub at-some : (rule : RuleKind) (b : Grid) (s : Side) (d : Axis) (o : Option Point) (q : Point) → kept_on b o ≡ Some q
+    → (makes_on rule b s d q && is_double_point rule b s q) ≡ is_double_on rule b s d o
+at-some rule b s d None q h = cc
+at-some rule b s d (Some p) q h = ap (λ r. makes_on rule b s d r && is_double_point rule b s r) (sym (kept_by b p q (is_on b p) refl h).0)
 
 -- one that is a double point is found
-pub at-found : (rule : RuleKind) (b : Grid) (s : Side) (o : Option Point) → is_double_at rule b s o ≡ true
+pub at-found : (rule : RuleKind) (b : Grid) (s : Side) (d : Axis) (o : Option Point) → is_double_on rule b s d o ≡ true
     → has_double_point rule b s ≡ true
-at-found rule b s None h = cc
-at-found rule b s (Some q) h = points-found b (is_double_point rule b s) q (is_empty-on b q (double-empty rule b s q h)) h
+at-found rule b s d None h = cc
+at-found rule b s d (Some q) h =
+    let double = and_right (makes_on rule b s d q) _ h in
+    points-found b (is_double_point rule b s) q (is_empty-on b q (double-empty rule b s q double)) double
 
 -- where one of some points is a double point, the side has one
 pub some-found : (rule : RuleKind) (b : Grid) (s : Side) (points : List Point) → list_any (is_double_point rule b s) points ≡ true
@@ -623,13 +662,13 @@ some-found rule b s (q ∷ more) h = by_test (is_double_point rule b s q) refl h
   by_test true e h rest = sym (points-found b (is_double_point rule b s) q (is_empty-on b q (double-empty rule b s q e)) e)
   by_test false e h rest = rest h
 
--- no point on the axis as near as that is a double point
+-- no point on the axis as near as that is a double point whose stone makes a five point on the axis
 abbrev pub NoneOn : RuleKind → Grid → Side → Point → Axis → ℕ → Type 0
-NoneOn rule b s p d n = (w : Way) (k : ℕ) (q : Point) → 1 ≤ k → k ≤ reach n → towards w d p k ≡ Some q → is_double_point rule b s q ≡ false
+NoneOn rule b s p d n = (w : Way) (k : ℕ) → 1 ≤ k → k ≤ reach n → is_double_on rule b s d (towards w d p k) ≡ false
 
 -- where none was found on three axes, the fourth tells
 pub last-told : (rule : RuleKind) (b : Grid) (s : Side) (p : Point) (near : NearStones) → AreNearStones b s p near
-    → ((q : Point) → is_double_point rule b s q ≡ true → IsInReach b s p q)
+    → ((q : Point) → is_double_point rule b s q ≡ true → IsInReach rule b s p q)
     → NoneOn rule b s p Row near.row → NoneOn rule b s p Column near.column → NoneOn rule b s p Down near.down
     → (r : Bool) → (r ≡ true → has_double_point rule b s ≡ true) → (r ≡ false → NoneOn rule b s p Up near.up)
     → r ≡ has_double_point rule b s

@@ -13,6 +13,7 @@ use Rattle.game_rules.specs.declared.Way.{Way}
 use Rattle.game_rules.specs.declared.Way.TheVariants.{Ahead, Behind}
 use Rattle.game_rules.specs.declared.Point.{Point}
 use Rattle.row_shapes.specs.FivePoints.{in_short}
+use Rattle.row_shapes.specs.FiveEnds.{with_axis}
 use Rattle.row_shapes.specs.declared.fives.FivePoints.{FivePoints}
 use Rattle.row_shapes.specs.declared.fives.FivePoints.TheVariants.{None as NoPoint, One, Several}
 use Rattle.threat_moves.specs.ThreeMoves.{is_several}
@@ -56,20 +57,25 @@ some_has near least = nat_le least near.row || nat_le least near.column || nat_l
 abbrev pub reach : ℕ → ℕ
 reach stones = if nat_le 3 stones then 31 else if nat_le 2 stones then 4 else 0
 
--- the point q is as near to p as that
-pub record IsInReach (b : Grid) (s : Side) (p q : Point) : Type 0 where
+-- whether a stone of the side on the point makes a five point on the axis, as the ends of its run there tell
+unfoldable pub makes_on : RuleKind → Grid → Side → Axis → Point → Bool
+makes_on rule b s d q = is_some_point (with_axis rule b s q NoPoint d)
+
+-- the point q is as near to p as that, and a stone on it makes a five point on the axis of both
+pub record IsInReach (rule : RuleKind) (b : Grid) (s : Side) (p q : Point) : Type 0 where
   pub axis : Axis
   pub way : Way
   pub steps : ℕ
   pub some : 1 ≤ steps
   pub near : steps ≤ reach (stones_around b s axis p)
   pub at : towards way axis p steps ≡ Some q
+  pub made : makes_on rule b s axis q ≡ true
 
 -- each double point of the side is as near to p as that, where none of the points is one
 pub record DoublesAreNear (rule : RuleKind) (b : Grid) (s : Side) (p : Point) (points : List Point) : Type 0 where
-  pub near : list_any (is_double_point rule b s) points ≡ false → (q : Point) → is_double_point rule b s q ≡ true → IsInReach b s p q
+  pub near : list_any (is_double_point rule b s) points ≡ false → (q : Point) → is_double_point rule b s q ≡ true → IsInReach rule b s p q
 
--- whether there is such a point, and it is a double point of the side
-abbrev pub is_double_at : RuleKind → Grid → Side → Option Point → Bool
-is_double_at rule b s None = false
-is_double_at rule b s (Some q) = is_double_point rule b s q
+-- whether there is such a point, a stone of the side on it makes a five point on the axis, and it is a double point of the side
+abbrev pub is_double_on : RuleKind → Grid → Side → Axis → Option Point → Bool
+is_double_on rule b s d None = false
+is_double_on rule b s d (Some q) = makes_on rule b s d q && is_double_point rule b s q

@@ -170,7 +170,7 @@ fn is_several(fives: FivePoints) -> bool
 }
 
 /// Whether there is a five point.
-fn is_some_point(fives: FivePoints) -> bool
+pub(crate) fn is_some_point(fives: FivePoints) -> bool
     ensures some { result ≡ is_some_point_lem fives }
 {
     !matches!(fives, FivePoints::None)

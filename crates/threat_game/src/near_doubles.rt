@@ -1,20 +1,22 @@
 //! New double points.
 //!
 //! A double point after a new stone made two five points before it, or is near the stone: within four steps on a line on which two
-//! others of its side stand so near, or somewhere on one on which three do. No other point is looked at.
+//! others of its side stand so near, or somewhere on one on which three do; and its own stone makes a five point on this line. No
+//! other point is looked at.
 #![tactic(auto)]
 
-ghost use Rattle.std.specs.Prelude.{◌≡◌, ◌≤◌, ℕ, false, true, Some, IsTrue};
+ghost use Rattle.std.specs.Prelude.{◌≡◌, ◌≤◌, ◌&&◌, ℕ, false, true, IsTrue};
 ghost use Rattle.std.specs.List.{list_any};
 ghost use Rattle.game_rules.specs.Grid.{is_empty, is_on, put};
 ghost use Rattle.game_rules.specs.Ways.{towards as towards_lem};
 ghost use Rattle.game_rules.specs.Games.{has_five as has_five_lem, is_double_point};
 ghost use Rattle.threat_moves.specs.ThreeMoves.{has_double_point};
-ghost use Rattle.threat_game.specs.NearDoubles.{AreNearStones, DoublesAreNear, is_double_at};
+ghost use Rattle.threat_game.specs.NearDoubles.{AreNearStones, DoublesAreNear, is_double_on, makes_on as makes_on_lem};
 ghost use Rattle.threat_game.specs.NearDoubles.{reach as reach_lem, points_of_two};
 
+use crate::attacks::is_some_point;
 use crate::near_stones::{NearStones, near_stones};
-use row_shapes::Rule;
+use row_shapes::{FivePoints, Rule, with_axis};
 use stone_board::{Axis, Board, MAX_SIDE, Point, Side, Way};
 use threat_moves::is_new_double_point;
 
@@ -86,13 +88,13 @@ fn some_double<R: Rule>(board: &mut Board, side: Side, points: &[Point]) -> bool
 }
 
 /// Whether a double point of the side, which has no five point, is on the axis as near to `p` as may be where at most so many stones
-/// are around it. The board is as before.
+/// are around it, and its stone makes a five point on the axis. The board is as before.
 fn double_on<R: Rule>(board: &mut Board, side: Side, axis: Axis, p: Point, near: u32) -> bool
     requires on { IsTrue (is_on board.old p) }
     requires none { has_five_lem R.KIND board.old side ≡ false }
     ensures some { IsTrue result → has_double_point R.KIND board.old side ≡ true }
-    ensures none { result ≡ false → (w : Way) (k : ℕ) (q : Point) → 1 ≤ k → k ≤ reach_lem near → towards_lem w axis p k ≡ Some q
-        → is_double_point R.KIND board.old side q ≡ false }
+    ensures none { result ≡ false → (w : Way) (k : ℕ) → 1 ≤ k → k ≤ reach_lem near
+        → is_double_on R.KIND board.old side axis (towards_lem w axis p k) ≡ false }
     ensures same { board.new ≡ board.old }
 {
     for k in 1..1 + reach(near) {
@@ -120,7 +122,8 @@ fn reach(near: u32) -> u8
     }
 }
 
-/// Whether there is a point so many steps away, and it is a double point of the side, which has no five point. The board is as before.
+/// Whether there is a point so many steps away, its stone makes a five point on the axis, and it is a double point of the side, which
+/// has no five point. The board is as before.
 #[inline(always)]
 fn double_towards<R: Rule>(
     board: &mut Board,
@@ -133,13 +136,39 @@ fn double_towards<R: Rule>(
     requires on { IsTrue (is_on board.old p) }
     requires near { k ≤ 64 }
     requires none { has_five_lem R.KIND board.old side ≡ false }
-    ensures double { result ≡ is_double_at R.KIND board.old side (towards_lem way axis p k) }
+    ensures double { result ≡ is_double_on R.KIND board.old side axis (towards_lem way axis p k) }
     ensures same { board.new ≡ board.old }
 {
     match board.step_towards(way, axis, p, k) {
         None => false,
-        Some(q) => double_here::<R>(board, side, q),
+        Some(q) => double_from::<R>(board, side, axis, q),
     }
+}
+
+/// Whether a stone of the side on the point makes a five point on the axis, and the point is a double point of the side, which has no
+/// five point. The board is as before.
+fn double_from<R: Rule>(board: &mut Board, side: Side, axis: Axis, q: Point) -> bool
+    requires none { has_five_lem R.KIND board.old side ≡ false }
+    ensures double { result ≡ (makes_on_lem R.KIND board.old side axis q && is_double_point R.KIND board.old side q) }
+    ensures same { board.new ≡ board.old }
+{
+    if !board.is_empty(q) {
+        return false;
+    }
+    if !makes_on::<R>(board, side, axis, q) {
+        return false;
+    }
+    is_new_double_point::<R>(board, side, q)
+}
+
+/// Whether a stone of the side on an empty point makes a five point on the axis.
+#[tactic(auto, unfolding(crate::specs::NearDoubles::makes_on))]
+#[inline(always)]
+fn makes_on<R: Rule>(board: &Board, side: Side, axis: Axis, q: Point) -> bool
+    requires empty { IsTrue (is_empty board.now q) }
+    ensures made { result ≡ makes_on_lem R.KIND board.now side axis q }
+{
+    is_some_point(with_axis::<R>(board, side, q, FivePoints::None, axis))
 }
 
 /// Whether the point is a double point of the side, which has no five point. The board is as before.
