@@ -2,7 +2,7 @@
 -- or by a last move, to which each reply fouls. The moves that have to be tried are enough: where there is a win by threats, one of them
 -- wins.
 use Rattle.std.proofs.Common.{◌≡◌, Bool, true, false, cond, ◌&&◌, ◌||◌, not, refl, sym, ap, ◌∙◌, ℕ, suc, subst, IsTrue, zero, ◌≤◌, arith}
-use Rattle.std.proofs.Common.{List, [], Contains}
+use Rattle.std.proofs.Common.{List, [], Contains, ◌⊎◌, inl, inr}
 use Rattle.std.specs.List.{list_any, list_all}
 use Rattle.std.proofs.Math.Bool.{and-true, and-false}
 use Rattle.game_rules.specs.declared.RuleKind.{RuleKind}
@@ -290,6 +290,20 @@ module _ (rule : RuleKind) (b : Grid) (lawful : IsPosition rule b) (none : has_f
 tried-listed : (rule : RuleKind) (b : Grid) (p : Point) → is_on b p ≡ true → is_tried rule b p ≡ true → Contains (tried_moves rule b) p
 tried-listed rule b p on tried = points_passing b (is_tried rule b) p on tried
 
+-- a move of the game of threats is one of those to be tried, or a reply to it wins or fills the board
+pub tried-or-saved : (rule : RuleKind) (b : Grid) → OthersFail rule b → (p : Point) → is_threat_move rule b p ≡ true
+    → Contains (tried_moves rule b) p ⊎ (has_saving rule (after b p) ≡ true)
+tried-or-saved rule b others p threat = by_test (is_tried rule b p) refl where
+  by_test : (r : Bool) → is_tried rule b p ≡ r → Contains (tried_moves rule b) p ⊎ (has_saving rule (after b p) ≡ true)
+  by_test true e = inl (tried-listed rule b p (GoesOn-on rule b p (threat-goes_on rule b p threat)) e)
+  by_test false e = inr (others.fails p threat e)
+
+-- where a reply wins or fills the board the attacker does not win whatever the reply
+pub saving-saves : (rule : RuleKind) (n : ℕ) (c : Grid) → has_saving rule c ≡ true → LosesToThreats rule n c → ⊥
+saving-saves rule n c some loses =
+    let saving = any_witness (λ q. saves (outcome rule c q)) (points_of c) some in
+    saved (outcome rule c saving.0) (WinsByThreats rule n (after c saving.0)) saving.1 (loses saving.0)
+
 pub tried-enough : (rule : RuleKind) (n : ℕ) (b : Grid) → has_five rule b (mover b) ≡ false → OthersFail rule b
     → WinsByThreats rule (suc n) b → (p : Point) × Contains (tried_moves rule b) p × LosesToThreats rule n (after b p)
 unfolding is_threat_move
@@ -305,9 +319,7 @@ tried-enough rule n b none others (p, win) = by_outcome (outcome rule b p) refl 
 
     by_test : (r : Bool) → is_tried rule b p ≡ r → (q : Point) × Contains (tried_moves rule b) q × LosesToThreats rule n (after b q)
     by_test true e = (p, tried-listed rule b p (GoesOn-on rule b p go) e, loses)
-    by_test false e =
-        let saving = any_witness (λ q. saves (outcome rule (after b p) q)) (points_of (after b p)) (others.fails p threat-move e) in
-        absurd (saved (outcome rule (after b p) saving.0) (WinsByThreats rule n (after (after b p) saving.0)) saving.1 (loses saving.0))
+    by_test false e = absurd (saving-saves rule n (after b p) (others.fails p threat-move e) loses)
 
   by_outcome : (o : Outcome) → outcome rule b p ≡ o → WinsOr o
       (IsTrue (has_threat rule (after b p) (mover b)) × LosesToThreats rule n (after b p))

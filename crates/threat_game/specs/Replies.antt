@@ -93,6 +93,12 @@ IsJudgement rule moves c q NoReply = goes_on (outcome rule c q) ≡ false
 IsJudgement rule moves c q Escape = EscapesBy rule moves c q
 IsJudgement rule moves c q (Known judged) = IsChild rule moves c (record { at = q; judged = judged })
 
+-- P holds, if the reply is told to escape
+abbrev pub IfEscape : Judgement → Type 0 → Type 0
+IfEscape NoReply P = Unit {0}
+IfEscape Escape P = P
+IfEscape (Known judged) P = Unit {0}
+
 -- the replies that go on, in reading order
 abbrev pub replies_at : RuleKind → Grid → List Point
 replies_at rule c = filter (λ q. goes_on (outcome rule c q)) (points_of c)

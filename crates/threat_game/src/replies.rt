@@ -18,7 +18,7 @@ ghost use Rattle.strategy_graph.specs.declared.TheConstants.{MAX_NODES};
 ghost use Rattle.strategy_compiler.specs.Growth.{GrowsBy};
 ghost use Rattle.threat_game.specs.FreeMoves.{EachGoesOn};
 ghost use Rattle.threat_game.specs.Attacks.{has_reply, is_last_move, IsKept, IsStillKept};
-ghost use Rattle.threat_game.specs.Replies.{AreReplies, AreJudged, HasEscape, IsChild, IsJudged, IsJudgement, IsBeside, is_beside as is_beside_lem, moves_for, is_open as is_open_lem, is_standing as is_standing_lem, is_same_double as is_same_double_lem, stands_for as stands_for_lem, is_met as is_met_lem, put_first, kept_children, counted_for, nodes_for};
+ghost use Rattle.threat_game.specs.Replies.{AreReplies, AreJudged, HasEscape, IfEscape, IsChild, IsJudged, IsJudgement, IsBeside, is_beside as is_beside_lem, moves_for, is_open as is_open_lem, is_standing as is_standing_lem, is_same_double as is_same_double_lem, stands_for as stands_for_lem, is_met as is_met_lem, put_first, kept_children, counted_for, nodes_for};
 ghost use Rattle.threat_game.specs.Wins.{IsThreatWin};
 
 use crate::attacks::{each_goes_on, fives_by, goes_on_where};
@@ -89,8 +89,8 @@ impl Children {
 }
 
 /// The replies of the side to move, which has no five point but a move that goes on, where the attacker has so many more moves,
-/// at least 1; or `None` where after one of them there is no win. The view is as before, also where memory ran out, and so
-/// is the board, a copy of its own.
+/// at least 1; or `None` where after one of them there is no win, which is seen with one or two moves alone. The view is as before,
+/// also where memory ran out, and so is the board, a copy of its own.
 pub fn judge_replies<R: Rule, V: Seen<R>>(
     alloc: Global,
     view: &mut V,
@@ -102,6 +102,7 @@ pub fn judge_replies<R: Rule, V: Seen<R>>(
     requires reply { has_reply R.KIND (V.position view.old) ≡ true }
     requires copy { board.old ≡ V.position view.old }
     ensures replies { IfOk result (λ found. AreReplies R.KIND moves (V.position view.old) found) }
+    ensures early { IfOk result (λ found. IfNone found (moves ≤ 2)) }
     ensures same { V.position view.new ≡ V.position view.old }
     ensures same_board { board.new ≡ board.old }
 {
@@ -234,6 +235,7 @@ fn each_reply<R: Rule, V: Seen<R>>(
     requires fives { fives.now ≡ five_points_lem R.KIND (V.position view.old) (other (mover (V.position view.old))) }
     requires doubles { All (IsKept R.KIND (V.position view.old) (other (mover (V.position view.old)))) doubles.now }
     ensures escape { IfOk result (λ found. IfNone found (HasEscape R.KIND moves (V.position view.old))) }
+    ensures early { IfOk result (λ found. IfNone found (moves ≤ 2)) }
     ensures judged { IfOk result (λ found. IfSome found (λ all. AreJudged R.KIND moves (V.position view.old) all.items)) }
     ensures same { V.position view.new ≡ V.position view.old }
     ensures same_board { board.new ≡ board.old }
@@ -281,6 +283,7 @@ fn judge<R: Rule, V: Seen<R>>(
     requires fives { fives.now ≡ five_points_lem R.KIND (V.position view.old) (other (mover (V.position view.old))) }
     requires doubles { All (IsKept R.KIND (V.position view.old) (other (mover (V.position view.old)))) doubles.now }
     ensures judgement { IfOk result (IsJudgement R.KIND moves (V.position view.old) q) }
+    ensures early { IfOk result (λ judgement. IfEscape judgement (moves ≤ 2)) }
     ensures same { V.position view.new ≡ V.position view.old }
     ensures same_board { board.new ≡ board.old }
 {
@@ -309,6 +312,7 @@ fn judge_quiet<R: Rule, V: Seen<R>>(
     requires copy { board.old ≡ V.position view.old }
     requires doubles { All (IsKept R.KIND (V.position view.old) (other (mover (V.position view.old)))) doubles.now }
     ensures judgement { IfOk result (IsJudgement R.KIND moves (V.position view.old) q) }
+    ensures early { IfOk result (λ judgement. IfEscape judgement (moves ≤ 2)) }
     ensures same { V.position view.new ≡ V.position view.old }
     ensures same_board { board.new ≡ board.old }
 {
