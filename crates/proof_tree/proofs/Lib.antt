@@ -12,3 +12,5 @@ pub mod Changed
 pub mod SumLaws
 -- numbers that are settled, and the nodes above a node
 pub mod Settled
+-- the nodes above the most-proving leaf of an open root
+pub mod OpenWays

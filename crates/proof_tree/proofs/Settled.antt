@@ -30,7 +30,7 @@ ancestor-up links (suc s) i = ap (λ (m : ℕ). (link_at links m).parent) (ances
 
 -- each node above another has children
 module _ (links : List Link) (w : IsLinked links) where
-  ancestor-inside : (steps i : ℕ) → i < length links → ancestor links steps i < length links
+  pub ancestor-inside : (steps i : ℕ) → i < length links → ancestor links steps i < length links
   ancestor-inside zero i inside = inside
   ancestor-inside (suc s) i inside = below (cases_eq (ancestor links s i) 0) (ancestor-inside s i inside) where
     below : (ancestor links s i ≡ 0) ⊎ (ancestor links s i ≡ 0 → ⊥) → ancestor links s i < length links

@@ -11,7 +11,7 @@ use Rattle.proof_tree.specs.declared.Kind.TheVariants.{Attack, Defend}
 use Rattle.proof_tree.specs.declared.Numbers.{Numbers}
 use Rattle.proof_tree.specs.declared.Link.{Link}
 use Rattle.proof_tree.proofs.Common.{AreNumbers, IsOpen, combined, no_numbers, is_settled, least, sought, IsTree, Tree, children_of, chosen}
-use Rattle.proof_tree.proofs.Common.{link_at, most_proving, numbers_at, walk_end}
+use Rattle.proof_tree.proofs.Common.{link_at, most_proving, numbers_at, walk_end, IsChild}
 use Rattle.proof_tree.proofs.Updated.{child-number, slice-children}
 
 -- the first place that passes, if there is one
@@ -58,6 +58,7 @@ open-again k n (inr o) a b = o
 
 -- the child that is chosen at an open node
 pub record IsChosen (t : Tree) (i : ℕ) : Type 0 where
+  pub child : IsChild (link_at t.links i) (chosen t i)
   pub after : i < chosen t i
   pub inside : chosen t i < length t.links
   pub open_child : IsOpen (numbers_at t.numbers (chosen t i))
@@ -81,6 +82,7 @@ chosen-child t i w h b o =
     ap (sought link.kind) (sym (child-number link t.numbers (position_or_len p ns) (omega (arith, some, size))))
     ∙ eqb-true _ m (place-passes p ns some) in
     record {
+      child = record { from_first = omega arith; below_end = omega (arith, some, size) };
       after = omega (arith, w.linked.later i h b);
       inside = inside;
       open_child = open-again link.kind (numbers_at t.numbers (chosen t i)) (w.numbered.each (chosen t i) inside)
