@@ -1,6 +1,6 @@
 -- A step that gives a leaf of the attacker a child for each move to be tried, or settles it where there is none.
 use Rattle.std.proofs.Common.{◌≡◌, ◌∙◌, refl, ℕ, zero, suc, ◌+◌, ◌-◌, ◌<◌, ◌≤◌, false, cond, ◌&&◌, not, sym, ap, subst, arith, append-nil}
-use Rattle.std.proofs.Common.{List, [], ◌∷◌, ◌++◌, length, map, replicate, inl, All}
+use Rattle.std.proofs.Common.{List, [], ◌∷◌, ◌++◌, length, map, replicate, inl, inr, All, Contains}
 use Rattle.std.proofs.lemmas.Bool.{eq-eqb}
 use Rattle.std.proofs.lemmas.List.{get_or-map, get_or-replicate, length-map, length-replicate}
 use Rattle.std.proofs.lemmas.List.Elements.{All-contains, All-from_get_or, All-replicate}
@@ -10,7 +10,7 @@ use Rattle.game_rules.specs.declared.Point.{Point}
 use Rattle.game_rules.proofs.Positions.{mover-then}
 use Rattle.strategy_graph.specs.declared.Node.{Node}
 use Rattle.strategy_compiler.specs.Nodes.{IsCompiled}
-use Rattle.proof_tree.proofs.Common.{is_settled, Tree, link_at, numbers_at}
+use Rattle.proof_tree.proofs.Common.{is_settled, other_kind, Tree, link_at, numbers_at}
 use Rattle.proof_tree.specs.declared.Kind.{Kind}
 use Rattle.proof_tree.specs.declared.Kind.TheVariants.{Attack, Defend}
 use Rattle.proof_tree.specs.declared.Numbers.{Numbers}
@@ -20,14 +20,14 @@ use Rattle.proof_number.specs.declared.notes.Note.{Note}
 use Rattle.proof_number.specs.declared.search.Search.{Search}
 use Rattle.proof_number.proofs.Common.{no_note, note_at, AreTried, GameTree, HasTried, board_at, left_at, IsTrueMemo, Grows, HasGrown}
 use Rattle.proof_number.proofs.Common.{HasSpent, IsAtLeaf, IsExpandedAt, IsSettledAt, StandsAt, attacks_behind, behind_at, defences_behind}
-use Rattle.proof_number.proofs.Common.{game_of, sum_below}
+use Rattle.proof_number.proofs.Common.{game_of, is_attack, sum_below}
 use Rattle.threat_game.proofs.TreeLaws.{IsTriedMove, replies-positive, tried-at, tried-behind}
 use Rattle.proof_number.proofs.ExpandedCounts.{IsNewNote, expanded-grown, new_behind, unwritten_child, sum-nothing, sum-under}
 use Rattle.proof_number.proofs.Expanding.{IsNewChild}
 use Rattle.proof_number.proofs.Recording.{keeps-all}
 use Rattle.proof_number.proofs.Steps.{attack-moves, attack-no_five, leaf-compiled, leaf-lawful, leaf-noted, lost-step}
 use Rattle.proof_number.proofs.Sums.{sum-le, sum-less, sum-list}
-use Rattle.threat_game.proofs.AttackLaws.{none-tried, tried-enough}
+use Rattle.threat_game.proofs.AttackLaws.{none-tried, tried-enough, tried-or-saved}
 
 -- the note of a node of which nothing is known
 abbrev pub open_note : ℕ → Point → Note
@@ -57,6 +57,8 @@ module _ (rule : RuleKind) (b : Grid) (lawful : IsPosition rule b) (none : has_f
     on = λ p has. (All-contains (IsTriedMove rule b) (tried_moves rule b) p all-tried has).on;
     threat = λ p has. (All-contains (IsTriedMove rule b) (tried_moves rule b) p all-tried has).threat;
     enough = tried-enough rule m b none others;
+    no_five = none;
+    others = tried-or-saved rule b others;
   }
 
   -- the child behind a move
@@ -69,6 +71,7 @@ module _ (rule : RuleKind) (b : Grid) (lawful : IsPosition rule b) (none : has_f
       proved = λ e. absurd (let bad : 1 ≡ 0 = ap (λ (n : Numbers). n.proof) e in omega (arith, bad));
       disproved = λ e wins. let bad : 1 ≡ 0 = ap (λ (n : Numbers). n.disproof) e in omega (arith, bad);
     };
+    not_lost = λ e. let bad : 1 ≡ 0 = ap (λ (n : Numbers). n.disproof) e in omega (arith, bad);
   }
 
   note-tried : (m : ℕ) (p : Point) (c : List Node) → IsNewNote rule Attack b c (open_note m p) open_one
@@ -120,6 +123,15 @@ module _ (rule : RuleKind) (s : Search) (t : Tree) (c : List Node) (leaf : ℕ) 
   none-grows empty u st =
       lost-step rule s t c leaf s.board stands attack u st s refl refl here.searching.remembered
       (none-tried rule (note_at s.notes.items leaf).left s.board no-five others empty (let l = two-moves in omega (arith, l)))
+      (λ several. record {
+        no_five = no-five;
+        refuted = λ p threat. elim (tried-or-saved rule s.board others p threat) [
+          | inl listed ↦
+              let nothing : Contains [] p = subst (λ (ps : List Point). Contains ps p) empty listed in
+              absurd (omega (arith, nothing.1))
+          | inr saved ↦ inl saved
+        ];
+      })
 
   left-noted : left_at (game_of rule s t).left leaf ≡ (note_at s.notes.items leaf).left
   left-noted = get_or-map (λ (n : Note). n.left) s.notes.items leaf no_note 0 (leaf-noted rule s t c leaf s.board stands)
@@ -247,6 +259,10 @@ module _ (rule : RuleKind) (s : Search) (t : Tree) (c : List Node) (leaf : ℕ) 
       written-none = sum-nothing (length more) (λ j. unwritten_child (link_at t.links leaf).kind (note_at ms j))
           (λ j low. ap (λ (k : Kind). unwritten_child k (note_at ms j)) attack)
 
+      attackers-none : sum_below (length more) (λ j. cond (is_attack (other_kind (link_at t.links leaf).kind)) 1 0) ≡ 0
+      attackers-none = sum-nothing (length more) (λ j. cond (is_attack (other_kind (link_at t.links leaf).kind)) 1 0)
+          (λ j low. ap (λ (k : Kind). cond (is_attack (other_kind k)) 1 0) attack)
+
       pub moves-grow : Grows rule s v t u c leaf
       unfolding Grows
       moves-grow =
@@ -272,8 +288,8 @@ module _ (rule : RuleKind) (s : Search) (t : Tree) (c : List Node) (leaf : ℕ) 
           { board = w.board; notes = v.notes; settled = w.settled; attacked = w.attacked; defended = w.defended }) (sym rest))
           (ap (λ (w : Search). w.board) rest)
           (subst IsCompiled (sym (append-nil c)) (leaf-compiled rule s t c leaf s.board stands))
-          (subst (λ (d : List Node). IsTrueMemo rule d v.settled) (sym (append-nil c))
-          (subst (IsTrueMemo rule c) (sym same_table) here.searching.remembered))
+          (subst (λ (d : List Node). IsTrueMemo rule d (game_of rule s t) v.settled) (sym (append-nil c))
+          (subst (IsTrueMemo rule c (game_of rule s t)) (sym same_table) here.searching.remembered))
           ms items (ap length noted ∙ length-map (tried_moves rule s.board) (open_note m) ∙ sym long) (omega (arith, some, size))
           tried-here child-at noted-at
           (omega (arith, count)) (omega (arith, defended)) (omega (arith, count, budget)) (omega (arith, defended, fits))
@@ -281,5 +297,6 @@ module _ (rule : RuleKind) (s : Search) (t : Tree) (c : List Node) (leaf : ℕ) 
           (λ kind. fresh-sum kind more fresh)
           (λ defends q on none. let bad : Attack ≡ Defend = sym attack ∙ defends in cc)
           (omega (arith, count, unwritten))
+          (omega (arith, count, attackers-none))
           (omega (arith, count, attacks, all, attacks_left))
           (omega (arith, defended, defences, all, each, defences_left)))

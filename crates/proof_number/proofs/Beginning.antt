@@ -18,7 +18,8 @@ use Rattle.threat_game.proofs.Common.{threat_tree, IsThreatWin}
 use Rattle.proof_number.specs.declared.notes.Note.{Note}
 use Rattle.proof_number.specs.declared.search.Search.{Search}
 use Rattle.proof_number.proofs.Common.{no_note, note_at, win_of, CanGrow, GameTree, IsGameTree, TellsTruly, WinsAt, board_at, left_at}
-use Rattle.proof_number.proofs.Common.{IsTrueOf, AreWritten, IsCounted, IsNew, IsNotedWin, IsSettledAt, Searches, attacks_behind, behind_at}
+use Rattle.proof_number.proofs.Common.{IsLostAt, IsTrueOf, AreWritten, IsCounted, IsNew, IsNotedWin, IsSettledAt, Searches, attacks_behind}
+use Rattle.proof_number.proofs.Common.{behind_at}
 use Rattle.proof_number.proofs.Common.{behind_leaves, defences_behind, game_of, is_attack, noted_won, sum_below, unwritten}
 use Rattle.proof_number.proofs.GameTruths.{board-root, left-root}
 use Rattle.strategy_compiler.proofs.Growing.{grows-length, win-some}
@@ -34,6 +35,7 @@ pub record IsRootOf (rule : RuleKind) (s : Search) (t : Tree) (c : List Node) : 
   pub can_grow : is_settled (numbers_at t.numbers 0) ≡ false → (has_five rule s.root (mover s.root) ≡ false) × (2 ≤ s.depth)
   pub fresh : is_settled (numbers_at t.numbers 0) ≡ false → (note_at s.notes.items 0).moves ≡ 0
   pub truth : TellsTruly (numbers_at t.numbers 0) (WinsByThreats rule s.depth s.root)
+  pub lost : numbers_at t.numbers 0 ≡ settled_numbers false → IsLostAt Attack (game_of rule s t) s.depth s.root
   pub noted : 0 < (note_at s.notes.items 0).moves → IsNotedWin rule s.depth s.root c (win_of (note_at s.notes.items 0))
   pub has_win : numbers_at t.numbers 0 ≡ settled_numbers true → 0 < (note_at s.notes.items 0).moves
   pub few : length c + one_where (nat_eq (note_at s.notes.items 0).moves 0) ≤ s.before + 1
@@ -80,6 +82,9 @@ module _ (rule : RuleKind) (s : Search) (t : Tree) (c : List Node) (begun : IsBe
   proved-root : (i : ℕ) → i < length t.links → numbers_at t.numbers i ≡ settled_numbers true → numbers_at t.numbers 0 ≡ settled_numbers true
   proved-root i low = subst (λ (k : ℕ). numbers_at t.numbers k ≡ settled_numbers true) (sym (only i low))
 
+  lost-root : (i : ℕ) → i < length t.links → numbers_at t.numbers i ≡ settled_numbers false → numbers_at t.numbers 0 ≡ settled_numbers false
+  lost-root i low = subst (λ (k : ℕ). numbers_at t.numbers k ≡ settled_numbers false) (sym (only i low))
+
   lone-game : IsGameTree Game
   lone-game = record {
     moves = (let a = length-map s.notes.items (λ (n : Note). n.at) in let b = begun.one_note in let d =
@@ -100,6 +105,9 @@ module _ (rule : RuleKind) (s : Search) (t : Tree) (c : List Node) (begun : IsBe
         subst (λ (k : ℕ). TellsTruly (numbers_at t.numbers k)
         (WinsAt (link_at t.links k).kind rule (left_at Game.left k) (board_at Game k))) (only i low)
         (at-root (λ k n b. TellsTruly (numbers_at t.numbers 0) (WinsAt k rule n b)) root.truth);
+    lost = λ i low none gone.
+        subst (λ (k : ℕ). IsLostAt (link_at t.links k).kind Game (left_at Game.left k) (board_at Game k)) (only i low)
+        (at-root (λ k n b. IsLostAt k Game n b) (root.lost (lost-root i low gone)));
   }
 
   lone-written : AreWritten Game s.notes.items c (λ i. ⊥)
@@ -159,6 +167,11 @@ module _ (rule : RuleKind) (s : Search) (t : Tree) (c : List Node) (begun : IsBe
         omega (arith, lone-behind defences_behind, b, d, begun.defended_is)
         );
     nodes = (let a = begun.one_node in let b = begun.attacked_is in omega (arith, a, b));
+    attackers = (
+        let a = lone-sum (λ i. cond (is_attack (link_at t.links i).kind) 1 0) in
+        let b : ◌≡◌ {A = ℕ} (cond (is_attack (link_at t.links 0).kind) 1 0) 1 = ap (λ (k : Kind). cond (is_attack k) 1 0) attacks in
+        omega (arith, a, b, begun.attacked_is)
+        );
     attacked_fits = (let a = begun.attacked_is in let b = begun.some_budget in omega (arith, a, b));
     defended_fits = (let a = begun.defended_is in omega (arith, a));
     leaves = λ kind some. let a = begun.one_node in absurd (omega (arith, a, some));
@@ -173,7 +186,7 @@ module _ (rule : RuleKind) (s : Search) (t : Tree) (c : List Node) (begun : IsBe
     depth_fits = begun.depth_fits;
     budget_fits = begun.budget_fits;
     written = lone-written;
-    remembered = true-none rule (IsTrueOf rule c) s.settled begun.none;
+    remembered = true-none rule (IsTrueOf rule c Game) s.settled begun.none;
     counted = lone-counted;
     compiled = begun.compiled;
     few = (
@@ -211,6 +224,7 @@ module _ (rule : RuleKind) (s : Search) (t : Tree) (c : List Node) (b : Grid) (b
     can_grow = λ e. (subst (λ (w : Grid). has_five rule w (mover w) ≡ false) (sym begins.root_is) none, deep);
     fresh = λ e. begins.unwon;
     truth = record { proved = λ e. absurd (not-settled true e); disproved = λ e wins. not-settled false e };
+    lost = λ e. absurd (not-settled false e);
     noted = λ some. let e = begins.unwon in absurd (omega (arith, some, e));
     has_win = λ e. absurd (not-settled true e);
     few = (
@@ -283,6 +297,7 @@ module _ (rule : RuleKind) (s : Search) (t : Tree) (c : List Node) (b : Grid) (b
         proved = λ e. won-noted.1;
         disproved = λ e. let bad : 0 ≡ 4294967295 = ap (λ (n : Numbers). n.proof) (sym st.settled ∙ e) in absurd (omega (arith, bad));
       };
+      lost = λ e. let bad : 0 ≡ 4294967295 = ap (λ (n : Numbers). n.proof) (sym st.settled ∙ e) in absurd (omega (arith, bad));
       noted = λ some. won-noted;
       has_win = λ e. win-moves;
       few = (
@@ -313,6 +328,7 @@ module _ (rule : RuleKind) (s : Search) (t : Tree) (c : List Node) (b : Grid) (b
             (subst (WinsByThreats rule v.depth) (ap (λ (w : Search). w.root) rest ∙ begins.root_is) wins)
             );
       };
+      lost = λ e several. let deep = ap (λ (w : Search). w.depth) rest in absurd (omega (arith, several, deep, last));
       noted = λ some. let e : (note_at v.notes.items 0).moves ≡ 0 =
           ap (λ (w : Search). (note_at w.notes.items 0).moves) rest ∙ begins.unwon in absurd (omega (arith, some, e));
       has_win = λ e. let bad : 4294967295 ≡ 0 = ap (λ (n : Numbers). n.proof) (sym st.settled ∙ e) in absurd (omega (arith, bad));

@@ -33,7 +33,8 @@ use Rattle.proof_number.specs.declared.notes.Note.{Note}
 use Rattle.proof_number.specs.declared.search.Search.{Search}
 use Rattle.proof_number.proofs.Common.{all_notes, answer_of, no_note, note_at, noted_for, win_of, AreMet, GameTree, HasTried, IsGameTree}
 use Rattle.proof_number.proofs.Common.{among, board_at, left_at, left_before, moves_of, noted_tree, AreWritten, IsAbove, IsCounted}
-use Rattle.proof_number.proofs.Common.{IsNotedWin, IsSearching, KeepsTree, game_of, is_attack, noted_won, sum_below, unwritten, Searches}
+use Rattle.proof_number.proofs.Common.{IsNotedWin, IsSearching, IsTrueMemo, KeepsTree, game_of, is_attack, noted_won, sum_below, unwritten}
+use Rattle.proof_number.proofs.Common.{Searches}
 use Rattle.proof_number.proofs.GameTruths.{IsChildOf, child-of, each-zero, left-low, points-same}
 use Rattle.proof_number.proofs.Recording.{all-points, note-for, written-node, won-node}
 use Rattle.proof_number.proofs.Remembering.{memo-grown}
@@ -384,7 +385,9 @@ module _ (rule : RuleKind) (s : Search) (t : Tree) (c : List Node) (node : ℕ) 
           budget_fits = h.budget_fits;
           written = subst (λ (g : GameTree). AreWritten g u.notes.items (c ++ more) (IsAbove t.links node))
               (sym (won-places rule s t u.notes.items node win items)) won-written;
-          remembered = memo-grown rule c more s.settled lower h.remembered;
+          remembered = subst (λ (g : GameTree). IsTrueMemo rule (c ++ more) g s.settled)
+              (sym (won-places rule s t u.notes.items node win items))
+              (memo-grown rule (game_of rule s t) c more s.settled lower h.remembered);
           counted = subst (λ (g : GameTree). IsCounted g s.budget s.attacked s.defended)
               (sym (won-places rule s t u.notes.items node win items)) h.counted;
           compiled = compiled;

@@ -19,7 +19,7 @@ use Rattle.game_rules.proofs.Games.{win-has_five}
 use Rattle.proof_tree.specs.declared.Numbers.{Numbers}
 use Rattle.proof_tree.specs.declared.Kind.{Kind}
 use Rattle.proof_tree.specs.declared.Kind.TheVariants.{Attack, Defend}
-use Rattle.proof_tree.proofs.Common.{no_numbers, numbers_at, is_settled, settled_numbers, Tree, link_at}
+use Rattle.proof_tree.proofs.Common.{no_numbers, numbers_at, is_settled, other_kind, settled_numbers, Tree, link_at}
 use Rattle.proof_tree.proofs.SumLaws.{IsFresh, fresh-sum}
 use Rattle.proof_tree.proofs.Settled.{proved-apart}
 use Rattle.strategy_graph.specs.declared.Node.{Node}
@@ -45,13 +45,13 @@ use Rattle.proof_number.specs.declared.search.Search.{Search}
 use Rattle.proof_number.proofs.Common.{AreSettled, IsSettledChild, child_at, child_note, child_numbers, no_child, no_note, note_at, win_of}
 use Rattle.proof_number.proofs.Common.{open_numbers, AreMet, CanGrow, GameTree, HasTried, TellsTruly, WinsAt, among, board_at, left_at}
 use Rattle.proof_number.proofs.Common.{IsTrueMemo, Grows, HasGrown, HasSpent, IsAtLeaf, IsExpandedAt, IsNotedWin, IsSettledAt, StandsAt}
-use Rattle.proof_number.proofs.Common.{attacks_behind, behind_at, defences_behind, game_of, sum_below}
+use Rattle.proof_number.proofs.Common.{attacks_behind, behind_at, defences_behind, game_of, is_attack, sum_below, IsLostAt, WinsByFewFours}
 use Rattle.proof_number.proofs.ExpandedCounts.{IsNewNote, expanded-grown, new_behind, unwritten_child, sum-nothing}
 use Rattle.proof_number.proofs.Expanding.{IsNewChild}
 use Rattle.proof_number.proofs.Growing.{lost-grown}
 use Rattle.proof_number.proofs.Remembering.{memo-grown}
 use Rattle.proof_number.proofs.Steps.{leaf-lawful, leaf-noted}
-use Rattle.proof_number.proofs.Sums.{sum-le, sum-less, sum-list}
+use Rattle.proof_number.proofs.Sums.{sum-le, sum-less, sum-list, sum-passing}
 
 -- what is noted first of a child
 abbrev pub first_note : Child → ℕ → Note
@@ -274,12 +274,17 @@ module _ (rule : RuleKind) (left : ℕ) (b : Grid) (d : List Node) (child : Chil
     disproved = λ k w. proved-apart (sym (settled.proved e).0 ∙ k);
   }
 
+  lost-by : (r : Bool) → is_open child.judged ≡ r → numbers ≡ settled_numbers false → ⊥
+  lost-by true e k = open-apart false (sym (settled.unproved e).0 ∙ k)
+  lost-by false e k = proved-apart (sym (settled.proved e).0 ∙ k)
+
   new-child : IsNewChild rule Defend left b child.at left numbers
   new-child = record {
     on = is.on;
     fewer = refl;
     grows = grows-by child.judged refl;
     tells = tells-by (is_open child.judged) refl;
+    not_lost = lost-by (is_open child.judged) refl;
   }
 
   pub child-new : IsNewChild rule Defend left b note.at note.left numbers
@@ -373,20 +378,23 @@ module _ (rule : RuleKind) (s : Search) (t : Tree) (c : List Node) (leaf : ℕ) 
       (subst (P Defend (note_at s.notes.items leaf).left) here.view_is h))
 
   -- where a reply leaves no win the leaf is settled
-  pub escape-grows : HasEscape rule (note_at s.notes.items leaf).left view → (u : Tree) → IsSettledAt t u leaf false → (b : Grid)
-      → b ≡ s.board → Grows rule s (record s { board = b }) t u c leaf
+  pub escape-grows : HasEscape rule (note_at s.notes.items leaf).left view → (note_at s.notes.items leaf).left ≤ 2 → (u : Tree)
+      → IsSettledAt t u leaf false → (b : Grid) → b ≡ s.board → Grows rule s (record s { board = b }) t u c leaf
   unfolding Grows
-  escape-grows escape u st b same =
+  escape-grows escape few u st b same =
       lost-grown rule s t c leaf view here u st (record s { board = b }) refl same here.searching.remembered
       (at-leaf-is (λ k n d. WinsAt k rule n d → ⊥) (escape-saves rule (note_at s.notes.items leaf).left view escape))
+      (at-leaf-is (λ k n d. IsLostAt k (game_of rule s t) n d)
+      (inr (inr (record { reply = escape.reply; on = escape.on; denied = inr (few, escape.no_win) }))))
 
   -- where the other side wins by its own fours the leaf is settled
-  pub denied-grows : ((moves : ℕ) → LosesToThreats rule moves view → ⊥) → (u : Tree) → IsSettledAt t u leaf false
-      → Grows rule s s t u c leaf
+  pub denied-grows : ((moves : ℕ) → LosesToThreats rule moves view → ⊥) → WinsByFewFours rule view → (u : Tree)
+      → IsSettledAt t u leaf false → Grows rule s s t u c leaf
   unfolding Grows
-  denied-grows denied u st =
+  denied-grows denied fours u st =
       lost-grown rule s t c leaf view here u st s refl refl here.searching.remembered
       (at-leaf-is (λ k n d. WinsAt k rule n d → ⊥) (denied (note_at s.notes.items leaf).left))
+      (at-leaf-is (λ k n d. IsLostAt k (game_of rule s t) n d) (inr (inl fours)))
 
   -- the positions behind the leaf are counted from the root
   attacks-fit : s.attacked + behind_replies rule (threat_tree rule (note_at s.notes.items leaf).left) view ≤ threat_tree rule s.depth s.root
@@ -609,6 +617,7 @@ module _ (rule : RuleKind) (s : Search) (t : Tree) (c : List Node) (leaf : ℕ) 
           (board_at (game_of rule s t) leaf) ≡ behind_replies rule (threat_tree rule left) view - 1 =
           at-leaf-is (λ k n b. defences_behind k rule n b ≡ behind_replies rule (threat_tree rule left) view - 1) refl in
           let unwritten = unwritten-new (c ++ grown.added) more ms settled-now in
+          let attackers = sum-passing (length more) (λ j. is_attack (other_kind (link_at t.links leaf).kind)) in
           let nodes = nodes-few in
           let added = grown.few in
           let many = children-many in
@@ -621,8 +630,8 @@ module _ (rule : RuleKind) (s : Search) (t : Tree) (c : List Node) (leaf : ℕ) 
           (rest ∙ ap (λ (w : Search). record s
           { board = v.board; notes = v.notes; settled = w.settled; attacked = w.attacked; defended = w.defended }) (sym rest))
           same_board (subst IsCompiled grown.is compiled)
-          (memo-grown rule c grown.added v.settled (IsTable-lower c here.searching.compiled.table)
-          (subst (IsTrueMemo rule c) (sym same_table) here.searching.remembered))
+          (memo-grown rule (game_of rule s t) c grown.added v.settled (IsTable-lower c here.searching.compiled.table)
+          (subst (IsTrueMemo rule c (game_of rule s t)) (sym same_table) here.searching.remembered))
           ms items (settled.notes_count ∙ sym settled.numbers_count) (some-new d more ms settled)
           (tried-here d more ms settled) (child-at d more ms settled) (noted-at (c ++ grown.added) more ms settled-now)
           (omega (arith, count)) (omega (arith, defended)) (omega (arith, count, fits)) (omega (arith, defended, defended_fits))
@@ -630,5 +639,6 @@ module _ (rule : RuleKind) (s : Search) (t : Tree) (c : List Node) (leaf : ℕ) 
           (λ kind. fresh-sum kind more (all-fresh d more ms settled))
           (met-here (c ++ grown.added) more ms settled-now)
           (omega (arith, count, nodes, added, unwritten))
+          (omega (arith, count, many, size, attackers))
           (omega (arith, count, attacks, whole, attacks_left))
           (omega (arith, defended, defences, whole, many, some, defences_left)))

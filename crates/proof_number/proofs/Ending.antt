@@ -14,9 +14,12 @@ use Rattle.proof_tree.specs.declared.Kind.{Kind}
 use Rattle.proof_tree.proofs.Settled.{settled-one}
 use Rattle.proof_number.specs.declared.notes.Note.{Note}
 use Rattle.proof_number.specs.declared.search.Search.{Search}
-use Rattle.proof_number.proofs.Common.{HasNoThreatWin, no_note, note_at, noted_win, win_of, GameTree, TellsTruly, WinsAt, board_at, left_at}
+use Rattle.proof_number.proofs.Common.{HasDenial, HasNoThreatWin, no_note, note_at, noted_win, win_of, GameTree, TellsTruly, WinsAt}
+use Rattle.proof_number.proofs.Common.{board_at, left_at}
 use Rattle.proof_number.proofs.Common.{IsNotedWin, IsSearching, Searches, closed_nodes, game_of, is_open_leaf, sum_below}
 use Rattle.threat_game.proofs.Common.{IsThreatWin, threat_tree}
+use Rattle.proof_number.proofs.DenialLaws.{denial-loses}
+use Rattle.proof_number.proofs.Disproved.{tree-denial}
 use Rattle.proof_number.proofs.GameTruths.{board-root, left-root, all-tell}
 use Rattle.proof_number.proofs.Recording.{noted-none, noted-some}
 use Rattle.proof_number.proofs.Sums.{sum-suc, sum-zero}
@@ -128,11 +131,21 @@ module _ (rule : RuleKind) (s : Search) (t : Tree) (c : List Node) (searches : S
       | inr lost ↦ lost
     ]
 
+    -- there is a denial of no more positions than were counted, and so no win
+    pub root-denial : HasDenial rule s.depth s.root (min s.budget (threat_tree rule s.depth s.root))
+    root-denial =
+        let first : threat_tree rule (left_at Game.left 0) s.root ≡ threat_tree rule s.depth s.root =
+        ap (λ (n : ℕ). threat_tree rule n s.root) root-left in
+        tree-denial Game h.tree h.game s.depth s.root root-left root-board root-lost (min s.budget (threat_tree rule s.depth s.root))
+        (omega (arith, h.counted.attackers, h.counted.attacked_fits, h.counted.attacks, first))
+
     pub root-none : HasNoThreatWin rule s.depth s.root
-    root-none = record {
-      no_threats = λ wins. root-tells.disproved root-lost wins;
-      no_fours = λ wins. root-tells.disproved root-lost (WinsByFours-WinsByThreats rule s.depth s.root wins);
-    }
+    root-none =
+        let most : ℕ = min s.budget (threat_tree rule s.depth s.root) in
+        record {
+          no_threats = denial-loses rule s.depth s.root most root-denial;
+          no_fours = λ wins. denial-loses rule s.depth s.root most root-denial (WinsByFours-WinsByThreats rule s.depth s.root wins);
+        }
 
   -- the same of the note as it was read, and of the depth and the board that the search was begun for
   module _ (n : ℕ) (b : Grid) (deep : s.depth ≡ n) (from : s.root ≡ b) (note : Note) (read : note ≡ get_or s.notes.items 0 note) where
@@ -152,6 +165,14 @@ module _ (rule : RuleKind) (s : Search) (t : Tree) (c : List Node) (searches : S
     told-none e settled =
         subst (HasNoThreatWin rule n) from
         (subst (λ (m : ℕ). HasNoThreatWin rule m s.root) deep (root-none (ap noted_win root-note ∙ sym e) settled))
+
+    pub told-denial : (budget : ℕ) → s.budget ≡ budget → None ≡ noted_win note → is_settled (numbers_at t.numbers 0) ≡ true
+        → HasDenial rule n b (min budget (threat_tree rule n b))
+    told-denial budget for_budget e settled =
+        subst (λ (k : ℕ). HasDenial rule n b (min k (threat_tree rule n b))) for_budget
+        (subst (λ (d : Grid). HasDenial rule n d (min s.budget (threat_tree rule n d))) from
+        (subst (λ (m : ℕ). HasDenial rule m s.root (min s.budget (threat_tree rule m s.root))) deep
+        (root-denial (ap noted_win root-note ∙ sym e) settled)))
 
     pub told-lost : None ≡ noted_win note → is_settled (numbers_at t.numbers 0) ≡ true → numbers_at t.numbers 0 ≡ settled_numbers false
     told-lost e = root-lost (ap noted_win root-note ∙ sym e)

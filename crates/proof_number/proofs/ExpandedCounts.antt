@@ -30,10 +30,11 @@ use Rattle.proof_number.proofs.Common.{moves_of, behind_at, sum_below, no_note}
 use Rattle.proof_number.proofs.Common.{note_at, win_of, noted_tree, IsTrueMemo, AreWritten, HasGrown, IsAtLeaf, IsCounted, IsExpandedAt}
 use Rattle.proof_number.proofs.Common.{IsMet, IsNotedWin, IsSearching, attacks_behind, defences_behind, game_of, is_attack, unwritten}
 use Rattle.proof_number.proofs.Common.{StandsAt}
+use Rattle.proof_number.proofs.Remembering.{memo-kept}
 use Rattle.proof_number.proofs.Settling.{written-grown}
 use Rattle.proof_number.proofs.Sums.{sum-le, sum-more, sum-suc, sum-zero}
-use Rattle.proof_number.proofs.Expanding.{IsNewChild, behind-grown, child-behind, child-counts, closed-grown, game-grown, grown-moves}
-use Rattle.proof_number.proofs.Expanding.{new-board, new-kind}
+use Rattle.proof_number.proofs.Expanding.{IsNewChild, behind-grown, child-behind, child-counts, closed-grown, disproved-grown, game-grown}
+use Rattle.proof_number.proofs.Expanding.{grown-moves, new-board, new-kind}
 use Rattle.proof_number.proofs.Expanding.{new-left, old-board, old-kind, old-left, old-moves_of, old-numbers, split}
 
 -- what is noted of a new child of this kind: a win that is written, where it is proved, and none where it is open
@@ -55,7 +56,7 @@ module _ (rule : RuleKind) (s : Search) (t : Tree) (c : List Node) (leaf : ℕ) 
     (v : Search) (nodes : List Node)
     (rest : v ≡ record s { board = v.board; notes = v.notes; settled = v.settled; attacked = v.attacked; defended = v.defended })
     (same_board : v.board ≡ s.board)
-    (compiled : IsCompiled (c ++ nodes)) (table : IsTrueMemo rule (c ++ nodes) v.settled) (ms : List Note)
+    (compiled : IsCompiled (c ++ nodes)) (table : IsTrueMemo rule (c ++ nodes) (game_of rule s t) v.settled) (ms : List Note)
     (items : v.notes.items ≡ s.notes.items ++ ms) (many : length ms ≡ length more) (some : 0 < length more)
     (tried : HasTried (link_at t.links leaf).kind rule (left_at (game_of rule s t).left leaf) (board_at (game_of rule s t) leaf)
     (map (λ n. n.at) ms))
@@ -72,6 +73,8 @@ module _ (rule : RuleKind) (s : Search) (t : Tree) (c : List Node) (leaf : ℕ) 
     → (0 < (note_at ms 0).moves) × IsNotedWin rule (left_at (game_of rule s t).left leaf) (after (board_at (game_of rule s t) leaf) q)
     (c ++ nodes) (win_of (note_at ms 0)))
     (short : s.attacked + length nodes + sum_below (length more) (λ j. unwritten_child (link_at t.links leaf).kind (note_at ms j))
+    ≤ v.attacked)
+    (attackers_counted : s.attacked + sum_below (length more) (λ j. cond (is_attack (other_kind (link_at t.links leaf).kind)) 1 0)
     ≤ v.attacked) where
   pub long : IsGrown t.links leaf (length more) u.links
   long = subst (IsGrown t.links leaf (length more)) (sym e.links) (grown t.links leaf (length more) h.in_tree)
@@ -387,6 +390,31 @@ module _ (rule : RuleKind) (s : Search) (t : Tree) (c : List Node) (leaf : ℕ) 
             (new-link-kind j l)
             ∙ ap (λ (n : Note). one_where (is_attack (other_kind (link_at t.links leaf).kind) && nat_eq n.moves 0)) (new-note j)
 
+  attackers-now : sum_below (length u.links) (λ i. cond (is_attack (link_at u.links i).kind) 1 0) ≤ v.attacked
+  attackers-now =
+      let parts : sum_below (length u.links) (λ i. cond (is_attack (link_at u.links i).kind) 1 0) ≡ sum_below (length t.links)
+      (λ i. cond (is_attack (link_at u.links i).kind) 1 0) + sum_below (length more)
+      (λ j. cond (is_attack (link_at u.links (length t.links + j)).kind) 1 0) =
+      ap (λ (n : ℕ). sum_below n (λ i. cond (is_attack (link_at u.links i).kind) 1 0)) long.sized
+      ∙ sum-more (length t.links) (length more) (λ i. cond (is_attack (link_at u.links i).kind) 1 0) in
+      let old = sum-le (length t.links) (λ i. cond (is_attack (link_at u.links i).kind) 1 0)
+      (λ i. cond (is_attack (link_at t.links i).kind) 1 0) (λ i l. let a = old-attack i l in omega (arith, a)) in
+      let fresh = sum-le (length more) (λ j. cond (is_attack (link_at u.links (length t.links + j)).kind) 1 0)
+      (λ j. cond (is_attack (other_kind (link_at t.links leaf).kind)) 1 0) (λ j l. let a = new-attack j l in omega (arith, a)) in
+      let before = h.searching.counted.attackers in
+      omega (arith, parts, old, fresh, before, attackers_counted) where
+        old-attack : (i : ℕ) → i < length t.links → ◌≡◌ {A = ℕ} (cond (is_attack (link_at u.links i).kind) 1 0)
+            (cond (is_attack (link_at t.links i).kind) 1 0)
+        old-attack i l =
+            ap (λ (kind : Kind). cond (is_attack kind) 1 0)
+            (old-kind (game_of rule s t) h.searching.tree leaf h.in_tree h.childless h.searching.game u.links u.numbers more
+            (map (λ (n : Note). n.at) ms) (map (λ (n : Note). n.left) ms) (length more) some points lefts refl long e.tree e.others
+            e.children tried h.leaf_open each-child i l)
+
+        new-attack : (j : ℕ) → j < length more → ◌≡◌ {A = ℕ} (cond (is_attack (link_at u.links (length t.links + j)).kind) 1 0)
+            (cond (is_attack (other_kind (link_at t.links leaf).kind)) 1 0)
+        new-attack j l = ap (λ (kind : Kind). cond (is_attack kind) 1 0) (new-link-kind j l)
+
   sums-now : (kind : Kind) → 1 < length u.links → leaf_sum kind u.links u.numbers ≤ length u.links
   sums-now kind many_nodes =
       let bound : leaf_sum kind u.links u.numbers ≤ leaf_sum kind (grown_links t.links leaf (length more)) (t.numbers ++ more) =
@@ -486,6 +514,7 @@ module _ (rule : RuleKind) (s : Search) (t : Tree) (c : List Node) (leaf : ℕ) 
           let same = ap (λ (n : ℕ). threat_tree rule n s.root) root-left in
           omega (arith, a, b, leaf-counts defences_behind, children-count defences_behind, defences_counted, same);
       nodes = let a = h.searching.counted.nodes in let b = long.sized in omega (arith, a, b, nodes_counted);
+      attackers = attackers-now;
       attacked_fits = attacked_fits;
       defended_fits = defended_fits;
       leaves = sums-now;
@@ -508,12 +537,22 @@ module _ (rule : RuleKind) (s : Search) (t : Tree) (c : List Node) (leaf : ℕ) 
           game = subst IsGameTree (sym to)
               (game-grown (game_of rule s t) h.searching.tree leaf h.in_tree h.childless h.searching.game u.links u.numbers more
               (map (λ (n : Note). n.at) ms) (map (λ (n : Note). n.left) ms) (length more) some points lefts refl long e.tree e.others
-              e.children tried h.leaf_open each-child);
+              e.children tried h.leaf_open each-child h.root_open h.leaf_is);
           depth = ap (λ (n : Note). n.left) (old-note 0 h.searching.tree.linked.some) ∙ h.searching.depth;
           depth_fits = h.searching.depth_fits;
           budget_fits = h.searching.budget_fits;
           written = subst (λ (w : GameTree). AreWritten w v.notes.items (c ++ nodes) (IsOnWayUp u.links leaf)) (sym to) written-now;
-          remembered = table;
+          remembered = subst (λ (w : GameTree). IsTrueMemo rule (c ++ nodes) w v.settled) (sym to)
+              (memo-kept (game_of rule s t) (record {
+                rule = rule;
+                start = s.root;
+                tree = record { links = u.links; numbers = u.numbers };
+                moves = map (λ (n : Note). n.at) s.notes.items ++ map (λ (n : Note). n.at) ms;
+                left = map (λ (n : Note). n.left) s.notes.items ++ map (λ (n : Note). n.left) ms;
+              }) refl
+              (disproved-grown (game_of rule s t) h.searching.tree leaf h.in_tree h.childless h.searching.game u.links u.numbers more
+              (map (λ (n : Note). n.at) ms) (map (λ (n : Note). n.left) ms) (length more) some points lefts refl long e.tree e.others
+              e.children tried h.leaf_open each-child h.root_open h.leaf_is) rule (c ++ nodes) v.settled table);
           counted = subst (λ (w : GameTree). IsCounted w s.budget v.attacked v.defended) (sym to) counted-now;
           compiled = compiled;
           few = few-now;

@@ -12,23 +12,28 @@ use Rattle.game_rules.proofs.Common.{Grid, outcome, after}
 use Rattle.proof_tree.specs.declared.Kind.{Kind}
 use Rattle.proof_tree.specs.declared.Link.{Link}
 use Rattle.proof_tree.specs.declared.Numbers.{Numbers}
-use Rattle.proof_tree.proofs.Common.{is_settled, no_numbers, other_kind, IsTree, OthersStay, Tree, link_at, numbers_at}
+use Rattle.proof_tree.proofs.Common.{is_settled, no_numbers, other_kind, IsTree, OthersStay, Tree, link_at, most_proving, numbers_at}
+use Rattle.proof_tree.proofs.Common.{settled_numbers}
 use Rattle.proof_tree.proofs.Changed.{IsGrown}
 use Rattle.proof_tree.proofs.Settled.{leaf-beside}
 use Rattle.threat_game.proofs.Common.{move_at, nowhere}
 use Rattle.proof_number.proofs.Common.{CanGrow, GameTree, HasTried, IsGameTree, TellsTruly, WinsAt, board_at, board_of, left_at}
 use Rattle.proof_number.proofs.Common.{left_before, moves_of, behind_at, behind_leaves, closed_nodes, is_open_leaf, sum_below}
+use Rattle.proof_number.proofs.Common.{IsDisproved, IsLostAt}
 use Rattle.proof_number.proofs.GameTruths.{board-kept, board-step}
+use Rattle.proof_number.proofs.Remembering.{lost-kept}
 use Rattle.proof_number.proofs.Settling.{one_unless}
+use Rattle.proof_number.proofs.Staying.{expanded-stays}
 use Rattle.proof_number.proofs.Sums.{sum-le, sum-less, sum-more}
 
 -- one child of a leaf with this kind, so many moves and this board: its move goes on, and if it is open it can grow, else it tells
--- truly
+-- truly, and is not disproved
 pub record IsNewChild (rule : RuleKind) (kind : Kind) (left : ℕ) (b : Grid) (p : Point) (n : ℕ) (numbers : Numbers) : Type 0 where
   pub on : outcome rule b p ≡ GoesOn
   pub fewer : left_before (other_kind kind) n ≡ left
   pub grows : is_settled numbers ≡ false → CanGrow (other_kind kind) rule n (after b p)
   pub tells : TellsTruly numbers (WinsAt (other_kind kind) rule n (after b p))
+  pub not_lost : numbers ≡ settled_numbers false → ⊥
 
 module _ (g : GameTree) (ok : IsTree g.tree) (leaf : ℕ) (inside : leaf < length g.tree.links)
     (childless : (link_at g.tree.links leaf).count ≡ 0) (game : IsGameTree g)
@@ -124,7 +129,38 @@ module _ (g : GameTree) (ok : IsTree g.tree) (leaf : ℕ) (inside : leaf < lengt
       ∙ ap (λ (m : ℕ). take (length ps) (drop m (g.moves ++ ps))) (sym game.moves)
       ∙ ap (take (length ps)) (drop-append_seam g.moves ps) ∙ take-length ps
 
-  pub game-grown : IsGameTree
+  -- a node that is disproved stays so
+  pub disproved-grown : is_settled (numbers_at g.tree.numbers 0) ≡ false → leaf ≡ most_proving g.tree → (n : ℕ) (b : Grid)
+      → IsDisproved g n b → IsDisproved
+      (record {
+        rule = g.rule;
+        start = g.start;
+        tree = record { links = links; numbers = numbers };
+        moves = g.moves ++ ps;
+        left = g.left ++ ns;
+      }) n b
+  disproved-grown root_open leaf_is n b is =
+      let low = is.inside in
+      record {
+        node = is.node;
+        inside = (let e = long.sized in omega (arith, e, low));
+        attack = old-kind is.node low ∙ is.attack;
+        disproved = expanded-stays g.tree ok root_open leaf leaf_is links numbers more old-parent inside others is.node low is.disproved;
+        several = is.several;
+        left_is = old-left is.node low ∙ is.left_is;
+        board_is = old-board is.node low ∙ is.board_is;
+      }
+
+  abbrev Grown : GameTree
+  Grown = record {
+    rule = g.rule;
+    start = g.start;
+    tree = record { links = links; numbers = numbers };
+    moves = g.moves ++ ps;
+    left = g.left ++ ns;
+  }
+
+  pub game-grown : is_settled (numbers_at g.tree.numbers 0) ≡ false → leaf ≡ most_proving g.tree → IsGameTree
       (record {
         rule = g.rule;
         start = g.start;
@@ -132,7 +168,7 @@ module _ (g : GameTree) (ok : IsTree g.tree) (leaf : ℕ) (inside : leaf < lengt
         moves = g.moves ++ ps;
         left = g.left ++ ns;
       })
-  game-grown = record {
+  game-grown root_open leaf_is = record {
     moves = length-append g.moves ps ∙ (let a = game.moves in let b = long.sized in omega (arith, a, b, points));
     left = length-append g.left ns ∙ (let a = game.left in let b = long.sized in omega (arith, a, b, lefts));
     lawful = game.lawful;
@@ -224,7 +260,27 @@ module _ (g : GameTree) (ok : IsTree g.tree) (leaf : ℕ) (inside : leaf < lengt
           (tell-same _ _ _ _ _ _ _ _ (new-kind child.0 child.1) (new-left child.0) (new-board child.0 child.1) (children child.0 child.1)
           (each child.0 child.1).tells)
     ];
+    lost = λ i low none gone. elim (split i low) [
+      | inl old ↦ elim (cases_eq i leaf) [
+        | inl e ↦ absurd (has-children i e none)
+        | inr n ↦
+            let same : link_at links i ≡ link_at g.tree.links i = long.others i old n in
+            let before = game.lost i old (ap (λ (l : Link). l.count) (sym same) ∙ none) (sym (old-numbers i old none n) ∙ gone) in
+            lost-same (link_at links i).kind (link_at g.tree.links i).kind (left_at (g.left ++ ns) i) (left_at g.left i)
+            (board_of links (g.moves ++ ps) g.start i) (board_at g i)
+            (ap (λ (l : Link). l.kind) same) (old-left i old) (old-board i old)
+            (lost-kept g Grown refl (disproved-grown root_open leaf_is) (link_at g.tree.links i).kind (left_at g.left i) (board_at g i)
+            before)
+      ]
+      | inr child ↦ absurd ((each child.0 child.1).not_lost
+          (sym (children child.0 child.1) ∙ ap (λ (m : ℕ). numbers_at numbers m) (sym child.2) ∙ gone))
+    ];
   } where
+    lost-same : (k k2 : Kind) (n n2 : ℕ) (c c2 : Grid) → k ≡ k2 → n ≡ n2 → c ≡ c2 → IsLostAt k2 Grown n2 c2 → IsLostAt k Grown n c
+    lost-same k k2 n n2 c c2 ek en ec h =
+        subst (λ (x : Kind). IsLostAt x Grown n c) (sym ek)
+        (subst (λ (m : ℕ). IsLostAt k2 Grown m c) (sym en) (subst (IsLostAt k2 Grown n2) (sym ec) h))
+
     tried-same : (k k2 : Kind) (n n2 : ℕ) (c c2 : Grid) (ms ms2 : List Point) → k ≡ k2 → n ≡ n2 → c ≡ c2 → ms ≡ ms2
         → HasTried k2 g.rule n2 c2 ms2 → HasTried k g.rule n c ms
     tried-same k k2 n n2 c c2 ms ms2 ek en ec em h = rw (ek, en, ec, em) h

@@ -245,7 +245,7 @@ pub record IsChildOf (g : GameTree) (i j : ℕ) : Type 0 where
   pub on : outcome g.rule (board_at g i) (move_at g.moves j) ≡ GoesOn
   pub fewer : left_before (link_at g.tree.links j).kind (left_at g.left j) ≡ left_at g.left i
 
-tried-attack : (rule : RuleKind) (l : ℕ) (b : Grid) (ms : List Point) → HasTried Attack rule l b ms
+pub tried-attack : (rule : RuleKind) (l : ℕ) (b : Grid) (ms : List Point) → HasTried Attack rule l b ms
     → (n : ℕ) × (l ≡ suc n) × AreTried rule n b ms
 tried-attack rule zero b ms h = absurd h
 tried-attack rule (suc n) b ms h = (n, refl, h)
@@ -274,7 +274,7 @@ module _ (g : GameTree) (ok : IsTree g.tree) (game : IsGameTree g) where
   abbrev pub Tells : ℕ → Type 0
   Tells i = TellsTruly (numbers_at g.tree.numbers i) (WinsAt (link_at g.tree.links i).kind g.rule (left_at g.left i) (board_at g i))
 
-  fits : (i : ℕ) → i < length g.tree.links → (link_at g.tree.links i).first + (link_at g.tree.links i).count ≤ length g.moves
+  pub fits : (i : ℕ) → i < length g.tree.links → (link_at g.tree.links i).first + (link_at g.tree.links i).count ≤ length g.moves
   fits i inside = let within = ok.linked.within i inside in let same = game.moves in omega (arith, within, same)
 
   fits_numbers : (i : ℕ) → i < length g.tree.links → length (children_of (link_at g.tree.links i) g.tree.numbers)
@@ -288,7 +288,7 @@ module _ (g : GameTree) (ok : IsTree g.tree) (game : IsGameTree g) where
 
   -- where the least of the numbers of the children is 0, a child has it; where the sum is, each has it
   module _ (i : ℕ) (inside : i < length g.tree.links) (f : Numbers → ℕ) where
-    some-zero : least (map f (children_of (link_at g.tree.links i) g.tree.numbers)) ≡ 0
+    pub some-zero : least (map f (children_of (link_at g.tree.links i) g.tree.numbers)) ≡ 0
         → (j : ℕ) × IsChild (link_at g.tree.links i) j × (f (numbers_at g.tree.numbers j) ≡ 0)
     some-zero e =
         let l = link_at g.tree.links i in

@@ -18,10 +18,12 @@ use Rattle.threat_game.proofs.TreeLaws.{one_where}
 use Rattle.proof_number.specs.declared.notes.Note.{Note}
 use Rattle.proof_number.specs.declared.search.Search.{Search}
 use Rattle.proof_number.proofs.Common.{no_note, note_at, win_of, GameTree, IsGameTree, TellsTruly, WinsAt, board_at, left_at, noted_tree}
-use Rattle.proof_number.proofs.Common.{IsTrueMemo, AreWritten, HasGrown, IsAtLeaf, IsCounted, IsNotedWin, IsSearching, IsSettledAt}
+use Rattle.proof_number.proofs.Common.{IsLostAt, IsTrueMemo, AreWritten, HasGrown, IsAtLeaf, IsCounted, IsNotedWin, IsSearching}
+use Rattle.proof_number.proofs.Common.{IsSettledAt}
 use Rattle.proof_number.proofs.Common.{attacks_behind, closed_nodes, game_of, is_attack, noted_won, sum_below, unwritten}
 use Rattle.proof_number.proofs.Compiling.{won-places}
-use Rattle.proof_number.proofs.Settling.{closed-settled, counted-settled, game-settled, written-grown, written-settled}
+use Rattle.proof_number.proofs.Remembering.{memo-kept}
+use Rattle.proof_number.proofs.Settling.{closed-settled, counted-settled, disproved-settled, game-settled, written-grown, written-settled}
 use Rattle.proof_number.proofs.Sums.{sum-less}
 
 -- the search s at its leaf, and v after the leaf is settled in the tree u; c grows by more nodes
@@ -29,9 +31,11 @@ module _ (rule : RuleKind) (s : Search) (t : Tree) (c : List Node) (leaf : ℕ) 
     (p : Bool) (st : IsSettledAt t u leaf p)
     (v : Search) (more : List Node) (rest : v ≡ record s { board = v.board; notes = v.notes; settled = v.settled; attacked = v.attacked })
     (same_board : v.board ≡ s.board)
-    (compiled : IsCompiled (c ++ more)) (table : IsTrueMemo rule (c ++ more) v.settled)
+    (compiled : IsCompiled (c ++ more)) (table : IsTrueMemo rule (c ++ more) (game_of rule s t) v.settled)
     (truth : TellsTruly (settled_numbers p)
     (WinsAt (link_at t.links leaf).kind rule (left_at (game_of rule s t).left leaf) (board_at (game_of rule s t) leaf)))
+    (why : p ≡ false → IsLostAt (link_at t.links leaf).kind (game_of rule s t) (left_at (game_of rule s t).left leaf)
+    (board_at (game_of rule s t) leaf))
     (grows : s.attacked ≤ v.attacked) (fits : v.attacked ≤ s.budget)
     (behind : v.attacked ≤ s.attacked + attacks_behind (link_at t.links leaf).kind rule (left_at (game_of rule s t).left leaf)
     (board_at (game_of rule s t) leaf))
@@ -58,7 +62,8 @@ module _ (rule : RuleKind) (s : Search) (t : Tree) (c : List Node) (leaf : ℕ) 
       record {
         tree = subst IsTree same-tree st.tree;
         game = subst IsGameTree (sym to)
-            (game-settled g k.tree u.numbers leaf p h.in_tree h.childless h.leaf_open st.settled st.others k.game truth);
+            (game-settled g k.tree u.numbers leaf p h.in_tree h.childless h.leaf_open st.settled st.others h.root_open h.leaf_is k.game
+            truth why);
         depth = depth ∙ k.depth;
         depth_fits = k.depth_fits;
         budget_fits = k.budget_fits;
@@ -66,7 +71,10 @@ module _ (rule : RuleKind) (s : Search) (t : Tree) (c : List Node) (leaf : ℕ) 
             (written-settled g k.tree u.numbers leaf p h.in_tree h.childless h.leaf_open st.settled st.others s.notes.items v.notes.items
             (c ++ more) (written-grown g s.notes.items c more (λ i. ⊥) (IsTable-lower c k.compiled.table) k.written) other_notes own
             has);
-        remembered = table;
+        remembered = subst (λ (w : GameTree). IsTrueMemo rule (c ++ more) w v.settled) (sym to)
+            (memo-kept g (game_of rule s (record { links = t.links; numbers = u.numbers })) refl
+            (disproved-settled g k.tree u.numbers leaf p h.in_tree h.childless h.leaf_open st.settled st.others h.root_open h.leaf_is)
+            rule (c ++ more) v.settled table);
         counted = subst (λ (w : GameTree). IsCounted w s.budget v.attacked s.defended) (sym to)
             (counted-settled g k.tree u.numbers leaf p h.in_tree h.childless h.leaf_open st.settled st.others s.budget s.attacked s.defended
             v.attacked k.counted grows fits behind
@@ -119,7 +127,7 @@ module _ (rule : RuleKind) (s : Search) (t : Tree) (c : List Node) (leaf : ℕ) 
     (attack : (link_at t.links leaf).kind ≡ Attack) (u : Tree) (st : IsSettledAt t u leaf true)
     (v : Search) (more : List Node) (rest : v ≡ record s { board = v.board; notes = v.notes; settled = v.settled; attacked = v.attacked })
     (same_board : v.board ≡ s.board)
-    (compiled : IsCompiled (c ++ more)) (table : IsTrueMemo rule (c ++ more) v.settled) (win : WrittenWin)
+    (compiled : IsCompiled (c ++ more)) (table : IsTrueMemo rule (c ++ more) (game_of rule s t) v.settled) (win : WrittenWin)
     (items : v.notes.items ≡ noted_won s.notes.items leaf win) (some : 0 < win.moves)
     (written : IsWrittenWin rule (left_at (game_of rule s t).left leaf) (board_at (game_of rule s t) leaf) (c ++ more) win)
     (wins : WinsByThreats rule (left_at (game_of rule s t).left leaf) (board_at (game_of rule s t) leaf))
@@ -176,6 +184,7 @@ module _ (rule : RuleKind) (s : Search) (t : Tree) (c : List Node) (leaf : ℕ) 
       settled-grown rule s t c leaf view h u true st v more rest same_board compiled table
       (tells-won (WinsAt (link_at t.links leaf).kind rule (left_at (game_of rule s t).left leaf) (board_at (game_of rule s t) leaf))
       (subst (λ (k : Kind). WinsAt k rule (left_at (game_of rule s t).left leaf) (board_at (game_of rule s t) leaf)) (sym attack) wins))
+      (λ e. absurd (let bad : true ≡ false = e in cc))
       grows fits (subst (λ (k : Kind). v.attacked ≤ s.attacked + attacks_behind k rule (left_at (game_of rule s t).left leaf)
       (board_at (game_of rule s t) leaf)) (sym attack) behind)
       (λ w. won-places rule s w v.notes.items leaf win items) (same-left 0) other-note
@@ -187,8 +196,10 @@ module _ (rule : RuleKind) (s : Search) (t : Tree) (c : List Node) (leaf : ℕ) 
 module _ (rule : RuleKind) (s : Search) (t : Tree) (c : List Node) (leaf : ℕ) (view : Grid) (h : IsAtLeaf rule s t c leaf view) (u : Tree)
     (st : IsSettledAt t u leaf false)
     (v : Search) (rest : v ≡ record s { board = v.board; settled = v.settled }) (same_board : v.board ≡ s.board)
-    (table : IsTrueMemo rule c v.settled)
-    (lost : WinsAt (link_at t.links leaf).kind rule (left_at (game_of rule s t).left leaf) (board_at (game_of rule s t) leaf) → ⊥) where
+    (table : IsTrueMemo rule c (game_of rule s t) v.settled)
+    (lost : WinsAt (link_at t.links leaf).kind rule (left_at (game_of rule s t).left leaf) (board_at (game_of rule s t) leaf) → ⊥)
+    (why : IsLostAt (link_at t.links leaf).kind (game_of rule s t) (left_at (game_of rule s t).left leaf)
+    (board_at (game_of rule s t) leaf)) where
   pub lost-grown : HasGrown rule s v t u c leaf
   lost-grown =
       let k = h.searching in
@@ -197,9 +208,10 @@ module _ (rule : RuleKind) (s : Search) (t : Tree) (c : List Node) (leaf : ℕ) 
       subst (λ (x : Search). HasGrown rule s x t u c leaf) (sym rest)
       (subst (λ (d : List Node). HasGrown rule s (record s { board = v.board; settled = v.settled }) t u d leaf) nil
       (settled-grown rule s t c leaf view h u false st (record s { board = v.board; settled = v.settled }) [] refl same_board
-      (subst IsCompiled (sym nil) k.compiled) (subst (λ (d : List Node). IsTrueMemo rule d v.settled) (sym nil) table)
+      (subst IsCompiled (sym nil) k.compiled) (subst (λ (d : List Node). IsTrueMemo rule d (game_of rule s t) v.settled) (sym nil)
+      table)
       (tells-lost (WinsAt (link_at t.links leaf).kind rule (left_at (game_of rule s t).left leaf) (board_at (game_of rule s t) leaf)) lost)
-      (omega arith) k.counted.attacked_fits (omega arith) (λ x. refl) refl (λ i other. refl)
+      (λ e. why) (omega arith) k.counted.attacked_fits (omega arith) (λ x. refl) refl (λ i other. refl)
       (λ positive. subst (λ (d : List Node). IsNotedWin rule (left_at (game_of rule s t).left leaf) (board_at (game_of rule s t) leaf) d
       (win_of (note_at s.notes.items leaf))) (sym nil) (k.written.true_wins leaf h.in_tree positive))
       (λ e. cc)

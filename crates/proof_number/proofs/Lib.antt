@@ -4,12 +4,16 @@
 pub mod Common
 -- the boards of the nodes of a tree; settled numbers are true; moves played and taken back
 mod GameTruths
+-- denials, and the disproved nodes of a tree as one
+mod DenialLaws
+mod Disproved
 -- the win of a proved node is compiled; what is recorded and remembered on the way up
 mod Recording
 mod Remembering
 mod Compiling
 -- sums over nodes; a leaf is settled, or given children
 mod Sums
+mod Staying
 mod Settling
 mod Growing
 mod Expanding

@@ -28,7 +28,8 @@ use Rattle.proof_number.specs.declared.search.Search.{Search}
 use Rattle.proof_number.specs.declared.notes.Settled.{Settled}
 use Rattle.proof_number.proofs.Common.{all_notes, among, note_at, noted_for, noted_win, or_first, win_of, WinsAt, board_at, left_at}
 use Rattle.proof_number.proofs.Common.{IsTrueMemo, IsAbove, IsSearching, KeepsTree, game_of, answer_of, no_note, IsGameTree, IsTrueOf}
-use Rattle.proof_number.proofs.Common.{Searches}
+use Rattle.proof_number.proofs.Common.{IsLostAt, Searches}
+use Rattle.proof_number.proofs.Disproved.{lost-at}
 use Rattle.proof_number.proofs.GameTruths.{all-tell, position-at}
 
 -- ---- notes
@@ -142,7 +143,8 @@ won-node rule s t c way node h inside attack won =
 -- ---- what is remembered
 
 pub remembered-searching : (rule : RuleKind) (s u : Search) (t : Tree) (c : List Node) (way : ℕ → Type 0)
-    → u ≡ record s { settled = u.settled } → IsTrueMemo rule c u.settled → IsSearching rule s t c way → IsSearching rule u t c way
+    → u ≡ record s { settled = u.settled } → IsTrueMemo rule c (game_of rule s t) u.settled → IsSearching rule s t c way
+    → IsSearching rule u t c way
 remembered-searching rule s u t c way rest table h = subst (λ (w : Search). IsSearching rule w t c way) (sym rest) (record {
   tree = h.tree;
   game = h.game;
@@ -283,6 +285,10 @@ module _ (rule : RuleKind) (s : Search) (t : Tree) (c : List Node) (node : ℕ)
       → WinsByThreats rule (left_at (game_of rule s t).left node) (board_at (game_of rule s t) node) → ⊥
   lost-there inside attack lost = lost-node rule s t c (IsOnWayUp t.links node) node h inside attack lost
 
+  pub lost-there-by : node < length t.links → (link_at t.links node).kind ≡ Attack → numbers_at t.numbers node ≡ settled_numbers false
+      → IsLostAt Attack (game_of rule s t) (left_at (game_of rule s t).left node) (board_at (game_of rule s t) node)
+  lost-there-by inside attack lost = lost-at (game_of rule s t) h.tree h.game node inside attack lost
+
   pub won-there : node < length t.links → (link_at t.links node).kind ≡ Attack → numbers_at t.numbers node ≡ settled_numbers true
       → WinsByThreats rule (left_at (game_of rule s t).left node) (board_at (game_of rule s t) node)
   won-there inside attack won = won-node rule s t c (IsOnWayUp t.links node) node h inside attack won
@@ -309,14 +315,14 @@ module _ (rule : RuleKind) (s : Search) (t : Tree) (c : List Node) (node : ℕ) 
   -- what is true of the node is kept in the table
   pub kept-searches : (u : Search) (w : Grid) (n : ℕ) (v : Settled) → node < length t.links → u ≡ record s { settled = u.settled }
       → w ≡ board_at (game_of rule s t) node → n ≡ left_at (game_of rule s t).left node
-      → IsTrueOf rule c (board_at (game_of rule s t) node) (left_at (game_of rule s t).left node) v
+      → IsTrueOf rule c (game_of rule s t) (board_at (game_of rule s t) node) (left_at (game_of rule s t).left node) v
       → (u.settled ≡ kept (packed w, n) v s.settled) ⊎ (u.settled ≡ s.settled) → Searches rule u t c (IsAbove t.links node)
   unfolding Searches
   kept-searches u w n v inside rest there left true_of keeps =
       remembered-searching rule s u t c (IsAbove t.links node) rest
-      (true-kept rule (IsTrueOf rule c) (board_at (game_of rule s t) node) w n v s.settled
+      (true-kept rule (IsTrueOf rule c (game_of rule s t)) (board_at (game_of rule s t) node) w n v s.settled
       (position-at (game_of rule s t) above.tree.linked above.game node inside) there above.remembered u.settled
-      (subst (λ (m : ℕ). IsTrueOf rule c (board_at (game_of rule s t) node) m v) (sym left) true_of) keeps) above
+      (subst (λ (m : ℕ). IsTrueOf rule c (game_of rule s t) (board_at (game_of rule s t) node) m v) (sym left) true_of) keeps) above
 
   pub above-inside : node < length t.links → node < length s.notes.items
   above-inside inside = let long = length-map s.notes.items (λ (n : Note). n.at) in let e =

@@ -5,14 +5,18 @@ use Rattle.std.proofs.lemmas.Bool.{cases_eq, eq-eqb, ne_eqb}
 use Rattle.game_rules.specs.declared.RuleKind.{RuleKind}
 use Rattle.strategy_graph.specs.declared.Node.{Node}
 use Rattle.strategy_compiler.proofs.Growing.{growth_keeps-wins}
-use Rattle.proof_tree.proofs.Common.{is_settled, settled_numbers, IsOnWayUp, IsTree, OthersStay, leaf_sum, link_at, numbers_at}
+use Rattle.proof_tree.proofs.Common.{is_settled, settled_numbers, IsOnWayUp, IsTree, OthersStay, leaf_sum, link_at, most_proving}
+use Rattle.proof_tree.proofs.Common.{numbers_at}
 use Rattle.proof_tree.specs.declared.Kind.{Kind}
 use Rattle.proof_tree.specs.declared.Kind.TheVariants.{Attack, Defend}
 use Rattle.proof_tree.specs.declared.Numbers.{Numbers}
 use Rattle.proof_tree.proofs.Settled.{leaf-beside, settled-test}
 use Rattle.proof_number.specs.declared.notes.Note.{Note}
 use Rattle.proof_number.proofs.Common.{note_at, win_of, GameTree, IsGameTree, TellsTruly, WinsAt, board_at, left_at, AreWritten, IsNotedWin}
+use Rattle.proof_number.proofs.Common.{IsDisproved, IsLostAt}
 use Rattle.proof_number.proofs.Common.{IsCounted, attacks_behind, behind_at, behind_leaves, closed_nodes, defences_behind, is_open_leaf}
+use Rattle.proof_number.proofs.Remembering.{lost-kept}
+use Rattle.proof_number.proofs.Staying.{settled-stays}
 use Rattle.proof_number.proofs.Sums.{sum-less}
 use Rattle.game_rules.proofs.Common.{Grid, after}
 use Rattle.strategy_graph.proofs.Common.{NamesLower}
@@ -38,8 +42,33 @@ module _ (g : GameTree) (ok : IsTree g.tree) (numbers : List Numbers) (leaf : �
   is-settled : is_settled (numbers_at numbers leaf) ≡ true
   is-settled = ap is_settled here ∙ settled-test p
 
-  pub game-settled : IsGameTree g → TellsTruly (settled_numbers p)
-      (WinsAt (link_at g.tree.links leaf).kind g.rule (left_at g.left leaf) (board_at g leaf))
+  -- a node that is disproved stays so
+  pub disproved-settled : is_settled (numbers_at g.tree.numbers 0) ≡ false → leaf ≡ most_proving g.tree → (n : ℕ) (b : Grid)
+      → IsDisproved g n b
+      → IsDisproved (record {
+        rule = g.rule;
+        start = g.start;
+        tree = record { links = g.tree.links; numbers = numbers };
+        moves = g.moves;
+        left = g.left;
+      }) n b
+  disproved-settled root_open leaf_is n b is = record {
+    node = is.node;
+    inside = is.inside;
+    attack = is.attack;
+    disproved = settled-stays g.tree ok root_open leaf leaf_is numbers others is.node is.disproved;
+    several = is.several;
+    left_is = is.left_is;
+    board_is = is.board_is;
+  }
+
+  lost-test : (r : Bool) → settled_numbers r ≡ settled_numbers false → r ≡ false
+  lost-test false e = refl
+  lost-test true e = let bad : 0 ≡ 4294967295 = ap (λ (n : Numbers). n.proof) e in absurd (omega (arith, bad))
+
+  pub game-settled : is_settled (numbers_at g.tree.numbers 0) ≡ false → leaf ≡ most_proving g.tree → IsGameTree g
+      → TellsTruly (settled_numbers p) (WinsAt (link_at g.tree.links leaf).kind g.rule (left_at g.left leaf) (board_at g leaf))
+      → (p ≡ false → IsLostAt (link_at g.tree.links leaf).kind g (left_at g.left leaf) (board_at g leaf))
       → IsGameTree (record {
         rule = g.rule;
         start = g.start;
@@ -47,7 +76,7 @@ module _ (g : GameTree) (ok : IsTree g.tree) (numbers : List Numbers) (leaf : �
         moves = g.moves;
         left = g.left;
       })
-  game-settled game truth = record {
+  game-settled root_open leaf_is game truth why = record {
     moves = game.moves;
     left = game.left;
     lawful = game.lawful;
@@ -68,6 +97,15 @@ module _ (g : GameTree) (ok : IsTree g.tree) (numbers : List Numbers) (leaf : �
           (sym here) truth)
       | inr other ↦ subst (λ (n : Numbers). TellsTruly n (WinsAt (link_at g.tree.links i).kind g.rule (left_at g.left i) (board_at g i)))
           (sym (other-leaf i none other)) (game.leaf i low none)
+    ];
+    lost = λ i low none gone. elim (cases_eq i leaf) [
+      | inl same ↦
+          subst (λ (k : ℕ). IsLostAt (link_at g.tree.links k).kind After (left_at g.left k) (board_at g k)) (sym same)
+          (lost-kept g After refl (disproved-settled root_open leaf_is) (link_at g.tree.links leaf).kind (left_at g.left leaf)
+          (board_at g leaf) (why (lost-test p (sym here ∙ ap (numbers_at numbers) (sym same) ∙ gone))))
+      | inr other ↦
+          lost-kept g After refl (disproved-settled root_open leaf_is) (link_at g.tree.links i).kind (left_at g.left i) (board_at g i)
+          (game.lost i low none (sym (other-leaf i none other) ∙ gone))
     ];
   }
 
@@ -242,6 +280,7 @@ module _ (g : GameTree) (ok : IsTree g.tree) (numbers : List Numbers) (leaf : �
     attacks = let a = counted.attacks in let b = behind-settled attacks_behind in omega (arith, a, b, behind);
     defences = let a = counted.defences in let b = behind-settled defences_behind in omega (arith, a, b);
     nodes = let a = counted.nodes in omega (arith, a, grows);
+    attackers = let a = counted.attackers in omega (arith, a, grows);
     attacked_fits = fits;
     defended_fits = counted.defended_fits;
     leaves = λ kind some. let a = counted.leaves kind some in let b = sums kind in omega (arith, a, b);

@@ -26,10 +26,11 @@ use Rattle.proof_number.specs.declared.search.Step.{Step}
 use Rattle.proof_number.specs.declared.search.Step.TheVariants.{Done, Spent}
 use Rattle.proof_number.specs.declared.notes.Note.{Note}
 use Rattle.proof_number.specs.declared.notes.Settled.{Settled}
+use Rattle.proof_number.specs.declared.notes.Settled.TheVariants.{Lost}
 use Rattle.proof_number.specs.declared.search.Search.{Search}
 use Rattle.proof_number.proofs.Common.{no_note, note_at, CanGrow, WinsAt, board_at, left_at, IsTrueOf, IsTrueMemo, Searches, Grows}
 use Rattle.proof_number.proofs.Common.{HasGrown, HasSpent, HasStayed, KeepsTree, OnStep, IsAtLeaf, IsNotedWin, IsSettledAt, StandsAt}
-use Rattle.proof_number.proofs.Common.{game_of, noted_won, GameTree, attacks_behind, behind_at, is_attack, unwritten}
+use Rattle.proof_number.proofs.Common.{game_of, noted_won, GameTree, attacks_behind, behind_at, is_attack, unwritten, IsLostAt}
 use Rattle.proof_number.proofs.GameTruths.{left-low, position-at}
 use Rattle.proof_number.proofs.Growing.{lost-grown, won-grown}
 use Rattle.proof_number.proofs.Remembering.{memo-grown}
@@ -96,7 +97,7 @@ module _ (rule : RuleKind) (s : Search) (t : Tree) (c : List Node) (leaf : ℕ) 
         (items : v.notes.items ≡ noted_won s.notes.items leaf win)
         (noted : IsNotedWin rule (note_at s.notes.items leaf).left view d win) (grows : s.attacked ≤ v.attacked)
         (fits : v.attacked ≤ s.budget) (behind : v.attacked + 1 ≤ s.attacked + threat_tree rule (note_at s.notes.items leaf).left view)
-        (short : s.attacked + length more ≤ v.attacked + 1) (table : IsTrueMemo rule c v.settled) where
+        (short : s.attacked + length more ≤ v.attacked + 1) (table : IsTrueMemo rule c (game_of rule s t) v.settled) where
       pub won-step : Grows rule s v t u d leaf
       unfolding Grows
       won-step =
@@ -110,14 +111,15 @@ module _ (rule : RuleKind) (s : Search) (t : Tree) (c : List Node) (leaf : ℕ) 
           ∙ ap (threat_tree rule (left_at (game_of rule s t).left leaf)) at-leaf.view_is in
           subst (λ (x : List Node). HasGrown rule s v t u x leaf) (sym grown)
           (won-grown rule s t c leaf view at-leaf attack u st v more rest same_board (subst IsCompiled grown compiled)
-          (memo-grown rule c more v.settled (IsTable-lower c at-leaf.searching.compiled.table) table) win items
+          (memo-grown rule (game_of rule s t) c more v.settled (IsTable-lower c at-leaf.searching.compiled.table) table) win items
           (win-some rule (left_at (game_of rule s t).left leaf) (board_at (game_of rule s t) leaf) (c ++ more) win w.0) w.0 w.1
           grows fits (omega (arith, behind, tree_is)) short)
 
     -- none is known to be there
     module _ (u : Tree) (st : IsSettledAt t u leaf false) (v : Search) (rest : v ≡ record s { board = v.board; settled = v.settled })
-        (same_board : v.board ≡ s.board) (table : IsTrueMemo rule c v.settled)
-        (none : WinsByThreats rule (note_at s.notes.items leaf).left view → ⊥) where
+        (same_board : v.board ≡ s.board) (table : IsTrueMemo rule c (game_of rule s t) v.settled)
+        (none : WinsByThreats rule (note_at s.notes.items leaf).left view → ⊥)
+        (why : IsLostAt Attack (game_of rule s t) (note_at s.notes.items leaf).left view) where
       pub lost-step : Grows rule s v t u c leaf
       unfolding Grows
       lost-step = lost-grown rule s t c leaf view at-leaf u st v rest same_board table (λ wins.
@@ -125,15 +127,19 @@ module _ (rule : RuleKind) (s : Search) (t : Tree) (c : List Node) (leaf : ℕ) 
           subst (λ (q : Kind). WinsAt q rule (left_at (game_of rule s t).left leaf) (board_at (game_of rule s t) leaf)) attack wins in
           none (subst (λ (n : ℕ). WinsByThreats rule n view) left-noted
           (subst (WinsByThreats rule (left_at (game_of rule s t).left leaf)) (sym at-leaf.view_is) win)))
+          (subst (λ (q : Kind). IsLostAt q (game_of rule s t) (left_at (game_of rule s t).left leaf) (board_at (game_of rule s t) leaf))
+          (sym attack)
+          (subst (λ (n : ℕ). IsLostAt Attack (game_of rule s t) n (board_at (game_of rule s t) leaf)) (sym left-noted)
+          (subst (IsLostAt Attack (game_of rule s t) (note_at s.notes.items leaf).left) at-leaf.view_is why)))
 
     -- what is found in the table holds of the view
     pub leaf-found : (w : Grid) (v : Settled) → w ≡ view → Some v ≡ value_under (packed w, (note_at s.notes.items leaf).left) s.settled
-        → IsTrueOf rule c view (note_at s.notes.items leaf).left v
+        → IsTrueOf rule c (game_of rule s t) view (note_at s.notes.items leaf).left v
     leaf-found w v same found =
-        true-found rule (IsTrueOf rule c) view w (note_at s.notes.items leaf).left v s.settled leaf-lawful same at-leaf.searching.remembered
-        found
+        true-found rule (IsTrueOf rule c (game_of rule s t)) view w (note_at s.notes.items leaf).left v s.settled leaf-lawful same
+        at-leaf.searching.remembered found
 
-  pub leaf-table : IsTrueMemo rule c s.settled
+  pub leaf-table : IsTrueMemo rule c (game_of rule s t) s.settled
   leaf-table = at-leaf.searching.remembered
 
   pub leaf-budget : s.attacked ≤ s.budget
@@ -162,8 +168,9 @@ module _ (rule : RuleKind) (s : Search) (t : Tree) (c : List Node) (leaf : ℕ) 
     (attack : (link_at t.links leaf).kind ≡ Attack)
     (mid : Search) (first : mid ≡ record s { settled = mid.settled }) (key : Packed × ℕ)
     (looked : mid.settled ≡ looked_up key s.settled) where
-  table-now : IsTrueMemo rule c mid.settled
-  table-now = true-looked rule (IsTrueOf rule c) s.settled mid.settled key (inl looked) (leaf-table rule s t c leaf view stands)
+  table-now : IsTrueMemo rule c (game_of rule s t) mid.settled
+  table-now = true-looked rule (IsTrueOf rule c (game_of rule s t)) s.settled mid.settled key (inl looked)
+      (leaf-table rule s t c leaf view stands)
 
   -- what is remembered as won is settled so
   pub recalled-won : (u : Tree) → IsSettledAt t u leaf true → (v : Search) → v ≡ record mid { notes = v.notes } → (win : WrittenWin)
@@ -178,15 +185,15 @@ module _ (rule : RuleKind) (s : Search) (t : Tree) (c : List Node) (leaf : ℕ) 
       (leaf-compiled rule s t c leaf view stands) win
       (items ∙ ap (λ (w : Search). noted_won w.notes.items leaf win) first) noted (omega (arith, count)) (omega (arith, count, fits))
       (omega (arith, count, positive)) (omega (arith, count))
-      (subst (IsTrueMemo rule c) (sym (ap (λ (w : Search). w.settled) second)) table-now)
+      (subst (IsTrueMemo rule c (game_of rule s t)) (sym (ap (λ (w : Search). w.settled) second)) table-now)
 
   -- and what is remembered as lost
-  pub recalled-lost : (u : Tree) → IsSettledAt t u leaf false → (WinsByThreats rule (note_at s.notes.items leaf).left view → ⊥)
-      → Grows rule s mid t u c leaf
+  pub recalled-lost : (u : Tree) → IsSettledAt t u leaf false
+      → IsTrueOf rule c (game_of rule s t) view (note_at s.notes.items leaf).left Lost → Grows rule s mid t u c leaf
   recalled-lost u st none =
       lost-step rule s t c leaf view stands attack u st mid
       (first ∙ ap (λ (w : Search). record s { board = w.board; settled = mid.settled }) (sym first))
-      (ap (λ (w : Search). w.board) first) table-now none
+      (ap (λ (w : Search). w.board) first) table-now none.0 none.1
 
   -- the search stands at the leaf as before
   pub recalled-stands : StandsAt rule mid t c leaf view
@@ -350,4 +357,4 @@ module _ (rule : RuleKind) (s : Search) (t : Tree) (c : List Node) (leaf : ℕ) 
           (rest ∙ ap (λ (w : Search). record s { board = w.board; notes = v.notes; settled = w.settled; attacked = w.attacked }) (sym rest))
           (ap (λ (w : Search). w.board) rest) d grown.is compiled win items (is.written, is.by_threats)
           (omega (arith, count)) (omega (arith, count, fits)) (omega (arith, count, few)) (omega (arith, count, long))
-          (subst (λ (w : Search). IsTrueMemo rule c w.settled) (sym rest) here.searching.remembered)
+          (subst (λ (w : Search). IsTrueMemo rule c (game_of rule s t) w.settled) (sym rest) here.searching.remembered)

@@ -1,6 +1,6 @@
 -- Sums over the first numbers: how they change where one term does, or where terms are added.
 use Rattle.std.proofs.Common.{◌≡◌, ◌≢◌, ◌⊎◌, inl, inr, ℕ, zero, suc, ◌+◌, ◌<◌, ◌≤◌, refl, sym, ap, subst, ◌∙◌, zero-add, arith, List, []}
-use Rattle.std.proofs.Common.{◌∷◌, length, get_or, sum_by}
+use Rattle.std.proofs.Common.{◌∷◌, length, get_or, sum_by, Bool, true, false, cond}
 use Rattle.std.proofs.lemmas.List.Sums.{sum_by-cons}
 use Rattle.std.proofs.lemmas.Bool.{cases_eq}
 use Rattle.proof_number.specs.Searches.{sum_below}
@@ -64,3 +64,13 @@ sum-list h d (x ∷ xs) =
 pub sum-zeros : (n : ℕ) → sum_below n (λ i. 0) ≡ 0
 sum-zeros zero = sum-zero (λ i. 0)
 sum-zeros (suc n) = let a = sum-suc n (λ i. 0) in let rest = sum-zeros n in omega (arith, a, rest)
+
+-- no more than all pass a test
+pub sum-passing : (n : ℕ) (f : ℕ → Bool) → sum_below n (λ i. cond (f i) 1 0) ≤ n
+sum-passing zero f = let a = sum-zero (λ i. cond (f i) 1 0) in omega (arith, a)
+sum-passing (suc n) f =
+    let a = sum-suc n (λ i. cond (f i) 1 0) in
+    omega (arith, a, sum-passing n f, one-most (f n)) where
+      one-most : (r : Bool) → cond r 1 0 ≤ 1
+      one-most true = omega arith
+      one-most false = omega arith

@@ -1,7 +1,7 @@
 -- A tree of numbers as a tree of the game of threats: the board of each node, what a node with children has tried, and when its
 -- numbers are true.
 use Rattle.std.specs.Prelude.{◌≡◌, ℕ, zero, suc, ◌<◌, ◌≤◌, Bool, true, false, nat_eq, if◌then◌else◌, List, map, length, take, drop}
-use Rattle.std.specs.Prelude.{slice_index_or, Contains}
+use Rattle.std.specs.Prelude.{slice_index_or, Contains, ◌⊎◌}
 use Rattle.std.specs.List.{list_any}
 use Rattle.game_rules.specs.Grid.{Grid}
 use Rattle.game_rules.specs.Shapes.{is_same_point}
@@ -17,8 +17,9 @@ use Rattle.proof_tree.specs.declared.Kind.TheVariants.{Attack, Defend}
 use Rattle.proof_tree.specs.declared.Link.{Link}
 use Rattle.proof_tree.specs.declared.Numbers.{Numbers}
 use Rattle.proof_number.specs.declared.notes.Note.{Note}
-use Rattle.threat_game.specs.Attacks.{has_reply}
-use Rattle.threat_game.specs.ThreatGame.{move_at, LosesToThreats}
+use Rattle.threat_game.specs.Attacks.{has_reply, has_saving}
+use Rattle.threat_game.specs.ThreatGame.{is_threat_move, move_at, LosesToThreats}
+use Rattle.proof_number.specs.Denials.{IsLost, IsRefuted}
 
 -- A tree of numbers that stands for a game: the rule, the board of the root, and for each node the move that leads to it and how
 -- many moves of the attacker are left there.
@@ -66,12 +67,14 @@ pub record TellsTruly (n : Numbers) (W : Type 0) : Type 0 where
   pub proved : n ≡ settled_numbers true → W
   pub disproved : n ≡ settled_numbers false → W → ⊥
 
--- Where the attacker has suc n moves left, these are the moves to try: each goes on and leaves a threat, and where there is a win
--- by threats one of them wins.
+-- Where the attacker has suc n moves left and no five point, these are the moves to try: each goes on and leaves a threat, and where there
+-- is a win by threats one of them wins. To each other move of the game of threats a reply wins or fills the board.
 pub record AreTried (rule : RuleKind) (n : ℕ) (b : Grid) (moves : List Point) : Type 0 where
   pub on : (p : Point) → Contains moves p → outcome rule b p ≡ GoesOn
   pub threat : (p : Point) → Contains moves p → has_threat rule (after b p) (mover b) ≡ true
   pub enough : WinsByThreats rule (suc n) b → (p : Point) × Contains moves p × LosesToThreats rule n (after b p)
+  pub no_five : has_five rule b (mover b) ≡ false
+  pub others : (p : Point) → is_threat_move rule b p ≡ true → Contains moves p ⊎ (has_saving rule (after b p) ≡ true)
 
 -- whether the point is one of these
 abbrev pub among : List Point → Point → Bool
@@ -101,8 +104,23 @@ abbrev pub left_before : Kind → ℕ → ℕ
 left_before Attack n = n
 left_before Defend n = suc n
 
+-- a node of the attacker with three moves left or more is disproved, and it has so many left at this board
+pub record IsDisproved (g : GameTree) (n : ℕ) (b : Grid) : Type 0 where
+  pub node : ℕ
+  pub inside : node < length g.tree.links
+  pub attack : (link_at g.tree.links node).kind ≡ Attack
+  pub disproved : numbers_at g.tree.numbers node ≡ settled_numbers false
+  pub several : 3 ≤ n
+  pub left_is : left_at g.left node ≡ n
+  pub board_is : board_at g node ≡ b
+
+-- the attacker's position is lost by disproved nodes of the tree, if three moves are left or more; the defender refutes by them
+abbrev pub IsLostAt : Kind → GameTree → ℕ → Grid → Type 0
+IsLostAt Attack g n b = 3 ≤ n → IsLost g.rule (IsDisproved g) n b
+IsLostAt Defend g n b = IsRefuted g.rule (IsDisproved g) n b
+
 -- The tree stands for the game from a lawful position: each move goes on, each node with children has tried what is to be tried,
--- open leaves can grow, and settled leaves tell truly whether the attacker wins.
+-- open leaves can grow, settled leaves tell truly whether the attacker wins, and a disproved leaf is lost by disproved nodes.
 pub record IsGameTree (g : GameTree) : Type 0 where
   pub moves : length g.moves ≡ length g.tree.links
   pub left : length g.left ≡ length g.tree.links
@@ -117,3 +135,6 @@ pub record IsGameTree (g : GameTree) : Type 0 where
       → CanGrow (link_at g.tree.links i).kind g.rule (left_at g.left i) (board_at g i)
   pub leaf : (i : ℕ) → i < length g.tree.links → (link_at g.tree.links i).count ≡ 0
       → TellsTruly (numbers_at g.tree.numbers i) (WinsAt (link_at g.tree.links i).kind g.rule (left_at g.left i) (board_at g i))
+  pub lost : (i : ℕ) → i < length g.tree.links → (link_at g.tree.links i).count ≡ 0
+      → numbers_at g.tree.numbers i ≡ settled_numbers false
+      → IsLostAt (link_at g.tree.links i).kind g (left_at g.left i) (board_at g i)

@@ -1,4 +1,5 @@
 pub mod Notes
+pub mod Denials
 pub mod GameTrees
 pub mod Remembered
 pub mod Searches

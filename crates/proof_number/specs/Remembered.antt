@@ -6,14 +6,17 @@ use Rattle.game_rules.specs.declared.RuleKind.{RuleKind}
 use Rattle.position_table.specs.Remembering.{Remembered, IsTrueTable}
 use Rattle.strategy_graph.specs.declared.Node.{Node}
 use Rattle.strategy_compiler.specs.Wins.{IsWrittenWin}
+use Rattle.proof_tree.specs.declared.Kind.TheVariants.{Attack}
 use Rattle.proof_number.specs.declared.notes.Settled.{Settled}
 use Rattle.proof_number.specs.declared.notes.Settled.TheVariants.{Won, Lost}
+use Rattle.proof_number.specs.GameTrees.{GameTree, IsLostAt}
 
--- what is known of a board within so many moves is true: the win is one by threats and written, or there is none by threats
-abbrev pub IsTrueOf : RuleKind → List Node → Grid → ℕ → Settled → Type 0
-IsTrueOf rule c b n (Won win) = IsWrittenWin rule n b c win × WinsByThreats rule n b
-IsTrueOf rule c b n Lost = ¬ WinsByThreats rule n b
+-- what is known of a board within so many moves is true: the win is one by threats and written, or there is none by threats, and the
+-- position is lost by disproved nodes of the tree
+abbrev pub IsTrueOf : RuleKind → List Node → GameTree → Grid → ℕ → Settled → Type 0
+IsTrueOf rule c g b n (Won win) = IsWrittenWin rule n b c win × WinsByThreats rule n b
+IsTrueOf rule c g b n Lost = (¬ WinsByThreats rule n b) × IsLostAt Attack g n b
 
 -- what is remembered of positions is true
-abbrev pub IsTrueMemo : RuleKind → List Node → Remembered Settled → Type 0
-IsTrueMemo rule c memo = IsTrueTable Settled rule (IsTrueOf rule c) memo
+abbrev pub IsTrueMemo : RuleKind → List Node → GameTree → Remembered Settled → Type 0
+IsTrueMemo rule c g memo = IsTrueTable Settled rule (IsTrueOf rule c g) memo

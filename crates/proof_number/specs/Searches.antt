@@ -80,6 +80,10 @@ abbrev pub is_attack : Kind → Bool
 is_attack Attack = true
 is_attack Defend = false
 
+-- how many of the nodes are the attacker's
+abbrev pub attack_nodes : List Link → ℕ
+attack_nodes links = sum_below (length links) (λ i. if is_attack (link_at links i).kind then 1 else 0)
+
 -- how many nodes are none of the open leaves
 abbrev pub closed_nodes : Tree → ℕ
 closed_nodes t = sum_below (length t.links) (λ i. if is_open_leaf t i then 0 else 1)
@@ -103,12 +107,13 @@ abbrev pub behind_leaves : (Kind → RuleKind → ℕ → Grid → ℕ) → Game
 behind_leaves count g = sum_below (length g.tree.links) (behind_at count g)
 
 -- So many positions of each side are counted: no more than the budget, and with those behind the open leaves no more than the game
--- of threats has from the root. Each node counts as one. Once the root has
+-- of threats has from the root. Each node counts as one, and the attacker's as its own. Once the root has
 -- children the numbers of all leaves add up to no more than there are nodes.
 pub record IsCounted (g : GameTree) (budget attacked defended : ℕ) : Type 0 where
   pub attacks : attacked + behind_leaves attacks_behind g ≤ threat_tree g.rule (left_at g.left 0) g.start
   pub defences : defended + behind_leaves defences_behind g ≤ threat_tree g.rule (left_at g.left 0) g.start
   pub nodes : length g.tree.links ≤ attacked + defended
+  pub attackers : attack_nodes g.tree.links ≤ attacked
   pub attacked_fits : attacked ≤ budget
   pub defended_fits : defended ≤ budget
   pub leaves : (kind : Kind) → 1 < length g.tree.links → leaf_sum kind g.tree.links g.tree.numbers ≤ length g.tree.links
@@ -127,7 +132,7 @@ pub record IsSearching (rule : RuleKind) (s : Search) (t : Tree) (c : List Node)
   pub depth_fits : s.depth ≤ MAX_DEPTH
   pub budget_fits : s.budget ≤ MAX_BUDGET
   pub written : AreWritten (game_of rule s t) s.notes.items c way
-  pub remembered : IsTrueMemo rule c s.settled
+  pub remembered : IsTrueMemo rule c (game_of rule s t) s.settled
   pub counted : IsCounted (game_of rule s t) s.budget s.attacked s.defended
   pub compiled : IsCompiled c
   pub few : length c + sum_below (length t.links) (unwritten t s.notes.items) ≤ s.before + s.attacked

@@ -13,6 +13,7 @@ ghost use Rattle.proof_tree.specs.Trees.{IsTree, numbers_at};
 ghost use Rattle.proof_number.specs.declared.TheConstants.{MAX_DEPTH, MAX_BUDGET};
 ghost use Rattle.threat_game.specs.ThreatGame.{threat_tree};
 ghost use Rattle.proof_number.specs.Answers.{OnWin, HasNoThreatWin, RootSays};
+ghost use Rattle.proof_number.specs.Denials.{HasDenial};
 ghost use Rattle.threat_game.specs.Wins.{IsThreatWin};
 
 use crate::search::{Search, Step};
@@ -39,7 +40,8 @@ pub enum ProofAnswer {
 ///
 /// - `Win` comes only where there is such a win. The node is accepted and wins within its moves, at most `depth`, whatever
 ///   the replies. The root of the tree is proved.
-/// - `None` comes only where there is none within `depth` moves, and so none by continuous fours. The root is disproved.
+/// - `None` comes only where there is none within `depth` moves, and so none by continuous fours. The root is disproved. A denial shows
+///   it, of no more positions of the attacker than may be counted, the lesser of the budget and those of the game of threats.
 /// - `Spent` comes only where the game of threats has more positions within `depth` moves than the budget. The root is not
 ///   settled.
 ///
@@ -63,6 +65,8 @@ pub fn proof_number<R: Rule, V: Seen<R>>(
     requires open { is_settled (numbers_at tree.old.numbers 0) ≡ false }
     ensures win { IfOk result (λ a. OnWin a (IsThreatWin R.KIND depth (V.position view.old) compiler.new)) }
     ensures none { IfOk result (λ a. a ≡ ProofAnswer.None → HasNoThreatWin R.KIND depth (V.position view.old)) }
+    ensures denial { IfOk result (λ a. a ≡ ProofAnswer.None
+        → HasDenial R.KIND depth (V.position view.old) (min budget (threat_tree R.KIND depth (V.position view.old)))) }
     ensures spent { IfOk result (λ a. a ≡ ProofAnswer.Spent → budget < threat_tree R.KIND depth (V.position view.old)) }
     ensures root { IfOk result (λ a. RootSays a (numbers_at tree.new.numbers 0)) }
 

@@ -7,6 +7,7 @@
 
 ghost use Rattle.std.specs.Prelude.{◌≡◌, ℕ, IfOk, IsTrue};
 ghost use Rattle.threat_game.specs.ThreatGame.{LosesToThreats};
+ghost use Rattle.proof_number.specs.Denials.{WinsByFewFours};
 
 use foul_judge::Seen;
 use four_search::finds_fours;
@@ -26,6 +27,7 @@ pub(crate) fn is_denied<R: Rule, V: Seen<R>>(
     view: &mut V,
 ) -> Result<bool, AllocError>
     ensures denied { IfOk result (λ found. IsTrue found → (moves : ℕ) → ¬ LosesToThreats R.KIND moves (V.position view.old)) }
+    ensures fours { IfOk result (λ found. IsTrue found → WinsByFewFours R.KIND (V.position view.old)) }
     ensures same { V.position view.new ≡ V.position view.old }
 {
     let attacker = view.side().other();

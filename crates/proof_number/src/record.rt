@@ -75,7 +75,7 @@ impl Search {
     ) -> Result<Option<Settled>, SearchError>
         requires in_tree { node < length tree.now.links }
         requires searching { Searches R.KIND self.old tree.now compiler.old (IsOnWayUp tree.now.links node) }
-        ensures value { IfOk result (λ found. IfSome found (IsTrueOf R.KIND compiler.new
+        ensures value { IfOk result (λ found. IfSome found (IsTrueOf R.KIND compiler.new (game_of R.KIND self.old tree.now)
             (board_at (game_of R.KIND self.old tree.now) node) (left_at (game_of R.KIND self.old tree.now).left node))) }
         ensures searching { OnOk result (Searches R.KIND self.new tree.now compiler.new (IsAbove tree.now.links node)) }
         ensures keeps { KeepsTree self.old self.new }

@@ -1,7 +1,8 @@
 -- The nodes from the most-proving leaf up to the root are open, where the root is.
 use Rattle.std.proofs.Common.{◌≡◌, ◌⊎◌, inl, inr, ℕ, zero, suc, ◌<◌, true, false, refl, sym, ap, subst, ◌∙◌, arith, length}
 use Rattle.std.proofs.lemmas.Bool.{cases_eq, eq-eqb, ne_eqb}
-use Rattle.proof_tree.proofs.Common.{IsOpen, is_settled, IsOnWayUp, IsTree, Tree, ancestor, chosen, link_at, most_proving, numbers_at, walk_end}
+use Rattle.proof_tree.proofs.Common.{IsOpen, is_settled, IsOnWayUp, IsTree, Tree, ancestor, chosen, link_at, most_proving, numbers_at}
+use Rattle.proof_tree.proofs.Common.{walk_end}
 use Rattle.proof_tree.proofs.Settled.{ancestor-up}
 use Rattle.proof_tree.proofs.Walks.{chosen-child}
 

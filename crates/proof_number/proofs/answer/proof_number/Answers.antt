@@ -2,7 +2,8 @@ use Rattle.std.proofs.Common.{rules, ◌≡◌, ◌∙◌, ◌<◌, [], append-n
 use Rattle.proof_tree.specs.Combining.{is_settled}
 use Rattle.proof_tree.specs.Trees.{Tree}
 use Rattle.proof_number.specs.Searches.{Searches, closed_nodes}
-use Rattle.proof_number.proofs.Ending.{begun-full, closed-few, root-noted, told-few, told-lost, told-none, told-proved, told-tree, told-win}
+use Rattle.proof_number.proofs.Ending.{begun-full, closed-few, root-noted, told-denial, told-few, told-lost, told-none, told-proved}
+use Rattle.proof_number.proofs.Ending.{told-tree, told-win}
 use Rattle.strategy_graph.specs.declared.Node.{Node}
 use Rattle.threat_game.specs.ThreatGame.{threat_tree}
 use Rattle.proof_number.proofs.StepLaws.{on-done, on-spent, searched-tree}
@@ -69,6 +70,17 @@ returns-clause-none g c e =
     (c.loop-alloc.invariant.aim.depth ∙ c.in_ok-begin.ensures.aim.depth ∙ c.in_ok-search.ensures.begins.depth_is)
     (c.loop-alloc.invariant.aim.root ∙ c.in_ok-begin.ensures.aim.root ∙ c.in_ok-search.ensures.begins.root_is ∙ c.board.ensures.board)
     c.index.result.now c.index.ensures c.in-None.ensures.win
+    (ap is_settled (sym c.numbers.ensures.numbers) ∙ sym c.is_settled.ensures.settled ∙ c.loop-alloc-test.false)
+
+pub returns-clause-denial : goal.returns-clause-denial
+returns-clause-denial g c e =
+    told-denial g.R.Rule.KIND c.loop-alloc.search c.loop-alloc.tree c.loop-alloc.compiler c.loop-alloc.invariant.searching c.args.depth
+    (g.V.Seen.position c.args.view.now)
+    (c.loop-alloc.invariant.aim.depth ∙ c.in_ok-begin.ensures.aim.depth ∙ c.in_ok-search.ensures.begins.depth_is)
+    (c.loop-alloc.invariant.aim.root ∙ c.in_ok-begin.ensures.aim.root ∙ c.in_ok-search.ensures.begins.root_is ∙ c.board.ensures.board)
+    c.index.result.now c.index.ensures c.args.budget
+    (c.loop-alloc.invariant.aim.budget ∙ c.in_ok-begin.ensures.aim.budget ∙ c.in_ok-search.ensures.begins.budget_is)
+    c.in-None.ensures.win
     (ap is_settled (sym c.numbers.ensures.numbers) ∙ sym c.is_settled.ensures.settled ∙ c.loop-alloc-test.false)
 
 pub returns-clause-root : goal.returns-clause-root

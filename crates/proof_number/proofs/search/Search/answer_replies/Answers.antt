@@ -1,4 +1,5 @@
-use Rattle.std.proofs.Common.{rules, ◌≡◌, ◌∙◌, ◌+◌, ◌<◌, ℕ, false, sym, ap, subst, arith, List, length, IsErrOf, Some, None, sum_by}
+use Rattle.std.proofs.Common.{rules, ◌≡◌, ◌∙◌, ◌+◌, ◌<◌, ◌≤◌, ℕ, false, sym, ap, subst, arith, List, length, IfNone, IsErrOf, Some, None}
+use Rattle.std.proofs.Common.{sum_by}
 use Rattle.std.proofs.lemmas.List.{get_or_default}
 use Rattle.game_rules.specs.Grid.{Grid}
 use Rattle.proof_tree.proofs.SumLaws.{fresh-numbers}
@@ -88,10 +89,11 @@ returns-in-None-clause-step g c =
     c.in_ok-judge_replies.ensures.replies in
     let escape : HasEscape g.R.Rule.KIND (note_at c.args.self.now.notes.items c.args.leaf).left (g.V.Seen.position c.args.view.now) =
     subst (λ (n : ℕ). HasEscape g.R.Rule.KIND n (g.V.Seen.position c.args.view.now)) left_is answers in
+    let early : c.from.result ≤ 2 = subst (λ o. IfNone o (c.from.result ≤ 2)) c.in-None.is c.in_ok-judge_replies.ensures.early in
     let is = leaf-is g.R.Rule.KIND c.args.self.now c.args.tree.now c.args.compiler.now c.args.leaf (g.V.Seen.position c.args.view.now)
     c.requires.at_leaf in
     escape-grows g.R.Rule.KIND c.args.self.now c.args.tree.now c.args.compiler.now c.args.leaf (g.V.Seen.position c.args.view.now)
-    c.requires.at_leaf c.requires.defend escape
+    c.requires.at_leaf c.requires.defend escape (omega (arith, early, left_is))
     c.settle.new.self (settled-at c.args.tree.now c.settle.new.self c.args.leaf false is c.settle.ensures.links c.settle.ensures.settled
     c.settle.ensures.others c.settle.ensures.leaves c.settle.ensures.tree)
     c.judge_replies.new.board c.judge_replies.ensures.same_board

@@ -1,4 +1,4 @@
-use Rattle.std.proofs.Common.{rules, ◌≡◌, ◌∙◌, sym, ap, subst, false, refl}
+use Rattle.std.proofs.Common.{◌≡◌, ◌∙◌, sym, subst, false}
 use Rattle.game_rules.specs.Grid.{Grid}
 use Rattle.proof_number.specs.Searches.{StandsAt}
 use Rattle.proof_number.proofs.Steps.{leaf-is, root-open, settled-at}
@@ -17,7 +17,7 @@ returns-then-denied-clause-step g c =
     c.requires.at_leaf in
     denied-grows g.R.Rule.KIND c.args.self.now c.args.tree.now c.args.compiler.now c.args.leaf (g.V.Seen.position c.args.view.now)
     c.requires.at_leaf c.requires.defend
-    (c.in_ok-denied.ensures.denied c.if-denied.true) c.settle.new.self
+    (c.in_ok-denied.ensures.denied c.if-denied.true) (c.in_ok-denied.ensures.fours c.if-denied.true) c.settle.new.self
     (settled-at c.args.tree.now c.settle.new.self c.args.leaf false is c.settle.ensures.links c.settle.ensures.settled
     c.settle.ensures.others c.settle.ensures.leaves c.settle.ensures.tree)
 

@@ -19,9 +19,10 @@ returns-in-Ok-Some-clause-searching g c =
     above-inside g.R.Rule.KIND c.value_at.new.self c.args.tree.now c.value_at.new.compiler c.args.node c.in-Ok-Some.ensures.searching
     c.requires.in_tree in
     let P : Option Settled → Type 0 = λ o. IfSome o
-    (IsTrueOf g.R.Rule.KIND c.value_at.new.compiler (board_at (game_of g.R.Rule.KIND c.args.self.now c.args.tree.now) c.args.node)
+    (IsTrueOf g.R.Rule.KIND c.value_at.new.compiler (game_of g.R.Rule.KIND c.args.self.now c.args.tree.now)
+    (board_at (game_of g.R.Rule.KIND c.args.self.now c.args.tree.now) c.args.node)
     (left_at (game_of g.R.Rule.KIND c.args.self.now c.args.tree.now).left c.args.node)) in
-    let before : IsTrueOf g.R.Rule.KIND c.value_at.new.compiler
+    let before : IsTrueOf g.R.Rule.KIND c.value_at.new.compiler (game_of g.R.Rule.KIND c.args.self.now c.args.tree.now)
     (board_at (game_of g.R.Rule.KIND c.args.self.now c.args.tree.now) c.args.node)
     (left_at (game_of g.R.Rule.KIND c.args.self.now c.args.tree.now).left c.args.node) c.in-Ok-Some.value =
     subst P c.in-Ok-Some.field-0-is c.in-Ok-Some.ensures.value in
@@ -30,7 +31,7 @@ returns-in-Ok-Some-clause-searching g c =
     c.remember.ensures.rest
     (c.requires.view ∙ sym (ap (λ (w : GameTree). board_at w c.args.node) places))
     (sym (noted-left c.value_at.new.self.notes.items c.args.node c.index.result.now no_note low c.index.ensures))
-    (subst (λ (w : GameTree). IsTrueOf g.R.Rule.KIND c.value_at.new.compiler (board_at w c.args.node) (left_at w.left c.args.node)
+    (subst (λ (w : GameTree). IsTrueOf g.R.Rule.KIND c.value_at.new.compiler w (board_at w c.args.node) (left_at w.left c.args.node)
     c.in-Ok-Some.value) (sym places) before)
     c.remember.ensures.settled
 

@@ -3,7 +3,7 @@ use Rattle.proof_tree.proofs.Common.{is_settled, settled_numbers, numbers_at}
 use Rattle.proof_tree.specs.declared.Link.{Link}
 use Rattle.proof_tree.specs.declared.Numbers.{Numbers}
 use Rattle.proof_tree.proofs.Settled.{settled-lost, settled-won}
-use Rattle.proof_number.proofs.Recording.{lost-there, other-searches, won-there}
+use Rattle.proof_number.proofs.Recording.{lost-there, lost-there-by, other-searches, won-there}
 use Rattle.proof_number.proofs.search.Search.value_at.Goals as goal
 
 pub returns-in-Defend-clause-searching : goal.returns-in-Defend-clause-searching
@@ -24,9 +24,12 @@ returns-then-numbers-ne0-clause-value g c =
     ap is_settled (sym c.numbers-numbers.ensures.numbers) ∙ sym c.is_settled.ensures.settled ∙ c.if-not-is_settled.false in
     let lost : numbers_at c.args.tree.now.numbers c.args.node ≡ settled_numbers false =
     settled-lost (numbers_at c.args.tree.now.numbers c.args.node) settled
-    (λ nothing. c.if-numbers-ne0.true (ap (λ (n : Numbers). n.proof) c.numbers-numbers.ensures.numbers ∙ nothing)) in
-    lost-there g.R.Rule.KIND c.args.self.now c.args.tree.now c.args.compiler.now c.args.node c.requires.searching c.requires.in_tree
-    (ap (λ (l : Link). l.kind) (sym c.link.ensures.link) ∙ c.in-Attack.is) lost
+    (λ nothing. c.if-numbers-ne0.true (ap (λ (n : Numbers). n.proof) c.numbers-numbers.ensures.numbers ∙ nothing)) in (
+      lost-there g.R.Rule.KIND c.args.self.now c.args.tree.now c.args.compiler.now c.args.node c.requires.searching c.requires.in_tree
+          (ap (λ (l : Link). l.kind) (sym c.link.ensures.link) ∙ c.in-Attack.is) lost,
+      lost-there-by g.R.Rule.KIND c.args.self.now c.args.tree.now c.args.compiler.now c.args.node c.requires.searching c.requires.in_tree
+          (ap (λ (l : Link). l.kind) (sym c.link.ensures.link) ∙ c.in-Attack.is) lost,
+    )
 
 pub returns-then-numbers-ne0-clause-searching : goal.returns-then-numbers-ne0-clause-searching
 returns-then-numbers-ne0-clause-searching g c =

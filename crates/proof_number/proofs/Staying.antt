@@ -1,0 +1,37 @@
+-- A disproved node stays so where the most-proving leaf is settled or gets children.
+use Rattle.std.proofs.Common.{◌≡◌, ◌∙◌, ℕ, zero, suc, ◌<◌, false, refl, sym, ap, subst, arith, List, ◌++◌, length}
+use Rattle.std.proofs.lemmas.List.{get_or_append_left}
+use Rattle.proof_tree.specs.declared.Link.{Link}
+use Rattle.proof_tree.specs.declared.Numbers.{Numbers}
+use Rattle.proof_tree.proofs.Common.{IsOnWayUp, IsTree, OthersStay, Tree, ancestor, is_settled, link_at, most_proving, no_numbers}
+use Rattle.proof_tree.proofs.Common.{numbers_at}
+use Rattle.proof_tree.proofs.Common.{settled_numbers}
+use Rattle.proof_tree.proofs.OpenWays.{way-open}
+use Rattle.proof_tree.proofs.Settled.{ancestor-inside}
+
+module _ (t : Tree) (ok : IsTree t) (root_open : is_settled (numbers_at t.numbers 0) ≡ false) (leaf : ℕ) (leaf_is : leaf ≡ most_proving t)
+  where
+    -- it is not on the way up from the leaf
+    beside-way : (j : ℕ) → numbers_at t.numbers j ≡ settled_numbers false → IsOnWayUp t.links leaf j → ⊥
+    beside-way j lost way =
+        let is = way-open t ok root_open j (subst (λ (i : ℕ). IsOnWayUp t.links i j) leaf_is way) in
+        let some = is.disproof_above in
+        let none : (numbers_at t.numbers j).disproof ≡ 0 = ap (λ (n : Numbers). n.disproof) lost in
+        omega (arith, none, some)
+
+    pub settled-stays : (numbers : List Numbers) → OthersStay t.links leaf t.numbers numbers → (j : ℕ)
+        → numbers_at t.numbers j ≡ settled_numbers false → numbers_at numbers j ≡ settled_numbers false
+    settled-stays numbers others j lost = others j (beside-way j lost) ∙ lost
+
+    pub expanded-stays : (links : List Link) (numbers more : List Numbers)
+        → ((j : ℕ) → j < length t.links → (link_at links j).parent ≡ (link_at t.links j).parent) → leaf < length t.links
+        → OthersStay links leaf (t.numbers ++ more) numbers → (j : ℕ) → j < length t.links
+        → numbers_at t.numbers j ≡ settled_numbers false → numbers_at numbers j ≡ settled_numbers false
+    expanded-stays links numbers more parents inside others j low lost =
+        others j (λ way. beside-way j lost (way.0, sym (same way.0) ∙ way.1))
+        ∙ get_or_append_left t.numbers more no_numbers j (let e = ok.numbered.count in omega (arith, e, low))
+        ∙ lost where
+          same : (steps : ℕ) → ancestor links steps leaf ≡ ancestor t.links steps leaf
+          same zero = refl
+          same (suc n) = ap (λ (m : ℕ). (link_at links m).parent) (same n)
+              ∙ parents (ancestor t.links n leaf) (ancestor-inside t.links ok.linked n leaf inside)
