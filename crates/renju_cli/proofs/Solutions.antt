@@ -21,10 +21,9 @@ use Rattle.threat_game.proofs.TreeLaws.{tree-more}
 use Rattle.position_files.specs.declared.PositionFile.{PositionFile}
 use Rattle.renju_cli.specs.declared.answer.Answer.{Answer}
 use Rattle.renju_cli.specs.declared.status.Status.TheVariants.{Done, NotFound, Spent, Full}
-use Rattle.game_rules.specs.Games.{WinsByThreats}
 use Rattle.renju_cli.specs.Fours.{IsFourText, none_line}
 use Rattle.renju_cli.specs.Texts.{spent_line}
-use Rattle.renju_cli.specs.declared.solve.Searched.TheVariants.{Win}
+use Rattle.renju_cli.specs.declared.solve.Searched.TheVariants.{Win, None as NoWin}
 use Rattle.renju_cli.specs.Solves.{IsShortWinText, SolutionSays, IsWonByFours, IsFirstLine, IsLeftOver, IsToldByThreats, MayBeTooGreat}
 use Rattle.renju_cli.specs.Solves.{full_line}
 use Rattle.renju_cli.proofs.PositionLaws.{file_at}
@@ -115,9 +114,10 @@ module _ {E : Type 0} (r : Result Answer E) (limit nodes : ℕ) (rule : RuleKind
 
 module _ (a : Answer) (limit nodes : ℕ) (file : PositionFile) where
   -- what is said where the last step finds none
-  pub unwon-says : IsLeftOver limit nodes file → ¬ WinsByThreats file.kind limit file.board → a.status ≡ NotFound → a.text ≡ none_line
-      → SolutionSays limit nodes file a.status a.text
-  unwon-says left none ends line = inr (inr (inr (inl (record { left = left; none = none; ends = ends; line = line }))))
+  pub unwon-says : IsLeftOver limit nodes file → IsToldByThreats file.kind limit nodes file.board NoWin → a.status ≡ NotFound
+      → a.text ≡ none_line → SolutionSays limit nodes file a.status a.text
+  unwon-says left told ends line =
+      inr (inr (inr (inl (record { left = left; none = told.0; denial = told.1; ends = ends; line = line }))))
 
   -- where the budget is not enough
   pub undecided-says : IsLeftOver limit nodes file → nodes < threat_tree file.kind limit file.board → a.status ≡ Spent

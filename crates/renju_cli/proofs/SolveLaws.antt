@@ -63,6 +63,7 @@ module _ (limit nodes : ℕ) (run : Run) where
     done-solved here win way = record {
       won = λ e. writes win way;
       none = λ (e : run.status ≡ 9). absurd (let no : 0 ≡ 9 = sym here ∙ e in cc);
+      denial = λ (e : run.status ≡ 9). absurd (let no : 0 ≡ 9 = sym here ∙ e in cc);
       spent = λ (e : run.status ≡ 5). absurd (let no : 0 ≡ 5 = sym here ∙ e in cc);
       full = λ (e : run.status ≡ 12). absurd (let no : 0 ≡ 12 = sym here ∙ e in cc);
       by_fours = λ h. inl here;
@@ -83,6 +84,7 @@ module _ (limit nodes : ℕ) (run : Run) where
         record {
           won = λ (e : run.status ≡ 0). absurd (let no : 9 ≡ 0 = sym here ∙ e in cc);
           none = λ e. unwon.none;
+          denial = λ e. unwon.denial;
           spent = λ (e : run.status ≡ 5). absurd (let no : 9 ≡ 5 = sym here ∙ e in cc);
           full = λ (e : run.status ≡ 12). absurd (let no : 9 ≡ 12 = sym here ∙ e in cc);
           by_fours = λ h. absurd (unwon.left.no_fours h);
@@ -94,6 +96,7 @@ module _ (limit nodes : ℕ) (run : Run) where
         record {
           won = λ (e : run.status ≡ 0). absurd (let no : 5 ≡ 0 = sym here ∙ e in cc);
           none = λ (e : run.status ≡ 9). absurd (let no : 5 ≡ 9 = sym here ∙ e in cc);
+          denial = λ (e : run.status ≡ 9). absurd (let no : 5 ≡ 9 = sym here ∙ e in cc);
           spent = λ e. undecided.more;
           full = λ (e : run.status ≡ 12). absurd (let no : 5 ≡ 12 = sym here ∙ e in cc);
           by_fours = λ h. absurd (undecided.left.no_fours h);
@@ -105,6 +108,7 @@ module _ (limit nodes : ℕ) (run : Run) where
         record {
           won = λ (e : run.status ≡ 0). absurd (let no : 12 ≡ 0 = sym here ∙ e in cc);
           none = λ (e : run.status ≡ 9). absurd (let no : 12 ≡ 9 = sym here ∙ e in cc);
+          denial = λ (e : run.status ≡ 9). absurd (let no : 12 ≡ 9 = sym here ∙ e in cc);
           spent = λ (e : run.status ≡ 5). absurd (let no : 12 ≡ 5 = sym here ∙ e in cc);
           full = λ e. great.great;
           by_fours = λ h. absurd (great.later h);
@@ -116,6 +120,7 @@ module _ (limit nodes : ℕ) (run : Run) where
   yielded-solved file y = record {
     won = λ e. absurd (silent run.status (inl y) (inl e));
     none = λ e. absurd (silent run.status (inl y) (inr (inl e)));
+    denial = λ e. absurd (silent run.status (inl y) (inr (inl e)));
     spent = λ e. absurd (silent run.status (inl y) (inr (inr (inl e))));
     full = λ e. absurd (silent run.status (inl y) (inr (inr (inr e))));
     by_fours = λ h. inr y;

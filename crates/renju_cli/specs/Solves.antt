@@ -16,6 +16,7 @@ use Rattle.threat_space.specs.declared.TheConstants.{MAX_LENGTH}
 use Rattle.line_proof.specs.Lines.{line_wins, line_tree}
 use Rattle.threat_game.specs.ThreatGame.{threat_tree}
 use Rattle.threat_game.specs.Wins.{IsThreatWin}
+use Rattle.proof_number.specs.Denials.{HasDenial}
 use Rattle.text_lines.specs.Lines.{ended}
 use Rattle.position_files.specs.declared.PositionFile.{PositionFile}
 use Rattle.position_files.specs.Tables.{IsTextOfTable}
@@ -95,10 +96,12 @@ pub record IsThreatsWin (limit nodes : ℕ) (file : PositionFile) (status : Stat
   pub few : length win.table ≤ min nodes (threat_tree file.kind limit file.board)
   pub ends : status ≡ Done
 
--- the first two steps have no win, and there is none by threats
+-- the first two steps have no win, and there is none by threats: a denial shows it, of no more positions than may be counted, the lesser
+-- of the budget and of those of the game of threats
 pub record IsWithoutWin (limit nodes : ℕ) (file : PositionFile) (status : Status) (text : List ℕ) : Type 0 where
   pub left : IsLeftOver limit nodes file
   pub none : ¬ WinsByThreats file.kind limit file.board
+  pub denial : HasDenial file.kind limit file.board (min nodes (threat_tree file.kind limit file.board))
   pub ends : status ≡ NotFound
   pub line : text ≡ none_line
 
@@ -138,11 +141,12 @@ abbrev pub IsShortWinText : ℕ → ℕ → PositionFile → List ℕ → Type 0
 IsShortWinText limit most file text = (win : IsWinText limit file text) × (length win.table ≤ most)
 
 -- What a search for a win by threats within so many moves, with so many positions to look at, comes to. The compiler of a win has no
--- more nodes than positions may be counted.
+-- more nodes than positions may be counted, and a denial no more positions.
 abbrev pub IsToldByThreats : RuleKind → ℕ → ℕ → Grid → Searched → Type 0
 IsToldByThreats rule limit nodes b (Win compiler win) =
     IsThreatWin rule limit b compiler win × (length compiler ≤ min nodes (threat_tree rule limit b))
-IsToldByThreats rule limit nodes b NoWin = ¬ WinsByThreats rule limit b
+IsToldByThreats rule limit nodes b NoWin =
+    (¬ WinsByThreats rule limit b) × HasDenial rule limit b (min nodes (threat_tree rule limit b))
 IsToldByThreats rule limit nodes b OverBudget = nodes < threat_tree rule limit b
 IsToldByThreats rule limit nodes b NoRoom = MAX_NODES < min nodes (threat_tree rule limit b)
 
@@ -185,12 +189,14 @@ SpeaksOfSolution number = (number ≡ status_number Done) ⊎ (number ≡ status
     (number ≡ status_number Full)
 
 -- What the statuses of `solve` say of the lawful position that is the input: 0 that the table of a win by fours, along a sequence or by
--- threats is written; 9 that there is no win by threats; 5 that their game has more positions than the budget; 12 that a table may have
--- too many nodes. One of them comes, unless the status is one that stands in place of each. Where the first step has a win it is 0, and
+-- threats is written; 9 that there is no win by threats, and that a denial of no more positions than the budget and the game of threats
+-- have shows it; 5 that their game has more positions than the budget; 12 that a table may have too many nodes. One of them comes, unless the status is one that stands in place of each. Where the first step has a win it is 0, and
 -- where the second has one 0 or 12.
 pub record IsSolved (limit nodes : ℕ) (file : PositionFile) (run : Run) : Type 0 where
   pub won : run.status ≡ status_number Done → WritesSolution limit nodes file run.output
   pub none : run.status ≡ status_number NotFound → ¬ WinsByThreats file.kind limit file.board
+  pub denial : run.status ≡ status_number NotFound
+      → HasDenial file.kind limit file.board (min nodes (threat_tree file.kind limit file.board))
   pub spent : run.status ≡ status_number Spent → nodes < threat_tree file.kind limit file.board
   pub full : run.status ≡ status_number Full → MayBeTooGreat limit nodes file
   pub by_fours : IsWonByFours limit nodes file → (run.status ≡ status_number Done) ⊎ IsYielded run.status

@@ -22,7 +22,9 @@ returns-in-Ok-Win-clause-told g c =
     (is, omega (arith, few))
 
 pub returns-in-Ok-None-clause-told : goal.returns-in-Ok-None-clause-told
-returns-in-Ok-None-clause-told g c = let none = c.in-Ok-None.ensures.none c.in-Ok-None.field-0-is in none.no_threats
+returns-in-Ok-None-clause-told g c =
+    let none = c.in-Ok-None.ensures.none c.in-Ok-None.field-0-is in
+    (none.no_threats, c.in-Ok-None.ensures.denial c.in-Ok-None.field-0-is)
 
 pub returns-in-Err-Full-clause-told : goal.returns-in-Err-Full-clause-told
 returns-in-Err-Full-clause-told g c =
