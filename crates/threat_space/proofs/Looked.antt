@@ -1,10 +1,10 @@
--- The lists that a search looks at, one after another: lists in two parts, lists by threats, by gains and by length.
+-- The lists that a search looks at, one after another: lists in two parts, lists by threats and by length.
 use Rattle.std.proofs.Common.{◌≡◌, ◌≢◌, ℕ, zero, suc, ◌+◌, ◌-◌, ◌≤◌, ◌<◌, Bool, true, false, cond, List, [], ◌∷◌, ◌++◌, map, drop, length}
 use Rattle.std.proofs.Common.{get_or, nat_eq, refl, sym, ap, ◌∙◌, arith, append_assoc, add-one, Option, Some, None, is_some, nat_le}
 use Rattle.std.specs.List.{flat_map, range_with_len}
 use Rattle.std.proofs.lemmas.List.{append-nil}
 use Rattle.std.proofs.lemmas.Bool.Decides.{nat_tests}
-use Rattle.game_rules.specs.Grid.{Grid, is_empty, points_of}
+use Rattle.game_rules.specs.Grid.{Grid, is_empty}
 use Rattle.game_rules.specs.declared.RuleKind.{RuleKind}
 use Rattle.game_rules.specs.declared.Side.{Side}
 use Rattle.game_rules.specs.declared.Point.{Point}
@@ -72,22 +72,24 @@ module _ (final : Final) (path : List Threat) (lists : Grid → Lists) (s : Side
       ap (from_threats n) (drop-at i ts t low at)
       ∙ threat-step n t (drop (i + 1) ts)
 
--- ---- lists by gains
+-- ---- threats by gains
 
-module _ (rule : RuleKind) (final : Final) (path : List Threat) (lists : Grid → Lists) (s : Side) (b : Grid) where
-  -- what is found among the lists whose first threat has one of these gains
-  abbrev pub from_gains : ℕ → List Point → Looked
-  from_gains n ps = from_threats final path lists s b n (flat_map (threats_at rule b s) ps)
-
-  pub gain-step : (n : ℕ) (p : Point) (ps : List Point)
-      → from_gains n (p ∷ ps) ≡ looked_on (from_threats final path lists s b n (threats_at rule b s p)) (λ m. from_gains m ps)
-  gain-step n p ps = threats-append final path lists s b n (threats_at rule b s p) (flat_map (threats_at rule b s) ps)
-
+module _ (rule : RuleKind) (s : Side) (b : Grid) (p : Point) (ps qs : List Point) (e : ps ≡ p ∷ qs) where
   -- a gain that is not empty has no threats
-  pub gain-skip : (n : ℕ) (p : Point) (ps : List Point) → is_empty b p ≡ false → from_gains n (p ∷ ps) ≡ from_gains n ps
-  gain-skip n p ps taken = gain-step n p ps ∙ ap
-      (λ (ts : List Threat). looked_on (from_threats final path lists s b n ts) (λ m. from_gains m ps))
-      (no_gain-threats rule b s p (taken-no_gain rule b s p taken))
+  pub taken-none : is_empty b p ≡ false → flat_map (threats_at rule b s) qs ≡ flat_map (threats_at rule b s) ps
+  taken-none taken = sym (ap (flat_map (threats_at rule b s)) e ∙ ap (λ (ts : List Threat). ts ++ flat_map (threats_at rule b s) qs)
+      (no_gain-threats rule b s p (taken-no_gain rule b s p taken)))
+
+  -- the threats of one gain more
+  pub more-threats : (ts us : List Threat) → us ≡ ts ++ threats_at rule b s p
+      → us ++ flat_map (threats_at rule b s) qs ≡ ts ++ flat_map (threats_at rule b s) ps
+  more-threats ts us longer =
+      let rest : List Threat = flat_map (threats_at rule b s) qs in
+      let here : us ++ rest ≡ (ts ++ threats_at rule b s p) ++ rest = ap (λ (vs : List Threat). vs ++ rest) longer in
+      let along : (ts ++ threats_at rule b s p) ++ rest ≡ ts ++ (threats_at rule b s p ++ rest) = append_assoc ts (threats_at rule b s p) rest in
+      let all : ts ++ (threats_at rule b s p ++ rest) ≡ ts ++ flat_map (threats_at rule b s) ps =
+      ap (λ (vs : List Point). ts ++ flat_map (threats_at rule b s) vs) (sym e) in
+      here ∙ along ∙ all
 
 -- ---- lists of some number of threats
 
@@ -216,30 +218,7 @@ answer-all rule s k n b a e = ap answer_of (sym e) ∙ answer-is (final_of rule 
 -- ---- steps of the walk, as the code has them
 
 module _ (rule : RuleKind) (final : Final) (path : List Threat) (lists : Grid → Lists) (s : Side) (b : Grid) where
-  -- a gain after which the walk goes on, and one at which it ends
-  pub gain-goes_on : (n : ℕ) (p : Point) (ps qs : List Point) → ps ≡ p ∷ qs → (a : Looked)
-      → a ≡ from_threats final path lists s b n (threats_at rule b s p) → (m : ℕ) → a ≡ NoSequence m
-      → from_gains rule final path lists s b n ps ≡ from_gains rule final path lists s b m qs
-  gain-goes_on n p ps qs e a found m h =
-      ap (from_gains rule final path lists s b n) e ∙ gain-step rule final path lists s b n p qs
-      ∙ ap (λ x. looked_on x (λ m. from_gains rule final path lists s b m qs)) (sym found ∙ h)
-
-  pub gain-ends : (n : ℕ) (p : Point) (ps qs : List Point) → ps ≡ p ∷ qs → (a : Looked)
-      → a ≡ from_threats final path lists s b n (threats_at rule b s p) → ((m : ℕ) → a ≢ NoSequence m)
-      → from_gains rule final path lists s b n ps ≡ a
-  gain-ends n p ps qs e a found h =
-      ap (from_gains rule final path lists s b n) e ∙ gain-step rule final path lists s b n p qs
-      ∙ ap (λ x. looked_on x (λ m. from_gains rule final path lists s b m qs)) (sym found)
-      ∙ on-ends a (λ m. from_gains rule final path lists s b m qs) h
-
-  pub gain-passes : (n : ℕ) (p : Point) (ps qs : List Point) → ps ≡ p ∷ qs → is_empty b p ≡ false
-      → from_gains rule final path lists s b n ps ≡ from_gains rule final path lists s b n qs
-  gain-passes n p ps qs e taken = ap (from_gains rule final path lists s b n) e ∙ gain-skip rule final path lists s b n p qs taken
-
-  pub gains-none : (n : ℕ) (ps : List Point) → ps ≡ [] → from_gains rule final path lists s b n ps ≡ NoSequence n
-  gains-none n ps e = ap (from_gains rule final path lists s b n) e
-
-  -- the same for a threat
+  -- a threat after which the walk goes on, and one at which it ends
   pub threat-goes_on : (n i : ℕ) (ts : List Threat) (t : Threat) → i < length ts → t ≡ get_or ts i t → (a : Looked)
       → a ≡ from_threat final path lists s b n t → (m : ℕ) → a ≡ NoSequence m
       → from_threats final path lists s b n (drop i ts) ≡ from_threats final path lists s b m (drop (i + 1) ts)
@@ -254,10 +233,13 @@ module _ (rule : RuleKind) (final : Final) (path : List Threat) (lists : Grid �
       (sym found)
       ∙ on-ends a (λ m. from_threats final path lists s b m (drop (i + 1) ts)) h
 
--- all gains are all lists of so many threats
-pub gains-all : (rule : RuleKind) (final : Final) (path : List Threat) (s : Side) (b : Grid) (n k : ℕ) → 0 < k
-    → from_gains rule final path (lists_of rule s (k - 1)) s b n (points_of b) ≡ looked final n (after_path path (lists_of rule s k b))
-gains-all rule final path s b n k some = ap (λ (ls : Lists). looked final n (after_path path ls)) (sym (lists-more rule s b k some))
+-- the lists that begin with any threat are all lists of so many threats
+pub threats-all : (rule : RuleKind) (final : Final) (path : List Threat) (s : Side) (b : Grid) (n k : ℕ) (ts : List Threat) → 0 < k
+    → ts ≡ threats_of rule b s
+    → from_threats final path (lists_of rule s (k - 1)) s b n ts ≡ looked final n (after_path path (lists_of rule s k b))
+threats-all rule final path s b n k ts some e =
+    ap (from_threats final path (lists_of rule s (k - 1)) s b n) e
+    ∙ ap (λ (ls : Lists). looked final n (after_path path ls)) (sym (lists-more rule s b k some))
 
 module _ (rule : RuleKind) (final : Final) (s : Side) (b : Grid) where
   pub length-goes_on : (n k more less : ℕ) → 0 < more → less + 1 ≡ more → (a : Looked)

@@ -6,6 +6,7 @@
 
 ghost use Rattle.std.specs.Prelude.{◌≡◌, ◌++◌, [], ◌∷◌, map, IfOk, OnOk};
 ghost use Rattle.game_rules.specs.Grid.{IsBoard};
+ghost use Rattle.threat_moves.specs.Threats.{threats_of};
 ghost use Rattle.threat_space.specs.Sequences.{played_all, final_of as final_of_lem, lists_of, lists_from};
 ghost use Rattle.threat_space.specs.Lines.{HasPairsAfter, HasPairsOf};
 ghost use Rattle.threat_space.specs.Looking.{looked};
@@ -69,22 +70,42 @@ pub(crate) fn walk<R: Rule>(
     if to_come.more == 0 {
         return look_at::<R>(origin, board, path, to_come.far, budget);
     }
+    let threats = all_threats::<R>(origin.alloc, board, origin.side)?;
+    if threats.len() == 0 {
+        return Ok(Looked::NoSequence(budget));
+    }
     let far = pairs_before_last::<R>(origin.alloc, board, origin.side, to_come.more)?;
     let next = ToCome {
         more: to_come.more - 1,
         far: far.as_slice(),
     };
-    let mut left = budget;
+    walk_from::<R>(origin, board, threats.as_slice(), &next, path, budget)
+}
+
+/// All threats of the side, in the order of threats. The board is as before.
+fn all_threats<R: Rule>(alloc: Global, board: &mut Board, side: Side) -> Result<Threats, AllocError>
+    ensures threats { IfOk result (λ found. found ≡ threats_of R.KIND board.old side) }
+    ensures same { board.new ≡ board.old }
+    ensures board { IsBoard board.old }
+{
+    let mut found = Threats::new(alloc);
     for gain in board.points() {
         if board.is_empty(gain) {
-            let threats = threats_at::<R>(origin.alloc, board, origin.side, gain)?;
-            match walk_from::<R>(origin, board, threats.as_slice(), &next, path, left)? {
-                Looked::NoSequence(rest) => left = rest,
-                found => return Ok(found),
-            }
+            let more = threats_at::<R>(alloc, board, side, gain)?;
+            add_copies(alloc, &mut found, more.as_slice())?;
         }
     }
-    Ok(Looked::NoSequence(left))
+    Ok(found)
+}
+
+/// Adds copies of these threats at the end of the others.
+fn add_copies(alloc: Global, found: &mut Threats, more: &[Threat]) -> Result<(), AllocError>
+    ensures longer { OnOk result (found.new ≡ found.old ++ more.now) }
+{
+    for threat in more {
+        lengthen(alloc, found, threat)?;
+    }
+    Ok(())
 }
 
 /// The pairs of the board where just one threat more is to come, and else none.
