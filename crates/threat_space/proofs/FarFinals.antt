@@ -146,7 +146,7 @@ final-pair rule b s f none h =
 -- a list with a final point that is on no line with its last gain, and is none of the pairs, is no sequence
 pub ends-near : (rule : RuleKind) (s : Side) (start b : Grid) (ts : List Threat) (t : Threat) (far : List Point) → IsBoard b
     → b ≡ played_all start s ts → 0 < length ts → t ≡ get_or ts (length ts - 1) t → has_five rule b s ≡ false
-    → HasPairsAfter rule b s ts far → EndsNear rule s start ts t.gain far
+    → (has_fouls rule s ≡ true → HasFarPairs rule b s t.gain far) → EndsNear rule s start ts t.gain far
 unfolding is_sequence
 ends-near rule s start b ts t far ok is some last none pairs f off not_far = by_fouls (has_fouls rule s) refl where
   by_fouls : (r : Bool) → has_fouls rule s ≡ r → is_sequence rule s start ts f ≡ false
@@ -154,7 +154,7 @@ ends-near rule s start b ts t far ok is some last none pairs f off not_far = by_
   by_fouls true fouls = false_from_ne_true _ (λ h.
       let final : is_final_point rule b s f ≡ true = ap (λ (c : Grid). is_final_point rule c s f) is
       ∙ and_left (is_final_point rule (played_all start s ts) s f) _ h in
-      let there : has_point far f ≡ true = pairs fouls t some last none f off (final-pair rule b s f none final) in
+      let there : has_point far f ≡ true = pairs fouls none f off (final-pair rule b s f none final) in
       let bad : false ≡ true = sym not_far ∙ there in
       cc)
 

@@ -4,3 +4,5 @@
 mod FarFinals
 -- the lists that a search looks at
 mod Looked
+-- lists that have no final point wherever they began
+mod BarrenLists

@@ -86,7 +86,8 @@ module _ (rule : RuleKind) (s : Side) (b : Grid) (p : Point) (ps qs : List Point
   more-threats ts us longer =
       let rest : List Threat = flat_map (threats_at rule b s) qs in
       let here : us ++ rest ≡ (ts ++ threats_at rule b s p) ++ rest = ap (λ (vs : List Threat). vs ++ rest) longer in
-      let along : (ts ++ threats_at rule b s p) ++ rest ≡ ts ++ (threats_at rule b s p ++ rest) = append_assoc ts (threats_at rule b s p) rest in
+      let along : (ts ++ threats_at rule b s p) ++ rest ≡ ts ++ (threats_at rule b s p ++ rest) =
+      append_assoc ts (threats_at rule b s p) rest in
       let all : ts ++ (threats_at rule b s p ++ rest) ≡ ts ++ flat_map (threats_at rule b s) ps =
       ap (λ (vs : List Point). ts ++ flat_map (threats_at rule b s) vs) (sym e) in
       here ∙ along ∙ all
@@ -98,6 +99,11 @@ module _ (rule : RuleKind) (s : Side) (b : Grid) where
   unfolding lists_of
   lists-none zero path e = ap (λ (ts : List Threat). ts ∷ []) (append-nil path)
   lists-none (suc k) path e = absurd (omega arith)
+
+  pub lists-zero : (k : ℕ) → k ≡ 0 → lists_of rule s k b ≡ [] ∷ []
+  unfolding lists_of
+  lists-zero zero e = refl
+  lists-zero (suc k) e = absurd (omega arith)
 
   pub lists-more : (k : ℕ) → 0 < k → lists_of rule s k b ≡ lists_from (lists_of rule s (k - 1)) s b (threats_of rule b s)
   unfolding lists_of

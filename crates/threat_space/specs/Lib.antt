@@ -1,3 +1,4 @@
 pub mod Sequences
 pub mod Looking
 pub mod Lines
+pub mod Barren

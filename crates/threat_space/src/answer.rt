@@ -8,7 +8,8 @@ ghost use Rattle.std.specs.Prelude.{◌≡◌, ◌≤◌, IfOk};
 ghost use Rattle.threat_space.specs.declared.TheConstants.{MAX_LENGTH};
 ghost use Rattle.threat_space.specs.Sequences.{space_answer};
 
-use crate::walk::{Looked, Origin, ToCome, walk};
+use crate::barren::BarrenBoards;
+use crate::walk::{Looked, Origin, ToCome, Trail, walk};
 use row_shapes::Rule;
 use std::alloc::{AllocError, Global};
 use stone_board::{Board, Point, Side};
@@ -50,14 +51,18 @@ pub fn threat_space<R: Rule>(
         start: &start,
         side,
     };
-    let mut path = Threats::new(alloc);
+    let mut trail = Trail {
+        path: Threats::new(alloc),
+        memory: BarrenBoards::<R>::new(alloc, side),
+    };
     let mut left = budget;
     for count in 0..length + 1 {
         let to_come = ToCome {
             more: count,
             far: &[],
         };
-        let found = walk::<R>(&origin, board, &to_come, &mut path, left)?;
+        let walked = walk::<R>(&origin, board, &to_come, &mut trail, left)?;
+        let found = walked.found;
         match found {
             Looked::Sequence(threats, last) => return Ok(SpaceAnswer::Sequence(threats, last)),
             Looked::NoSequence(rest) => {

@@ -8,6 +8,7 @@
 #![tactic(auto)]
 
 mod answer;
+mod barren;
 mod boards;
 mod needs;
 mod pairs;

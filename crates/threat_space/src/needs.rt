@@ -4,11 +4,11 @@
 //! A list with a gain that nothing needs could be told shorter, and is no sequence.
 #![tactic(auto)]
 
-ghost use Rattle.std.specs.Prelude.{◌≡◌, IfOk, IfSome};
-ghost use Rattle.game_rules.specs.Grid.{Grid};
+ghost use Rattle.std.specs.Prelude.{◌≡◌, true, false, IfOk, IfSome};
 ghost use Rattle.game_rules.specs.Games.{has_five as has_five_lem};
-ghost use Rattle.threat_space.specs.Sequences.{played_all, is_final_point as is_final_point_lem, threat_depends as threat_depends_lem, final_depends as final_depends_lem, is_needed as is_needed_lem, all_needed as all_needed_lem, is_sequence as is_sequence_lem, final_of as final_of_lem};
-ghost use Rattle.threat_space.specs.Lines.{EndsNear, HasPairsAfter};
+ghost use Rattle.threat_space.specs.Sequences.{played_all, is_final_point as is_final_point_lem, threat_depends as threat_depends_lem, final_depends as final_depends_lem, is_needed as is_needed_lem, all_needed as all_needed_lem, final_of as final_of_lem};
+ghost use Rattle.threat_space.specs.Lines.{HasPairsAfter};
+ghost use Rattle.threat_space.specs.Barren.{HasLastGain, IsNearAfter, CannotEnd, HasNoFinal};
 
 use crate::boards::{played, without};
 use crate::pairs::has_point;
@@ -28,19 +28,28 @@ struct Ends<'a> {
     far: &'a [Point],
 }
 
-/// The least final point with which the list of threats is a sequence, if there is one. The threats lead from the first
-/// board to the second, which is as before. Where the side has fouls, `far` are the pairs that are on no line with the last gain.
-#[tactic(auto, unfolding(crate::specs::Sequences::final_of))]
-pub(crate) fn final_of<R: Rule>(
+/// The final points of a list of threats.
+#[derive(Drop)]
+pub(crate) struct Finals {
+    /// The least with which the list is a sequence, if there is one.
+    pub(crate) least: Option<Point>,
+    /// Whether no list has one that leads to the same board and ends with the same gain.
+    pub(crate) barren: bool,
+}
+
+/// The final points of the list of threats. The threats lead from the first board to the second, which is as before. Where the side
+/// has fouls, `far` are the pairs that are on no line with the last gain.
+pub(crate) fn finals_of<R: Rule>(
     start: &Board,
     board: &mut Board,
     side: Side,
     threats: &[Threat],
     far: &[Point],
-) -> Result<Option<Point>, AllocError>
+) -> Result<Finals, AllocError>
     requires played { board.old ≡ played_all start.now side threats.now }
     requires far { HasPairsAfter R.KIND board.old side threats.now far.now }
-    ensures least { IfOk result (λ found. found ≡ final_of_lem R.KIND side start.now threats.now) }
+    ensures least { IfOk result (λ found. found.least ≡ final_of_lem R.KIND side start.now threats.now) }
+    ensures barren { IfOk result (λ found. found.barren ≡ true → HasNoFinal R.KIND side board.old threats.now) }
     ensures same { board.new ≡ board.old }
 {
     let some_five = has_five::<R>(board, side);
@@ -49,12 +58,22 @@ pub(crate) fn final_of<R: Rule>(
         last_gain: last_gain::<R>(board, side, threats, some_five, far),
         far,
     };
+    let mut barren = true;
     for p in start.points() {
-        if is_sequence::<R>(start, board, side, threats, p, &ends)? {
-            return Ok(Some(p));
+        if can_end::<R>(board, side, p, &ends) {
+            barren = false;
+            if all_needed::<R>(start, side, threats, p)? {
+                return Ok(Finals {
+                    least: Some(p),
+                    barren,
+                });
+            }
         }
     }
-    Ok(None)
+    Ok(Finals {
+        least: None,
+        barren,
+    })
 }
 
 /// The last gain, if a final point has to be on a line with it or to be one of `far`: that is so where the side, as is told, has no
@@ -68,7 +87,8 @@ fn last_gain<R: Rule>(
 ) -> Option<Point>
     requires five { some_five ≡ has_five_lem R.KIND board.now side }
     requires far { HasPairsAfter R.KIND board.now side threats.now far.now }
-    ensures near { IfSome result (λ g. (start : Grid) → board.now ≡ played_all start side threats.now → EndsNear R.KIND side start threats.now g far.now) }
+    ensures last { IfSome result (HasLastGain threats.now) }
+    ensures near { IfSome result (λ g. IsNearAfter R.KIND side board.now g far.now) }
 {
     let count = threats.len();
     if some_five || count == 0 {
@@ -81,32 +101,20 @@ fn last_gain<R: Rule>(
     Some(gain)
 }
 
-/// Whether the list of threats is a sequence with this final point. The threats lead from the first board to the second, of
-/// which it is told what is known. It is as before.
-#[tactic(auto, unfolding(crate::specs::Sequences::is_sequence))]
-fn is_sequence<R: Rule>(
-    start: &Board,
-    board: &mut Board,
-    side: Side,
-    threats: &[Threat],
-    last: Point,
-    ends: &Ends,
-) -> Result<bool, AllocError>
-    requires played { board.old ≡ played_all start.now side threats.now }
+/// Whether a list of threats that leads to this board, and ends as is told, may have this final point. The board is as before.
+fn can_end<R: Rule>(board: &mut Board, side: Side, p: Point, ends: &Ends) -> bool
     requires five { ends.now.some_five ≡ has_five_lem R.KIND board.old side }
-    requires near { IfSome ends.now.last_gain (λ g. EndsNear R.KIND side start.now threats.now g ends.now.far.now) }
-    ensures sequence { IfOk result (λ found. found ≡ is_sequence_lem R.KIND side start.now threats.now last) }
+    requires near { IfSome ends.now.last_gain (λ g. IsNearAfter R.KIND side board.old g ends.now.far.now) }
+    ensures ends { result ≡ true → is_final_point_lem R.KIND board.old side p ≡ true }
+    ensures none { result ≡ false → CannotEnd R.KIND side board.old ends.now.last_gain p }
     ensures same { board.new ≡ board.old }
 {
     if let Some(gain) = ends.last_gain {
-        if !gain.is_aligned(last) && !has_point(ends.far, last) {
-            return Ok(false);
+        if !gain.is_aligned(p) && !has_point(ends.far, p) {
+            return false;
         }
     }
-    if !is_final_point::<R>(board, side, last, ends.some_five) {
-        return Ok(false);
-    }
-    all_needed::<R>(start, side, threats, last)
+    is_final_point::<R>(board, side, p, ends.some_five)
 }
 
 /// Whether the point is a final point of the side, of which it is told whether it has a five point. The board is as before.

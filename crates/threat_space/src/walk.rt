@@ -1,18 +1,22 @@
 //! The walk through the lists of some number of threats, in their order.
 //!
 //! Each list that is completed is looked at, for 1 of the budget. The threats on the way are kept in a path, which is as before
-//! after each answer.
+//! after each answer. Boards from which no list has a final point are remembered, with how many lists there are: these are counted
+//! at once where the board is met again.
 #![tactic(auto)]
 
-ghost use Rattle.std.specs.Prelude.{◌≡◌, ◌++◌, [], ◌∷◌, map, IfOk, OnOk};
+ghost use Rattle.std.specs.Prelude.{◌≡◌, ℕ, ◌-◌, ◌<◌, ◌≤◌, true, ◌++◌, [], ◌∷◌, map, length, IfOk, OnOk};
 ghost use Rattle.game_rules.specs.Grid.{IsBoard};
 ghost use Rattle.threat_moves.specs.Threats.{threats_of};
 ghost use Rattle.threat_space.specs.Sequences.{played_all, final_of as final_of_lem, lists_of, lists_from};
 ghost use Rattle.threat_space.specs.Lines.{HasPairsAfter, HasPairsOf};
 ghost use Rattle.threat_space.specs.Looking.{looked};
+ghost use Rattle.threat_space.specs.Barren.{AreBarren, IsBarren, passed as passed_lem};
+ghost use Rattle.threat_space.specs.declared.walk.Looked.TheVariants.{NoSequence};
 
+use crate::barren::BarrenBoards;
 use crate::boards::played;
-use crate::needs::final_of;
+use crate::needs::finals_of;
 use crate::pairs::pairs;
 use row_shapes::Rule;
 use std::alloc::{AllocError, Global};
@@ -30,6 +34,15 @@ pub(crate) enum Looked {
     Spent,
 }
 
+/// What a walk through some lists comes to.
+#[derive(Drop)]
+pub(crate) struct Walked {
+    /// What is found among them.
+    pub(crate) found: Looked,
+    /// Whether none of them has a final point, wherever they began.
+    pub(crate) barren: bool,
+}
+
 /// What a walk goes by, from its first list to its last.
 #[derive(Drop)]
 pub(crate) struct Origin<'a> {
@@ -39,6 +52,15 @@ pub(crate) struct Origin<'a> {
     pub(crate) start: &'a Board,
     /// The side whose threats they are.
     pub(crate) side: Side,
+}
+
+/// What a walk carries with it.
+#[derive(Drop)]
+pub(crate) struct Trail<R: Rule> {
+    /// The threats on the way to the board.
+    pub(crate) path: Threats,
+    /// What is remembered of boards that were met before.
+    pub(crate) memory: BarrenBoards<R>,
 }
 
 /// What comes after the threats of the path.
@@ -57,29 +79,44 @@ pub(crate) fn walk<R: Rule>(
     origin: &Origin,
     board: &mut Board,
     to_come: &ToCome,
-    path: &mut Threats,
+    trail: &mut Trail<R>,
     budget: u64,
-) -> Result<Looked, AllocError>
-    requires played { board.old ≡ played_all origin.now.start.now origin.now.side path.old }
-    requires far { to_come.now.more ≡ 0 → HasPairsAfter R.KIND board.old origin.now.side path.old to_come.now.far.now }
-    ensures looked { IfOk result (λ found. found ≡ looked (final_of_lem R.KIND origin.now.side origin.now.start.now) budget
-        (map (λ ts. path.old ++ ts) (lists_of R.KIND origin.now.side to_come.now.more board.old))) }
+) -> Result<Walked, AllocError>
+    requires played { board.old ≡ played_all origin.now.start.now origin.now.side trail.old.path }
+    requires far { to_come.now.more ≡ 0 → HasPairsAfter R.KIND board.old origin.now.side trail.old.path to_come.now.far.now }
+    requires side { trail.old.memory.side ≡ origin.now.side }
+    ensures looked { IfOk result (λ walked. walked.found ≡ looked (final_of_lem R.KIND origin.now.side origin.now.start.now) budget
+        (map (λ ts. trail.old.path ++ ts) (lists_of R.KIND origin.now.side to_come.now.more board.old))) }
+    ensures barren { IfOk result (λ walked. walked.barren ≡ true → AreBarren R.KIND origin.now.side board.old trail.old.path
+        (lists_of R.KIND origin.now.side to_come.now.more board.old)) }
     ensures same { board.new ≡ board.old }
-    ensures path { IfOk result (λ found. path.new ≡ path.old) }
+    ensures path { IfOk result (λ walked. trail.new.path ≡ trail.old.path) }
+    ensures side { trail.new.memory.side ≡ trail.old.memory.side }
 {
     if to_come.more == 0 {
-        return look_at::<R>(origin, board, path, to_come.far, budget);
+        return look_at::<R>(origin, board, &trail.path, to_come.far, budget);
+    }
+    if let Some(count) = trail.memory.find(board, to_come.more) {
+        return Ok(Walked {
+            found: passed(count, budget),
+            barren: true,
+        });
     }
     let threats = all_threats::<R>(origin.alloc, board, origin.side)?;
-    if threats.len() == 0 {
-        return Ok(Looked::NoSequence(budget));
-    }
-    let far = pairs_before_last::<R>(origin.alloc, board, origin.side, to_come.more)?;
+    let far = pairs_before_last::<R>(
+        origin.alloc,
+        board,
+        origin.side,
+        to_come.more,
+        threats.len(),
+    )?;
     let next = ToCome {
         more: to_come.more - 1,
         far: far.as_slice(),
     };
-    walk_from::<R>(origin, board, threats.as_slice(), &next, path, budget)
+    let walked = walk_from::<R>(origin, board, threats.as_slice(), &next, trail, budget)?;
+    remember::<R>(board, to_come.more, &walked, &mut trail.memory, budget)?;
+    Ok(walked)
 }
 
 /// All threats of the side, in the order of threats. The board is as before.
@@ -108,52 +145,99 @@ fn add_copies(alloc: Global, found: &mut Threats, more: &[Threat]) -> Result<(),
     Ok(())
 }
 
-/// The pairs of the board where just one threat more is to come, and else none.
+/// The pairs of the board where just one threat more is to come, and is one of so many, and else none.
 fn pairs_before_last<R: Rule>(
     alloc: Global,
     board: &Board,
     side: Side,
     more: u32,
+    count: usize,
 ) -> Result<Points, AllocError>
-    ensures pairs { IfOk result (λ found. more ≡ 1 → HasPairsOf R.KIND board.now side found) }
+    ensures pairs { IfOk result (λ found. more ≡ 1 → 0 < count → HasPairsOf R.KIND board.now side found) }
 {
-    if more == 1 {
+    if more == 1 && count > 0 {
         return pairs::<R>(alloc, board, side);
     }
     Ok(Points::new(alloc))
 }
 
-/// The same of the lists that go on with one of these threats and then with so many more. Where these are none, the pairs are those of
-/// the board.
+/// Remembers of the board that its lists of exactly so many threats are barren, where all of them were looked at within this budget
+/// and are.
+fn remember<R: Rule>(
+    board: &Board,
+    more: u32,
+    walked: &Walked,
+    memory: &mut BarrenBoards<R>,
+    budget: u64,
+) -> Result<(), AllocError>
+    requires barren { walked.now.barren ≡ true → (left : ℕ) → walked.now.found ≡ NoSequence left
+        → (left ≤ budget) × IsBarren R.KIND memory.old.side board.now more (budget - left) }
+    ensures side { memory.new.side ≡ memory.old.side }
+{
+    if !walked.barren {
+        return Ok(());
+    }
+    match &walked.found {
+        Looked::NoSequence(left) => memory.keep(board, more, budget - *left),
+        _ => Ok(()),
+    }
+}
+
+/// What is found where so many lists are looked at within this budget, and none of them has a final point.
+fn passed(count: u64, budget: u64) -> Looked
+    ensures passed { result ≡ passed_lem count budget }
+{
+    if count <= budget {
+        return Looked::NoSequence(budget - count);
+    }
+    Looked::Spent
+}
+
+/// Looks at the lists that begin with those of the path, go on with one of these threats, and then with so many more. Where these
+/// are none, the pairs are those of the board.
 #[cycle(walk)]
 fn walk_from<R: Rule>(
     origin: &Origin,
     board: &Board,
     threats: &[Threat],
     to_come: &ToCome,
-    path: &mut Threats,
+    trail: &mut Trail<R>,
     budget: u64,
-) -> Result<Looked, AllocError>
-    requires played { board.now ≡ played_all origin.now.start.now origin.now.side path.old }
+) -> Result<Walked, AllocError>
+    requires played { board.now ≡ played_all origin.now.start.now origin.now.side trail.old.path }
     requires board { IsBoard board.now }
-    requires far { to_come.now.more ≡ 0 → HasPairsOf R.KIND board.now origin.now.side to_come.now.far.now }
-    ensures looked { IfOk result (λ found. found ≡ looked (final_of_lem R.KIND origin.now.side origin.now.start.now) budget
-        (map (λ ts. path.old ++ ts)
+    requires far { to_come.now.more ≡ 0 → 0 < length threats.now → HasPairsOf R.KIND board.now origin.now.side to_come.now.far.now }
+    requires side { trail.old.memory.side ≡ origin.now.side }
+    ensures looked { IfOk result (λ walked. walked.found ≡ looked (final_of_lem R.KIND origin.now.side origin.now.start.now) budget
+        (map (λ ts. trail.old.path ++ ts)
         (lists_from (lists_of R.KIND origin.now.side to_come.now.more) origin.now.side board.now threats.now))) }
-    ensures path { IfOk result (λ found. path.new ≡ path.old) }
+    ensures barren { IfOk result (λ walked. walked.barren ≡ true → AreBarren R.KIND origin.now.side board.now []
+        (lists_from (lists_of R.KIND origin.now.side to_come.now.more) origin.now.side board.now threats.now)) }
+    ensures path { IfOk result (λ walked. trail.new.path ≡ trail.old.path) }
+    ensures side { trail.new.memory.side ≡ trail.old.memory.side }
 {
     let mut left = budget;
+    let mut barren = true;
     for threat in threats {
         let mut next = played(board, origin.side, threat)?;
-        lengthen(origin.alloc, path, threat)?;
-        let found = walk::<R>(origin, &mut next, to_come, path, left)?;
-        path.drop_last();
-        match found {
+        lengthen(origin.alloc, &mut trail.path, threat)?;
+        let walked = walk::<R>(origin, &mut next, to_come, trail, left)?;
+        trail.path.drop_last();
+        barren &= walked.barren;
+        match walked.found {
             Looked::NoSequence(rest) => left = rest,
-            found => return Ok(found),
+            found => {
+                return Ok(Walked {
+                    found,
+                    barren: false,
+                });
+            }
         }
     }
-    Ok(Looked::NoSequence(left))
+    Ok(Walked {
+        found: Looked::NoSequence(left),
+        barren,
+    })
 }
 
 /// Adds a copy of the threat at the end of the path.
@@ -170,18 +254,29 @@ fn look_at<R: Rule>(
     path: &Threats,
     far: &[Point],
     budget: u64,
-) -> Result<Looked, AllocError>
+) -> Result<Walked, AllocError>
     requires played { board.old ≡ played_all origin.now.start.now origin.now.side path.now }
     requires far { HasPairsAfter R.KIND board.old origin.now.side path.now far.now }
-    ensures looked { IfOk result (λ found. found ≡ looked (final_of_lem R.KIND origin.now.side origin.now.start.now) budget
+    ensures looked { IfOk result (λ walked. walked.found ≡ looked (final_of_lem R.KIND origin.now.side origin.now.start.now) budget
         (path.now ∷ [])) }
+    ensures barren { IfOk result (λ walked. walked.barren ≡ true → AreBarren R.KIND origin.now.side board.old path.now ([] ∷ [])) }
     ensures same { board.new ≡ board.old }
 {
     if budget == 0 {
-        return Ok(Looked::Spent);
+        return Ok(Walked {
+            found: Looked::Spent,
+            barren: false,
+        });
     }
-    match final_of::<R>(origin.start, board, origin.side, path.as_slice(), far)? {
-        Some(last) => Ok(Looked::Sequence(path.copy(origin.alloc)?, last)),
-        None => Ok(Looked::NoSequence(budget - 1)),
+    let finals = finals_of::<R>(origin.start, board, origin.side, path.as_slice(), far)?;
+    match finals.least {
+        Some(last) => Ok(Walked {
+            found: Looked::Sequence(path.copy(origin.alloc)?, last),
+            barren: false,
+        }),
+        None => Ok(Walked {
+            found: Looked::NoSequence(budget - 1),
+            barren: finals.barren,
+        }),
     }
 }

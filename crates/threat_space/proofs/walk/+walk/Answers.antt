@@ -1,101 +1,176 @@
-use Rattle.std.proofs.Common.{rules, ◌≡◌, ◌+◌, ◌-◌, ◌*◌, ◌<◌, ◌++◌, List, [], ◌∷◌, ap, sym, subst, ◌∙◌, arith, IfOk, Option}
-use Rattle.std.proofs.lemmas.List.{nil_from_length}
+use Rattle.std.proofs.Common.{rules, ◌≡◌, ◌+◌, ◌-◌, ◌*◌, ◌<◌, ◌++◌, true, false, List, [], ◌∷◌, length, ap, sym, subst, ◌∙◌}
+use Rattle.std.proofs.Common.{arith, IfOk, Option}
+use Rattle.std.proofs.lemmas.List.{drop_all}
 use Rattle.game_rules.specs.Grid.{Grid, IsBoard}
+use Rattle.game_rules.proofs.Boards.{and_left, and_right}
 use Rattle.game_rules.specs.declared.Point.{Point}
+use Rattle.game_rules.specs.declared.Side.{Side}
 use Rattle.threat_moves.specs.declared.threat_list.Threat.{Threat}
 use Rattle.threat_moves.proofs.ThreatLists.{after_path, shorter}
-use Rattle.threat_space.specs.Sequences.{final_of, lists_of, played, played_all}
+use Rattle.threat_space.specs.Sequences.{final_of, lists_from, lists_of, played, played_all}
 use Rattle.threat_space.specs.Lines.{HasPairsOf, HasPairsAfter}
 use Rattle.threat_space.specs.Looking.{looked}
-use Rattle.threat_space.specs.declared.walk.Looked.{Looked}
+use Rattle.threat_space.specs.Barren.{AreBarren, IsBarren, Remembered}
 use Rattle.threat_space.proofs.FarFinals.{pairs-after}
-use Rattle.threat_space.proofs.Looked.{from_threats, from_threat, lists-none, played-more, threats-all, threat-goes_on, threat-ends}
+use Rattle.threat_space.proofs.BarrenLists.{barren-all, barren-any, barren-found, barren-kept, barren-next, barren-none}
+use Rattle.threat_space.proofs.Looked.{from_threats, from_threat, lists-none, lists-zero, played-more, threats-all, threat-goes_on}
+use Rattle.threat_space.proofs.Looked.{threat-ends}
 use Rattle.threat_space.proofs.walk.+walk.Goals as goal
 
 pub walk-returns-then-to_come-eq0-clause-looked : goal.walk-returns-then-to_come-eq0-clause-looked
 walk-returns-then-to_come-eq0-clause-looked g t c =
     subst (λ (ls : List (List Threat)). IfOk c.look_at.result
-    (λ found. found ≡ looked (final_of g.R.Rule.KIND c.args.origin.now.side c.args.origin.now.start.now) c.args.budget ls))
-    (sym (lists-none g.R.Rule.KIND c.args.origin.now.side c.args.board.now c.args.to_come.now.more c.args.path.now c.if-to_come-eq0.true))
+    (λ walked. walked.found ≡ looked (final_of g.R.Rule.KIND c.args.origin.now.side c.args.origin.now.start.now) c.args.budget ls))
+    (sym (lists-none g.R.Rule.KIND c.args.origin.now.side c.args.board.now c.args.to_come.now.more c.args.trail.now.path
+    c.if-to_come-eq0.true))
     c.look_at.ensures.looked
 
--- where the board has no threat there is no list
-pub walk-returns-then-len-eq0-clause-looked : goal.walk-returns-then-len-eq0-clause-looked
-walk-returns-then-len-eq0-clause-looked g t c =
-    let some : 0 < c.args.to_come.now.more = let more = c.if-to_come-eq0.false in omega (arith, more) in
-    let none : c.in_ok-threats.threats ≡ [] = nil_from_length c.in_ok-threats.threats (sym c.len.ensures.length ∙ c.if-len-eq0.true) in
-    threats-all g.R.Rule.KIND (final_of g.R.Rule.KIND c.args.origin.now.side c.args.origin.now.start.now) c.args.path.now
-    c.args.origin.now.side c.args.board.now c.args.budget c.args.to_come.now.more [] some (sym none ∙ c.in_ok-threats.ensures.threats)
+pub walk-returns-then-to_come-eq0-clause-barren : goal.walk-returns-then-to_come-eq0-clause-barren
+walk-returns-then-to_come-eq0-clause-barren g t c =
+    subst (λ (ls : List (List Threat)). IfOk c.look_at.result
+    (λ walked. walked.barren ≡ true → AreBarren g.R.Rule.KIND c.args.origin.now.side c.args.board.now c.args.trail.now.path ls))
+    (sym (lists-zero g.R.Rule.KIND c.args.origin.now.side c.args.board.now c.args.to_come.now.more c.if-to_come-eq0.true))
+    c.look_at.ensures.barren
+
+-- a board that is remembered
+pub walk-returns-in-Some-clause-looked : goal.walk-returns-in-Some-clause-looked
+walk-returns-in-Some-clause-looked g t c =
+    let barren : IsBarren g.R.Rule.KIND c.args.origin.now.side c.args.board.now c.args.to_come.now.more c.in-Some.count =
+    subst (λ (s : Side). IsBarren g.R.Rule.KIND s c.args.board.now c.args.to_come.now.more c.in-Some.count) c.requires.side
+    c.in-Some.ensures.barren in
+    c.passed.ensures.passed ∙ sym (barren c.args.origin.now.start.now c.args.trail.now.path c.requires.played c.args.budget)
+
+pub walk-returns-in-Some-clause-barren : goal.walk-returns-in-Some-clause-barren
+walk-returns-in-Some-clause-barren g t c barren =
+    barren-found g.R.Rule.KIND c.args.origin.now.side c.args.board.now c.args.trail.now.path c.args.to_come.now.more c.in-Some.count
+    (subst (λ (s : Side). IsBarren g.R.Rule.KIND s c.args.board.now c.args.to_come.now.more c.in-Some.count) c.requires.side
+    c.in-Some.ensures.barren)
 
 pub walk-walk_from-requires : goal.walk-walk_from-requires
 walk-walk_from-requires g t c κs within =
     let same : c.all_threats.new.board ≡ c.args.board.now = c.all_threats.ensures.same in
-    let played : c.all_threats.new.board ≡ played_all c.args.origin.now.start.now c.args.origin.now.side c.args.path.now =
+    let played : c.all_threats.new.board ≡ played_all c.args.origin.now.start.now c.args.origin.now.side c.args.trail.now.path =
     same ∙ c.requires.played in
     let less : 2 * (c.args.to_come.now.more - 1) + 1 < 2 * c.args.to_come.now.more = let some =
     c.if-to_come-eq0.false in omega (arith, some) in
     let board : IsBoard c.all_threats.new.board = subst IsBoard (sym same) c.all_threats.ensures.board in
     let one : c.args.to_come.now.more - 1 ≡ 0 → c.args.to_come.now.more ≡ 1 = λ e. let some =
     c.if-to_come-eq0.false in omega (arith, some, e) in
-    let pairs : c.args.to_come.now.more - 1 ≡ 0 → HasPairsOf g.R.Rule.KIND c.all_threats.new.board c.args.origin.now.side
-    c.as_slice.result.now = λ e.
+    let pairs : c.args.to_come.now.more - 1 ≡ 0 → 0 < length c.as_slice-2.result.now → HasPairsOf g.R.Rule.KIND c.all_threats.new.board
+    c.args.origin.now.side c.as_slice.result.now = λ e some.
+    let count : 0 < c.len.result = subst (λ n. 0 < n)
+    (ap (λ (ts : List Threat). length ts) c.as_slice-2.ensures.items ∙ sym c.len.ensures.length) some in
     subst (λ (ps : List Point). HasPairsOf g.R.Rule.KIND c.all_threats.new.board c.args.origin.now.side ps) (sym c.as_slice.ensures.items)
-    (c.in_ok-far.ensures.pairs (one e)) in
+    (c.in_ok-far.ensures.pairs (one e) count) in
+    let side : c.find.new.self.side ≡ c.args.origin.now.side = ap (λ (m : Remembered). m.side) c.find.ensures.entries
+    ∙ c.requires.side in
     search rules
 
+-- what is found with all threats of the board is what is found of all its lists
 pub walk-returns-clause-looked : goal.walk-returns-clause-looked
 walk-returns-clause-looked g t c =
     let some : 0 < c.args.to_come.now.more = let more = c.if-to_come-eq0.false in omega (arith, more) in
     let final : List Threat → Option Point = final_of g.R.Rule.KIND c.args.origin.now.side c.args.origin.now.start.now in
     let lists : Grid → List (List Threat) = lists_of g.R.Rule.KIND c.args.origin.now.side (c.args.to_come.now.more - 1) in
-    let all : from_threats final c.args.path.now lists c.args.origin.now.side c.all_threats.new.board c.args.budget
-    c.as_slice-2.result.now ≡ looked final c.args.budget (after_path c.args.path.now
-    (lists_of g.R.Rule.KIND c.args.origin.now.side c.args.to_come.now.more c.args.board.now)) =
-    ap (λ (w : Grid). from_threats final c.args.path.now lists c.args.origin.now.side w c.args.budget c.as_slice-2.result.now)
+    let found : c.in_ok-walked.walked.found ≡ from_threats final c.args.trail.now.path lists c.args.origin.now.side c.all_threats.new.board
+    c.args.budget c.as_slice-2.result.now = c.in_ok-walked.ensures.looked in
+    found
+    ∙ ap (λ (w : Grid). from_threats final c.args.trail.now.path lists c.args.origin.now.side w c.args.budget c.as_slice-2.result.now)
     c.all_threats.ensures.same
-    ∙ threats-all g.R.Rule.KIND final c.args.path.now c.args.origin.now.side c.args.board.now c.args.budget c.args.to_come.now.more
-    c.as_slice-2.result.now some (c.as_slice-2.ensures.items ∙ c.in_ok-threats.ensures.threats) in
-    subst (λ (l : Looked). IfOk c.walk_from.result (λ found. found ≡ l)) all c.walk_from.ensures.looked
+    ∙ threats-all g.R.Rule.KIND final c.args.trail.now.path c.args.origin.now.side c.args.board.now c.args.budget c.args.to_come.now.more
+    c.as_slice-2.result.now some (c.as_slice-2.ensures.items ∙ c.in_ok-threats.ensures.threats)
+
+pub walk-returns-clause-barren : goal.walk-returns-clause-barren
+walk-returns-clause-barren g t c barren =
+    let some : 0 < c.args.to_come.now.more = let more = c.if-to_come-eq0.false in omega (arith, more) in
+    let s : Side = c.args.origin.now.side in
+    let lists : Grid → List (List Threat) = lists_of g.R.Rule.KIND s (c.args.to_come.now.more - 1) in
+    barren-any g.R.Rule.KIND s c.args.board.now (lists_of g.R.Rule.KIND s c.args.to_come.now.more c.args.board.now) c.args.trail.now.path
+    (barren-all g.R.Rule.KIND s c.args.board.now c.args.to_come.now.more c.as_slice-2.result.now some
+    (c.as_slice-2.ensures.items ∙ c.in_ok-threats.ensures.threats)
+    (subst (λ (w : Grid). AreBarren g.R.Rule.KIND s w [] (lists_from lists s w c.as_slice-2.result.now)) c.all_threats.ensures.same
+    (c.in_ok-walked.ensures.barren barren)))
+
+-- what is remembered of it
+pub walk-remember-requires : goal.walk-remember-requires
+walk-remember-requires g t c = record {
+  barren = λ barren left none.
+      let some : 0 < c.args.to_come.now.more = let more = c.if-to_come-eq0.false in omega (arith, more) in
+      let s : Side = c.args.origin.now.side in
+      let same : c.all_threats.new.board ≡ c.args.board.now = c.all_threats.ensures.same in
+      let final : List Threat → Option Point = final_of g.R.Rule.KIND s c.args.origin.now.start.now in
+      let lists : Grid → List (List Threat) = lists_of g.R.Rule.KIND s (c.args.to_come.now.more - 1) in
+      let found : c.in_ok-walked.walked.found ≡ from_threats final c.args.trail.now.path lists s c.all_threats.new.board
+      c.args.budget c.as_slice-2.result.now = c.in_ok-walked.ensures.looked in
+      let all : c.in_ok-walked.walked.found ≡ looked final c.args.budget (after_path c.args.trail.now.path
+      (lists_of g.R.Rule.KIND s c.args.to_come.now.more c.args.board.now)) = found
+      ∙ ap (λ (w : Grid). from_threats final c.args.trail.now.path lists s w c.args.budget c.as_slice-2.result.now) same
+      ∙ threats-all g.R.Rule.KIND final c.args.trail.now.path s c.args.board.now c.args.budget c.args.to_come.now.more
+      c.as_slice-2.result.now some (c.as_slice-2.ensures.items ∙ c.in_ok-threats.ensures.threats) in
+      let here : AreBarren g.R.Rule.KIND s c.args.board.now [] (lists_of g.R.Rule.KIND s c.args.to_come.now.more c.args.board.now) =
+      barren-all g.R.Rule.KIND s c.args.board.now c.args.to_come.now.more c.as_slice-2.result.now some
+      (c.as_slice-2.ensures.items ∙ c.in_ok-threats.ensures.threats)
+      (subst (λ (w : Grid). AreBarren g.R.Rule.KIND s w [] (lists_from lists s w c.as_slice-2.result.now)) same
+      (c.in_ok-walked.ensures.barren barren)) in
+      let side : s ≡ c.walk_from.new.trail.memory.side =
+      sym (c.walk_from.ensures.side ∙ ap (λ (m : Remembered). m.side) c.find.ensures.entries ∙ c.requires.side) in
+      let kept = barren-kept g.R.Rule.KIND s c.args.board.now c.args.origin.now.start.now c.args.trail.now.path c.args.to_come.now.more
+      c.args.budget left c.in_ok-walked.walked.found c.requires.played here all none in (
+        kept.0,
+        subst (λ (w : Grid). IsBarren g.R.Rule.KIND c.walk_from.new.trail.memory.side w c.args.to_come.now.more (c.args.budget - left))
+            (sym same)
+            (subst (λ (r : Side). IsBarren g.R.Rule.KIND r c.args.board.now c.args.to_come.now.more (c.args.budget - left)) side kept.1),
+      );
+}
 
 pub walk_from-walk-requires : goal.walk_from-walk-requires
 walk_from-walk-requires g t c κs within =
-    let longer : c.lengthen.new.path ≡ c.args.path.now ++ c.threat-item.result ∷ [] =
+    let longer : c.lengthen.new.path ≡ c.args.trail.now.path ++ c.threat-item.result ∷ [] =
     c.in_ok-lengthen.ensures.longer ∙ ap (λ (p : List Threat). p ++ c.threat-item.result ∷ []) c.loop-threat.invariant.path in
     let played : c.in_ok-next.next ≡ played_all c.args.origin.now.start.now c.args.origin.now.side c.lengthen.new.path =
     c.in_ok-next.ensures.played
     ∙ ap (λ (w : Grid). played w c.args.origin.now.side c.threat-item.result) c.requires.played
-    ∙ sym (played-more c.args.origin.now.start.now c.args.origin.now.side c.args.path.now c.threat-item.result)
+    ∙ sym (played-more c.args.origin.now.start.now c.args.origin.now.side c.args.trail.now.path c.threat-item.result)
     ∙ ap (played_all c.args.origin.now.start.now c.args.origin.now.side) (sym longer) in
     let less : 2 * c.args.to_come.now.more < 2 * c.args.to_come.now.more + 1 = omega arith in
+    let some : 0 < length c.args.threats.now = let low = c.loop-threat-test.true in omega (arith, low) in
     let pairs : c.args.to_come.now.more ≡ 0 → HasPairsAfter g.R.Rule.KIND c.in_ok-next.next c.args.origin.now.side c.lengthen.new.path
     c.args.to_come.now.far.now = λ e.
     subst (λ (w : Grid). HasPairsAfter g.R.Rule.KIND w c.args.origin.now.side c.lengthen.new.path c.args.to_come.now.far.now)
     (sym c.in_ok-next.ensures.played)
-    (pairs-after g.R.Rule.KIND c.args.board.now c.args.origin.now.side c.args.path.now c.lengthen.new.path c.threat-item.result
+    (pairs-after g.R.Rule.KIND c.args.board.now c.args.origin.now.side c.args.trail.now.path c.lengthen.new.path c.threat-item.result
     c.args.to_come.now.far.now
-    c.requires.board (c.requires.far e) longer) in
+    c.requires.board (c.requires.far e some) longer) in
+    let side = c.loop-threat.invariant.side in
     search rules
 
 pub walk_from-loop-threat-preserved : goal.walk_from-loop-threat-preserved
 walk_from-loop-threat-preserved g t c =
     let b : Grid = c.args.board.now in
-    let lists : Grid → List (List Threat) = lists_of g.R.Rule.KIND c.args.origin.now.side c.args.to_come.now.more in
-    let final : List Threat → Option Point = final_of g.R.Rule.KIND c.args.origin.now.side c.args.origin.now.start.now in
-    let longer : c.lengthen.new.path ≡ c.args.path.now ++ c.threat-item.result ∷ [] =
+    let s : Side = c.args.origin.now.side in
+    let lists : Grid → List (List Threat) = lists_of g.R.Rule.KIND s c.args.to_come.now.more in
+    let final : List Threat → Option Point = final_of g.R.Rule.KIND s c.args.origin.now.start.now in
+    let longer : c.lengthen.new.path ≡ c.args.trail.now.path ++ c.threat-item.result ∷ [] =
     c.in_ok-lengthen.ensures.longer ∙ ap (λ (p : List Threat). p ++ c.threat-item.result ∷ []) c.loop-threat.invariant.path in
-    let found : c.in_ok-found.found ≡ from_threat final c.args.path.now lists c.args.origin.now.side b c.loop-threat.left
+    let found : c.in_ok-walked.walked.found ≡ from_threat final c.args.trail.now.path lists s b c.loop-threat.left
     c.threat-item.result =
-    c.in_ok-found.ensures.looked
+    c.in_ok-walked.ensures.looked
     ∙ ap (λ (p : List Threat). looked final c.loop-threat.left (after_path p (lists c.in_ok-next.next))) longer
-    ∙ ap (λ (w : Grid). looked final c.loop-threat.left (after_path (c.args.path.now ++ c.threat-item.result ∷ []) (lists w)))
+    ∙ ap (λ (w : Grid). looked final c.loop-threat.left (after_path (c.args.trail.now.path ++ c.threat-item.result ∷ []) (lists w)))
     c.in_ok-next.ensures.played in
     record {
-      path = c.drop_last.ensures.dropped ∙ shorter c.args.path.now c.walk.new.path c.threat-item.result
-          (c.in_ok-found.ensures.path ∙ longer);
-      rest = sym (threat-goes_on g.R.Rule.KIND final c.args.path.now lists c.args.origin.now.side b c.loop-threat.left
+      path = c.drop_last.ensures.dropped ∙ shorter c.args.trail.now.path c.walk.new.trail.path c.threat-item.result
+          (c.in_ok-walked.ensures.path ∙ longer);
+      rest = sym (threat-goes_on g.R.Rule.KIND final c.args.trail.now.path lists s b c.loop-threat.left
           c.loop-threat.threat-index
-          c.args.threats.now c.threat-item.result c.loop-threat-test.true c.threat-item.is c.in_ok-found.found found c.in-NoSequence.rest
-          c.in-NoSequence.is) ∙ c.loop-threat.invariant.rest;
+          c.args.threats.now c.threat-item.result c.loop-threat-test.true c.threat-item.is c.in_ok-walked.walked.found found
+          c.in-NoSequence.rest c.in-NoSequence.is) ∙ c.loop-threat.invariant.rest;
+      barren = λ barren rest. c.loop-threat.invariant.barren (and_left c.loop-threat.barren c.in_ok-walked.walked.barren barren)
+          (barren-next g.R.Rule.KIND s b lists c.args.trail.now.path c.lengthen.new.path c.loop-threat.threat-index c.args.threats.now
+          c.threat-item.result c.loop-threat-test.true c.threat-item.is longer
+          (subst (λ (w : Grid). AreBarren g.R.Rule.KIND s w c.lengthen.new.path (lists w)) c.in_ok-next.ensures.played
+          (c.in_ok-walked.ensures.barren (and_right c.loop-threat.barren c.in_ok-walked.walked.barren barren))) rest);
+      side = c.walk.ensures.side ∙ c.loop-threat.invariant.side;
     }
 
 pub walk_from-returns-in_default : goal.walk_from-returns-in_default
@@ -103,19 +178,29 @@ walk_from-returns-in_default g t c =
     let b : Grid = c.args.board.now in
     let lists : Grid → List (List Threat) = lists_of g.R.Rule.KIND c.args.origin.now.side c.args.to_come.now.more in
     let final : List Threat → Option Point = final_of g.R.Rule.KIND c.args.origin.now.side c.args.origin.now.start.now in
-    let longer : c.lengthen.new.path ≡ c.args.path.now ++ c.threat-item.result ∷ [] =
+    let longer : c.lengthen.new.path ≡ c.args.trail.now.path ++ c.threat-item.result ∷ [] =
     c.in_ok-lengthen.ensures.longer ∙ ap (λ (p : List Threat). p ++ c.threat-item.result ∷ []) c.loop-threat.invariant.path in
-    let found : c.in_ok-found.found ≡ from_threat final c.args.path.now lists c.args.origin.now.side b c.loop-threat.left
+    let found : c.in_ok-walked.walked.found ≡ from_threat final c.args.trail.now.path lists c.args.origin.now.side b c.loop-threat.left
     c.threat-item.result =
-    c.in_ok-found.ensures.looked
+    c.in_ok-walked.ensures.looked
     ∙ ap (λ (p : List Threat). looked final c.loop-threat.left (after_path p (lists c.in_ok-next.next))) longer
-    ∙ ap (λ (w : Grid). looked final c.loop-threat.left (after_path (c.args.path.now ++ c.threat-item.result ∷ []) (lists w)))
+    ∙ ap (λ (w : Grid). looked final c.loop-threat.left (after_path (c.args.trail.now.path ++ c.threat-item.result ∷ []) (lists w)))
     c.in_ok-next.ensures.played in
     record {
-      looked = sym (threat-ends g.R.Rule.KIND final c.args.path.now lists c.args.origin.now.side b c.loop-threat.left
+      looked = sym (threat-ends g.R.Rule.KIND final c.args.trail.now.path lists c.args.origin.now.side b c.loop-threat.left
           c.loop-threat.threat-index
-          c.args.threats.now c.threat-item.result c.loop-threat-test.true c.threat-item.is c.in_ok-found.found found
+          c.args.threats.now c.threat-item.result c.loop-threat-test.true c.threat-item.is c.in_ok-walked.walked.found found
           c.in_default.not-NoSequence) ∙ c.loop-threat.invariant.rest;
-      path = c.drop_last.ensures.dropped ∙ shorter c.args.path.now c.walk.new.path c.threat-item.result
-          (c.in_ok-found.ensures.path ∙ longer);
+      barren = λ barren. absurd (let bad : false ≡ true = barren in cc);
+      path = c.drop_last.ensures.dropped ∙ shorter c.args.trail.now.path c.walk.new.trail.path c.threat-item.result
+          (c.in_ok-walked.ensures.path ∙ longer);
+      side = c.walk.ensures.side ∙ c.loop-threat.invariant.side ∙ sym c.requires.side;
     }
+
+pub walk_from-returns-clause-barren : goal.walk_from-returns-clause-barren
+walk_from-returns-clause-barren g t c barren =
+    let s : Side = c.args.origin.now.side in
+    let lists : Grid → List (List Threat) = lists_of g.R.Rule.KIND s c.args.to_come.now.more in
+    c.loop-threat.invariant.barren barren
+    (subst (λ (ts : List Threat). AreBarren g.R.Rule.KIND s c.args.board.now [] (lists_from lists s c.args.board.now ts))
+    (sym (drop_all c.loop-threat.threat-index c.args.threats.now c.loop-threat-test.false)) (barren-none g.R.Rule.KIND s c.args.board.now))

@@ -1,5 +1,6 @@
-use Rattle.std.proofs.Common.{◌≡◌, ◌+◌, ◌*◌, drop}
-use Rattle.threat_space.specs.Sequences.{final_of, lists_of}
+use Rattle.std.proofs.Common.{◌≡◌, ◌+◌, ◌*◌, true, [], drop}
+use Rattle.threat_space.specs.Sequences.{final_of, lists_of, lists_from}
+use Rattle.threat_space.specs.Barren.{AreBarren}
 use Rattle.threat_space.proofs.Looked.{from_threats}
 use Rattle.threat_space.proofs.walk.+walk.Given as goal
 
@@ -9,14 +10,20 @@ decreases-walk g l = 2 * l.to_come.now.more
 abbrev pub decreases-walk_from : goal.decreases-walk_from
 decreases-walk_from g l = 2 * l.to_come.now.more + 1
 
--- the path is as before; what is found with the threats left is what is found with all
+-- the path is as before; what is found with the threats left is what is found with all, and where those before were barren, and so are
+-- those left, all are
 abbrev pub invariant-walk_from-loop-threat : goal.invariant-walk_from-loop-threat
 invariant-walk_from-loop-threat g l = record {
-  path : l.path ≡ l.fn.path;
-  rest : from_threats (final_of g.R.Rule.KIND l.origin.side l.origin.start.now) l.fn.path
+  path : l.trail.path ≡ l.fn.trail.path;
+  rest : from_threats (final_of g.R.Rule.KIND l.origin.side l.origin.start.now) l.fn.trail.path
       (lists_of g.R.Rule.KIND l.origin.side l.to_come.more) l.origin.side l.board l.left
       (drop l.threat-index l.threats)
-      ≡ from_threats (final_of g.R.Rule.KIND l.origin.side l.origin.start.now) l.fn.path
+      ≡ from_threats (final_of g.R.Rule.KIND l.origin.side l.origin.start.now) l.fn.trail.path
       (lists_of g.R.Rule.KIND l.origin.side l.to_come.more) l.origin.side l.board l.budget
       l.threats;
+  barren : l.barren ≡ true → AreBarren g.R.Rule.KIND l.origin.side l.board []
+      (lists_from (lists_of g.R.Rule.KIND l.origin.side l.to_come.more) l.origin.side l.board (drop l.threat-index l.threats))
+      → AreBarren g.R.Rule.KIND l.origin.side l.board []
+      (lists_from (lists_of g.R.Rule.KIND l.origin.side l.to_come.more) l.origin.side l.board l.threats);
+  side : l.trail.memory.side ≡ l.origin.side;
 }

@@ -1,0 +1,19 @@
+use Rattle.std.proofs.Common.{refl, ap, subst, IfSome}
+use Rattle.game_rules.specs.declared.Side.{Side}
+use Rattle.position_table.specs.Lateness.{Late}
+use Rattle.threat_space.specs.Barren.{Remembered, IsBarren}
+use Rattle.threat_space.proofs.BarrenLists.{memory-barren, memory-looked}
+use Rattle.threat_space.proofs.barren.BarrenBoards.find.Goals as goal
+
+pub invariant_of-self : goal.invariant_of-self
+invariant_of-self g c =
+    memory-looked g.R.Rule.KIND (record { side = c.self.inside.side; late = c.self.inside.table }) c.args.board.now c.args.more
+    c.width.ensures.board c.self.invariant (record { side = c.self.inside.side; late = c.find.new.self }) refl
+    (ap (λ (m : Late). m.table) c.find.ensures.entries)
+
+pub returns-clause-barren : goal.returns-clause-barren
+returns-clause-barren g c =
+    subst (λ (s : Side). IfSome c.find.result (IsBarren g.R.Rule.KIND s c.args.board.now c.args.more))
+    (ap (λ (m : Remembered). m.side) c.self.view_is)
+    (memory-barren g.R.Rule.KIND (record { side = c.self.inside.side; late = c.self.inside.table }) c.args.board.now c.args.more
+    c.width.ensures.board c.self.invariant c.find.result c.find.ensures.value)
