@@ -24,7 +24,7 @@ use Rattle.threat_space.specs.Sequences.{all_needed, is_sequence}
 use Rattle.threat_space.specs.Looking.{found_or, looked, looked_on}
 use Rattle.threat_space.specs.Lines.{HasFarPairs, HasPairsAfter, EndsNear}
 use Rattle.threat_space.specs.Barren.{EndsAlike, IsNearAfter, HasNoFinal, passed, AreBarren, IsBarren}
-use Rattle.threat_space.specs.Barren.{Remembered, IsTrueEntry, IsTrueMemory}
+use Rattle.threat_space.specs.Barren.{BarrenMemory, IsBarrenEntry, IsTrueBarrenMemory}
 use Rattle.threat_space.proofs.FarFinals.{ends-near}
 use Rattle.threat_space.proofs.Looked.{from_threats, threat-next, lists-more, played-more}
 
@@ -233,34 +233,34 @@ module _ (rule : RuleKind) (s : Side) (b : Grid) where
 
 -- ---- the memory
 
-module _ (rule : RuleKind) (m : Remembered) (b : Grid) (more : ℕ) (ok : IsBoard b) (true_of : IsTrueMemory rule m) where
+module _ (rule : RuleKind) (m : BarrenMemory) (b : Grid) (more : ℕ) (ok : IsBoard b) (true_of : IsTrueBarrenMemory rule m) where
   pub memory-barren : (found : Option ℕ) → found ≡ value_under (packed b, more) m.late.table → IfSome found (IsBarren rule m.side b more)
   memory-barren None is = tt
   memory-barren (Some n) is = (true_of.each ((packed b, more), n) (value_under-kept (packed b, more) m.late.table n (sym is))).holds b ok
       refl
 
   -- after a look the memory is as true
-  pub memory-looked : (after : Remembered) → after.side ≡ m.side → after.late.table ≡ looked_up (packed b, more) m.late.table
-      → IsTrueMemory rule after
+  pub memory-looked : (after : BarrenMemory) → after.side ≡ m.side → after.late.table ≡ looked_up (packed b, more) m.late.table
+      → IsTrueBarrenMemory rule after
   memory-looked after side is = record {
     each = λ e there.
-        subst (λ (s : Side). IsTrueEntry rule s e) (sym side)
+        subst (λ (s : Side). IsBarrenEntry rule s e) (sym side)
         (true_of.each e (looked_up-before (packed b, more) m.late.table e (subst (λ t. Contains t.entries e) is there)));
   }
 
   -- and after a board is kept of which that holds
-  pub memory-kept : (after : Remembered) (count : ℕ) → after.side ≡ m.side → IsBarren rule m.side b more count
-      → (after.late.table ≡ kept (packed b, more) count m.late.table) ⊎ (after.late.table ≡ m.late.table) → IsTrueMemory rule after
+  pub memory-kept : (after : BarrenMemory) (count : ℕ) → after.side ≡ m.side → IsBarren rule m.side b more count
+      → (after.late.table ≡ kept (packed b, more) count m.late.table) ⊎ (after.late.table ≡ m.late.table) → IsTrueBarrenMemory rule after
   memory-kept after count side holds (inl is) = record {
     each = λ e there.
-        subst (λ (s : Side). IsTrueEntry rule s e) (sym side)
+        subst (λ (s : Side). IsBarrenEntry rule s e) (sym side)
         (by_entry e (kept-before (packed b, more) m.late.table count e (subst (λ t. Contains t.entries e) is there)));
   } where
-    by_entry : (e : (Packed × ℕ) × ℕ) → Contains m.late.table.entries e ⊎ (((packed b, more), count) ≡ e) → IsTrueEntry rule m.side e
+    by_entry : (e : (Packed × ℕ) × ℕ) → Contains m.late.table.entries e ⊎ (((packed b, more), count) ≡ e) → IsBarrenEntry rule m.side e
     by_entry e (inl old) = true_of.each e old
-    by_entry e (inr new) = subst (IsTrueEntry rule m.side) new (record {
+    by_entry e (inr new) = subst (IsBarrenEntry rule m.side) new (record {
       holds = λ c at key. subst (λ (w : Grid). IsBarren rule m.side w more count) (packed-tells b c ok at key) holds;
     })
   memory-kept after count side holds (inr is) = record {
-    each = λ e there. subst (λ (s : Side). IsTrueEntry rule s e) (sym side) (true_of.each e (subst (λ t. Contains t.entries e) is there));
+    each = λ e there. subst (λ (s : Side). IsBarrenEntry rule s e) (sym side) (true_of.each e (subst (λ t. Contains t.entries e) is there));
   }

@@ -32,12 +32,12 @@ abbrev pub IsNearAfter : RuleKind → Side → Grid → Point → List Point →
 IsNearAfter rule s b g far = (start : Grid) (us : List Threat) → HasLastGain us g → b ≡ played_all start s us
     → EndsNear rule s start us g far
 
--- with p no list is a sequence that leads to b and has this last gain, if one is told
+-- no list that leads to b, and has this last gain, if one is told, is a sequence with p
 abbrev pub CannotEnd : RuleKind → Side → Grid → Option Point → Point → Type 0
 CannotEnd rule s b last p = (start : Grid) (us : List Threat) → IfSome last (HasLastGain us) → b ≡ played_all start s us
     → is_sequence rule s start us p ≡ false
 
--- no list has a final point that leads to b, and ends as this one does
+-- no list that leads to b, and ends as this one does, has a final point
 abbrev pub HasNoFinal : RuleKind → Side → Grid → List Threat → Type 0
 HasNoFinal rule s b ts = (start : Grid) (us : List Threat) → EndsAlike ts us → b ≡ played_all start s us → final_of rule s start us ≡ None
 
@@ -61,14 +61,14 @@ IsBarren rule s b more count = (start : Grid) (us : List Threat) → b ≡ playe
 -- ---- what is remembered
 
 -- the side, and under a board and a number of threats how many lists of so many there are
-pub record Remembered : Type 0 where
+pub record BarrenMemory : Type 0 where
   pub side : Side
   pub late : Late
 
 -- an entry is true of the boards with its key
-pub record IsTrueEntry (rule : RuleKind) (s : Side) (e : (Packed × ℕ) × ℕ) : Type 0 where
+pub record IsBarrenEntry (rule : RuleKind) (s : Side) (e : (Packed × ℕ) × ℕ) : Type 0 where
   pub holds : (b : Grid) → IsBoard b → e.0.0 ≡ packed b → IsBarren rule s b e.0.1 e.1
 
--- what is remembered is true: lists of which that stands are barren
-pub record IsTrueMemory (rule : RuleKind) (memory : Remembered) : Type 0 where
-  pub each : (e : (Packed × ℕ) × ℕ) → Contains memory.late.table.entries e → IsTrueEntry rule memory.side e
+-- what is remembered is true: each entry is
+pub record IsTrueBarrenMemory (rule : RuleKind) (memory : BarrenMemory) : Type 0 where
+  pub each : (e : (Packed × ℕ) × ℕ) → Contains memory.late.table.entries e → IsBarrenEntry rule memory.side e

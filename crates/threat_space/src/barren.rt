@@ -1,9 +1,9 @@
 //! What a walk remembers: boards from which no list of so many threats has a final point.
 //!
 //! Threats that have nothing to do with each other lead to one board in each of their orders, and each number of threats is walked
-//! anew, so most boards are met often. A final point has to be new with the last gain, and a board with the threats that go on from
-//! it tells all that, whatever came before. So where no point can end any of these lists, it is enough to know how many lists there
-//! are.
+//! anew, so most boards are met often. The last gain of a list is needed by its final point alone, so whether a point can end a list
+//! shows in the board after it and in that gain, whatever came before. Where no point can end any list that goes on from a board, none
+//! of them is a sequence, wherever the walk came from, and it is enough to know how many there are.
 #![tactic(auto)]
 
 ghost use Rattle.std.specs.Prelude.{◌≡◌, [], IfSome, OnOk, OnErr};
@@ -34,13 +34,13 @@ pub(crate) struct BarrenBoards<R: Rule> {
 }
 
 impl<R: Rule> Model for BarrenBoards<R> {
-    ghost use Rattle.threat_space.specs.Barren.{Remembered, IsTrueMemory};
+    ghost use Rattle.threat_space.specs.Barren.{BarrenMemory, IsTrueBarrenMemory};
 
-    ghost Value = { Remembered };
+    ghost Value = { BarrenMemory };
 
     ghost view = { λ m. record { side = m.side; late = m.table } };
 
-    ghost invariant = { λ m. IsTrueMemory R.KIND (record { side = m.side; late = m.table }) };
+    ghost invariant = { λ m. IsTrueBarrenMemory R.KIND (record { side = m.side; late = m.table }) };
 }
 
 impl<R: Rule> BarrenBoards<R> {

@@ -33,7 +33,7 @@ struct Ends<'a> {
 pub(crate) struct Finals {
     /// The least with which the list is a sequence, if there is one.
     pub(crate) least: Option<Point>,
-    /// Whether no list has one that leads to the same board and ends with the same gain.
+    /// True only where no list that leads to the same board and ends with the same gain has one.
     pub(crate) barren: bool,
 }
 

@@ -39,7 +39,7 @@ pub(crate) enum Looked {
 pub(crate) struct Walked {
     /// What is found among them.
     pub(crate) found: Looked,
-    /// Whether none of them has a final point, wherever they began.
+    /// True only where none of them has a final point, wherever they began.
     pub(crate) barren: bool,
 }
 
@@ -73,7 +73,7 @@ pub(crate) struct ToCome<'a> {
 }
 
 /// Looks at the lists that begin with those of the path, which leads from the first board to this one, and go on with exactly so
-/// many threats more. The board and the path are as before.
+/// many threats more. The board is as before, and with an answer the path.
 #[cycle(walk)]
 pub(crate) fn walk<R: Rule>(
     origin: &Origin,
@@ -96,6 +96,7 @@ pub(crate) fn walk<R: Rule>(
     if to_come.more == 0 {
         return look_at::<R>(origin, board, &trail.path, to_come.far, budget);
     }
+    // So it is whatever led to the board: the lists are counted without a walk.
     if let Some(count) = trail.memory.find(board, to_come.more) {
         return Ok(Walked {
             found: passed(count, budget),
@@ -115,7 +116,7 @@ pub(crate) fn walk<R: Rule>(
         far: far.as_slice(),
     };
     let walked = walk_from::<R>(origin, board, threats.as_slice(), &next, trail, budget)?;
-    remember::<R>(board, to_come.more, &walked, &mut trail.memory, budget)?;
+    remember::<R>(board, to_come.more, &walked, &mut trail.memory, budget);
     Ok(walked)
 }
 
@@ -162,24 +163,23 @@ fn pairs_before_last<R: Rule>(
 }
 
 /// Remembers of the board that its lists of exactly so many threats are barren, where all of them were looked at within this budget
-/// and are.
+/// and are. Where there is no memory the board is not remembered, and nothing else changes.
 fn remember<R: Rule>(
     board: &Board,
     more: u32,
     walked: &Walked,
     memory: &mut BarrenBoards<R>,
     budget: u64,
-) -> Result<(), AllocError>
+)
     requires barren { walked.now.barren ≡ true → (left : ℕ) → walked.now.found ≡ NoSequence left
         → (left ≤ budget) × IsBarren R.KIND memory.old.side board.now more (budget - left) }
     ensures side { memory.new.side ≡ memory.old.side }
 {
     if !walked.barren {
-        return Ok(());
+        return;
     }
-    match &walked.found {
-        Looked::NoSequence(left) => memory.keep(board, more, budget - *left),
-        _ => Ok(()),
+    if let Looked::NoSequence(left) = &walked.found {
+        let _ = memory.keep(board, more, budget - *left);
     }
 }
 

@@ -10,7 +10,7 @@ use Rattle.threat_moves.proofs.ThreatLists.{after_path, shorter}
 use Rattle.threat_space.specs.Sequences.{final_of, lists_from, lists_of, played, played_all}
 use Rattle.threat_space.specs.Lines.{HasPairsOf, HasPairsAfter}
 use Rattle.threat_space.specs.Looking.{looked}
-use Rattle.threat_space.specs.Barren.{AreBarren, IsBarren, Remembered}
+use Rattle.threat_space.specs.Barren.{AreBarren, IsBarren, BarrenMemory}
 use Rattle.threat_space.proofs.FarFinals.{pairs-after}
 use Rattle.threat_space.proofs.BarrenLists.{barren-all, barren-any, barren-found, barren-kept, barren-next, barren-none}
 use Rattle.threat_space.proofs.Looked.{from_threats, from_threat, lists-none, lists-zero, played-more, threats-all, threat-goes_on}
@@ -62,7 +62,7 @@ walk-walk_from-requires g t c κs within =
     (ap (λ (ts : List Threat). length ts) c.as_slice-2.ensures.items ∙ sym c.len.ensures.length) some in
     subst (λ (ps : List Point). HasPairsOf g.R.Rule.KIND c.all_threats.new.board c.args.origin.now.side ps) (sym c.as_slice.ensures.items)
     (c.in_ok-far.ensures.pairs (one e) count) in
-    let side : c.find.new.self.side ≡ c.args.origin.now.side = ap (λ (m : Remembered). m.side) c.find.ensures.entries
+    let side : c.find.new.self.side ≡ c.args.origin.now.side = ap (λ (m : BarrenMemory). m.side) c.find.ensures.entries
     ∙ c.requires.side in
     search rules
 
@@ -113,7 +113,7 @@ walk-remember-requires g t c = record {
       (subst (λ (w : Grid). AreBarren g.R.Rule.KIND s w [] (lists_from lists s w c.as_slice-2.result.now)) same
       (c.in_ok-walked.ensures.barren barren)) in
       let side : s ≡ c.walk_from.new.trail.memory.side =
-      sym (c.walk_from.ensures.side ∙ ap (λ (m : Remembered). m.side) c.find.ensures.entries ∙ c.requires.side) in
+      sym (c.walk_from.ensures.side ∙ ap (λ (m : BarrenMemory). m.side) c.find.ensures.entries ∙ c.requires.side) in
       let kept = barren-kept g.R.Rule.KIND s c.args.board.now c.args.origin.now.start.now c.args.trail.now.path c.args.to_come.now.more
       c.args.budget left c.in_ok-walked.walked.found c.requires.played here all none in (
         kept.0,
