@@ -174,7 +174,8 @@ module _ (g : GameTree) (ok : IsTree g.tree) where
                 (are.all i (omega (arith, low, other)) node)
           ];
           few =
-              let one : ◌≡◌ {A = ℕ} (cond (is_attack (link_at g.tree.links m).kind) 1 0) 1 = ap (λ (k : Kind). cond (is_attack k) 1 0) is.attack in
+              let one : ◌≡◌ {A = ℕ} (cond (is_attack (link_at g.tree.links m).kind) 1 0) 1 =
+              ap (λ (k : Kind). cond (is_attack k) 1 0) is.attack in
               let sum = sum-suc m (λ i. cond (is_attack (link_at g.tree.links i).kind) 1 0) in
               omega (arith, length_push listed x, are.few, sum, one);
         },

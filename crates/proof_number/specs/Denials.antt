@@ -11,7 +11,7 @@ use Rattle.threat_game.specs.ThreatGame.{is_threat_move}
 use Rattle.threat_game.specs.Attacks.{has_saving}
 use Rattle.proof_number.specs.declared.denials.TheConstants.{FOUR_MOVES, FOUR_POSITIONS}
 
--- the side to move wins by continuous fours within a few moves, and a few positions are enough for the search of it
+-- the side to move wins by continuous fours within 20 moves, and 50 positions are enough for the search of it
 pub record WinsByFewFours (rule : RuleKind) (c : Grid) : Type 0 where
   pub wins : WinsByFours rule FOUR_MOVES c
   pub few : four_cost rule FOUR_MOVES c ≤ FOUR_POSITIONS
@@ -20,7 +20,7 @@ pub record WinsByFewFours (rule : RuleKind) (c : Grid) : Type 0 where
 abbrev pub IsDenied : RuleKind → (ℕ → Grid → Type 0) → ℕ → Grid → Type 0
 IsDenied rule listed n b = listed n b ⊎ ((n ≤ 2) × (¬ WinsByThreats rule n b))
 
--- a reply goes on and leaves the attacker, which has so many more moves, denied
+-- a reply goes on and leaves the attacker denied, with so many moves left
 pub record HasDenyingReply (rule : RuleKind) (listed : ℕ → Grid → Type 0) (n : ℕ) (c : Grid) : Type 0 where
   pub reply : Point
   pub on : outcome rule c reply ≡ GoesOn

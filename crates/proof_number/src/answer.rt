@@ -41,7 +41,8 @@ pub enum ProofAnswer {
 /// - `Win` comes only where there is such a win. The node is accepted and wins within its moves, at most `depth`, whatever
 ///   the replies. The root of the tree is proved.
 /// - `None` comes only where there is none within `depth` moves, and so none by continuous fours. The root is disproved. A denial shows
-///   it, of no more positions of the attacker than may be counted, the lesser of the budget and those of the game of threats.
+///   it, of no more positions of the attacker than may be counted, the lesser of the budget and those of the game of threats. One
+///   with two moves left at most need not be among them.
 /// - `Spent` comes only where the game of threats has more positions within `depth` moves than the budget. The root is not
 ///   settled.
 ///

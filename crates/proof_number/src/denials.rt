@@ -17,7 +17,7 @@ use std::alloc::{AllocError, Global};
 /// So many positions are looked at for the defender's fours.
 const FOUR_POSITIONS: u64 = 50;
 
-/// Within so many moves its fours are looked for.
+/// Within so many moves the defender's fours are looked for.
 const FOUR_MOVES: u32 = 20;
 
 /// Whether the side to move is seen to win by continuous fours, where the other side has no five point. Then the other side has no

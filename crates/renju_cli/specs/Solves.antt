@@ -189,9 +189,10 @@ SpeaksOfSolution number = (number ≡ status_number Done) ⊎ (number ≡ status
     (number ≡ status_number Full)
 
 -- What the statuses of `solve` say of the lawful position that is the input: 0 that the table of a win by fours, along a sequence or by
--- threats is written; 9 that there is no win by threats, and that a denial of no more positions than the budget and the game of threats
--- have shows it; 5 that their game has more positions than the budget; 12 that a table may have too many nodes. One of them comes, unless the status is one that stands in place of each. Where the first step has a win it is 0, and
--- where the second has one 0 or 12.
+-- threats is written; 9 that there is no win by threats, and that a denial shows it of no more positions than may be counted, the lesser
+-- of the budget and those of the game of threats; 5 that this game has more positions than the budget; 12 that a table may have too many
+-- nodes. One of them comes, unless the status is one that stands in place of each. Where the first step has a win it is 0, and where the
+-- second has one 0 or 12.
 pub record IsSolved (limit nodes : ℕ) (file : PositionFile) (run : Run) : Type 0 where
   pub won : run.status ≡ status_number Done → WritesSolution limit nodes file run.output
   pub none : run.status ≡ status_number NotFound → ¬ WinsByThreats file.kind limit file.board
