@@ -7,6 +7,7 @@ use Rattle.game_rules.proofs.Common.{Grid, outcome, mover, after, has_five, has_
 use Rattle.game_rules.proofs.Games.{one-winner, win-has_five}
 use Rattle.threat_game.proofs.Common.{LosesToThreats}
 use Rattle.threat_game.proofs.AttackLaws.{saving-saves, threat-by}
+use Rattle.proof_number.specs.declared.denials.TheConstants.{FOUR_MOVES}
 use Rattle.proof_number.specs.Denials.{HasDenial, IsDenied, IsLost, IsRefuted}
 
 -- ---- more positions
@@ -34,7 +35,8 @@ module _ (rule : RuleKind) (some more : ℕ → Grid → Type 0) (all : (n : ℕ
 refuted-loses : (rule : RuleKind) (listed : ℕ → Grid → Type 0) (n : ℕ) (c : Grid)
     → ((d : Grid) → IsDenied rule listed n d → WinsByThreats rule n d → ⊥) → IsRefuted rule listed n c → LosesToThreats rule n c → ⊥
 refuted-loses rule listed n c later (inl saved) loses = saving-saves rule n c saved loses
-refuted-loses rule listed n c later (inr (inl fours)) loses = one-winner (has_five rule) (has_threat rule) rule 20 n c fours.wins loses
+refuted-loses rule listed n c later (inr (inl fours)) loses =
+    one-winner (has_five rule) (has_threat rule) rule FOUR_MOVES n c fours.wins loses
 refuted-loses rule listed n c later (inr (inr has)) loses = later (after c has.reply) has.denied
     (subst (λ (o : Outcome). LosesOr o (WinsByThreats rule n (after c has.reply))) has.on (loses has.reply))
 
