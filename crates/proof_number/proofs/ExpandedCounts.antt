@@ -1,6 +1,6 @@
 -- What is noted, written and counted where a leaf is given children: all holds again but on the way up from it; and bounds of a step that
 -- gives the leaf children of which nothing is known, or that are proved.
-use Rattle.std.proofs.Common.{◌≡◌, ◌≢◌, ◌⊎◌, inl, inr, ℕ, ◌+◌, ◌-◌, ◌<◌, ◌≤◌, true, false, cond, not, ◌&&◌, refl, sym, ap, subst, ◌∙◌}
+use Rattle.std.proofs.Common.{◌≡◌, ◌≢◌, ◌⊎◌, inl, inr, ℕ, ◌+◌, ◌<◌, ◌≤◌, true, false, cond, not, ◌&&◌, refl, sym, ap, subst, ◌∙◌}
 use Rattle.std.proofs.Common.{arith, List, ◌++◌, length, nat_eq, map, zero, suc, All}
 use Rattle.std.proofs.lemmas.Bool.{cases_eq, cases_lt, eq-eqb}
 use Rattle.std.proofs.lemmas.List.{get_or-append-add, get_or_append_left, length-append}

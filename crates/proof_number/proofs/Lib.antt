@@ -7,10 +7,11 @@ mod GameTruths
 -- denials, and the disproved nodes of a tree as one
 mod DenialLaws
 mod Disproved
--- the win of a proved node is compiled; what is recorded and remembered on the way up
+-- the win of a proved node is compiled; what is recorded and remembered on the way up, and of looks
 mod Recording
 mod Remembering
 mod Compiling
+mod LookLaws
 -- sums over nodes; a leaf is settled, or given children
 mod Sums
 mod Staying

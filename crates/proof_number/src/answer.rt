@@ -16,6 +16,7 @@ ghost use Rattle.proof_number.specs.Answers.{OnWin, HasNoThreatWin, RootSays};
 ghost use Rattle.proof_number.specs.Denials.{HasDenial};
 ghost use Rattle.threat_game.specs.Wins.{IsThreatWin};
 
+use crate::looks::Looks;
 use crate::search::{Search, Step};
 use foul_judge::Seen;
 use proof_tree::ProofTree;
@@ -86,9 +87,10 @@ pub fn proof_number<R: Rule, V: Seen<R>>(
     tree.len();
     let before = compiler.len();
     let mut search = Search::new(alloc, view.board(), depth as u8, budget, before)?;
+    let mut looks = Looks::<R>::new(alloc);
     search.begin::<R, V>(alloc, view, tree, compiler)?;
     while !tree.numbers(0).is_settled() {
-        match search.step::<R, V>(alloc, view, tree, compiler)? {
+        match search.step::<R, V>(&mut looks, view, tree, compiler)? {
             Step::Done => {}
             Step::Spent => return Ok(ProofAnswer::Spent),
         }

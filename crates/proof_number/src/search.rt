@@ -29,7 +29,7 @@ ghost use Rattle.proof_number.specs.GameTrees.{board_at, left_at};
 ghost use Rattle.proof_number.specs.Searches.{Searches, IsSameAim, StandsAt, Grows, HasSpent, HasStayed, OnStep, IsSettledAt, IsExpandedAt, IsNew, KeepsTree, closed_nodes, game_of, noted_won};
 
 use crate::REMEMBERED;
-use crate::denials::is_denied;
+use crate::looks::Looks;
 use crate::notes::{Note, Settled};
 use foul_judge::Seen;
 use position_table::{PackedPosition, WholeTable};
@@ -39,8 +39,8 @@ use std::alloc::{AllocError, Global};
 use stone_board::{Board, Point};
 use strategy_compiler::{Compiler, SearchError, WrittenWin};
 use threat_game::{
-    Attacks, Child, Double, answers_of, compile_double, compile_five, compile_last, find_attacks,
-    judge_replies, last_move, settle_child,
+    Attacks, Child, Double, answers_of, compile_double, compile_five, compile_last, last_move,
+    settle_child,
 };
 
 /// What a step of the search did.
@@ -97,7 +97,7 @@ impl Search {
     /// Goes to the most-proving leaf, settles it or gives it its children, and comes back.
     pub(crate) fn step<R: Rule, V: Seen<R>>(
         &mut self,
-        alloc: Global,
+        looks: &mut Looks<R>,
         view: &mut V,
         tree: &mut ProofTree,
         compiler: &mut Compiler,
@@ -121,11 +121,11 @@ impl Search {
     {
         let leaf = tree.most_proving();
         self.go_to::<R, V>(view, tree, leaf);
-        let grown = self.grow::<R, V>(alloc, view, tree, compiler, leaf);
+        let grown = self.grow::<R, V>(looks, view, tree, compiler, leaf);
         match grown {
             Ok(step) => match step {
                 Step::Done => {
-                    self.go_back::<R, V>(alloc, view, tree, compiler, leaf)?;
+                    self.go_back::<R, V>(looks.alloc(), view, tree, compiler, leaf)?;
                     Ok(Step::Done)
                 }
                 Step::Spent => {
@@ -143,7 +143,7 @@ impl Search {
     /// Settles the most-proving leaf or gives it its children.
     fn grow<R: Rule, V: Seen<R>>(
         &mut self,
-        alloc: Global,
+        looks: &mut Looks<R>,
         view: &mut V,
         tree: &mut ProofTree,
         compiler: &mut Compiler,
@@ -159,8 +159,8 @@ impl Search {
         ensures full_now { IsErrOf result SearchError.Full → length compiler.new ≡ MAX_NODES }
     {
         match tree.link(leaf).kind {
-            Kind::Attack => self.attack::<R, V>(alloc, view, tree, compiler, leaf),
-            Kind::Defend => self.defend::<R, V>(alloc, view, tree, compiler, leaf),
+            Kind::Attack => self.attack::<R, V>(looks, view, tree, compiler, leaf),
+            Kind::Defend => self.defend::<R, V>(looks, view, tree, compiler, leaf),
         }
     }
 
@@ -181,7 +181,7 @@ impl Search {
     /// Settles a leaf of the attacker, who has no five point and two moves or more, or gives it its children.
     fn attack<R: Rule, V: Seen<R>>(
         &mut self,
-        alloc: Global,
+        looks: &mut Looks<R>,
         view: &mut V,
         tree: &mut ProofTree,
         compiler: &mut Compiler,
@@ -206,7 +206,7 @@ impl Search {
                 tree.settle(false);
                 Ok(Step::Done)
             }
-            None => self.try_attacks::<R, V>(alloc, view, tree, compiler, leaf),
+            None => self.try_attacks::<R, V>(looks, view, tree, compiler, leaf),
         }
     }
 
@@ -224,7 +224,7 @@ impl Search {
     /// The same where nothing is remembered of the position.
     fn try_attacks<R: Rule, V: Seen<R>>(
         &mut self,
-        alloc: Global,
+        looks: &mut Looks<R>,
         view: &mut V,
         tree: &mut ProofTree,
         compiler: &mut Compiler,
@@ -240,13 +240,13 @@ impl Search {
         ensures full { IsErrOf result SearchError.Full → (MAX_NODES < self.old.before + self.old.budget) × (MAX_NODES < self.old.before + threat_tree R.KIND self.old.depth self.old.root) }
         ensures full_now { IsErrOf result SearchError.Full → length compiler.new ≡ MAX_NODES }
     {
-        match find_attacks::<R, V>(alloc, view, &mut self.board)? {
+        match looks.find_attacks::<V>(view, &mut self.board)? {
             Attacks::Double(double) => {
-                self.win_double::<R, V>(alloc, view, tree, compiler, leaf, double)
+                self.win_double::<R, V>(looks.alloc(), view, tree, compiler, leaf, double)
             }
             Attacks::NoReply(p) => self.win_last::<R>(tree, compiler, leaf, p),
             Attacks::Moves(moves) => {
-                self.expand_attack::<R>(alloc, tree, compiler, leaf, moves.as_slice())
+                self.expand_attack::<R>(looks.alloc(), tree, compiler, leaf, moves.as_slice())
             }
         }
     }
@@ -375,34 +375,7 @@ impl Search {
     /// Settles a leaf of the other side that wins by its own fours, and looks at the replies at any other.
     fn defend<R: Rule, V: Seen<R>>(
         &mut self,
-        alloc: Global,
-        view: &mut V,
-        tree: &mut ProofTree,
-        compiler: &mut Compiler,
-        leaf: u32,
-    ) -> Result<Step, SearchError>
-        requires at_leaf { StandsAt R.KIND self.old tree.old compiler.old leaf (V.position view.old) }
-        requires defend { (link_at tree.old.links leaf).kind ≡ AnyKind.Defend }
-        ensures step { OnStep result (Grows R.KIND self.old self.new tree.old tree.new compiler.new leaf)
-            (HasSpent R.KIND self.old self.new tree.old tree.new) (HasStayed self.old self.new tree.old tree.new) }
-        ensures same { V.position view.new ≡ V.position view.old }
-        ensures kept { (more : List AnyNode) × (compiler.new ≡ compiler.old ++ more) }
-        ensures nothing { OnStep result ℕ (compiler.new ≡ compiler.old) ℕ }
-        ensures full { IsErrOf result SearchError.Full → (MAX_NODES < self.old.before + self.old.budget) × (MAX_NODES < self.old.before + threat_tree R.KIND self.old.depth self.old.root) }
-        ensures full_now { IsErrOf result SearchError.Full → length compiler.new ≡ MAX_NODES }
-    {
-        let denied = is_denied::<R, V>(alloc, view)?;
-        if denied {
-            tree.settle(false);
-            return Ok(Step::Done);
-        }
-        self.answer_replies::<R, V>(alloc, view, tree, compiler, leaf)
-    }
-
-    /// Gives a leaf of the other side its children, or settles it if a reply leaves no win.
-    fn answer_replies<R: Rule, V: Seen<R>>(
-        &mut self,
-        alloc: Global,
+        looks: &mut Looks<R>,
         view: &mut V,
         tree: &mut ProofTree,
         compiler: &mut Compiler,
@@ -419,7 +392,35 @@ impl Search {
         ensures full_now { IsErrOf result SearchError.Full → length compiler.new ≡ MAX_NODES }
     {
         let left = self.notes[leaf as usize].left;
-        match judge_replies::<R, V>(alloc, view, &mut self.board, u32::from(left))? {
+        let denied = looks.is_denied::<V>(view, u32::from(left))?;
+        if denied {
+            tree.settle(false);
+            return Ok(Step::Done);
+        }
+        self.answer_replies::<R, V>(looks, view, tree, compiler, leaf)
+    }
+
+    /// Gives a leaf of the other side its children, or settles it if a reply leaves no win.
+    fn answer_replies<R: Rule, V: Seen<R>>(
+        &mut self,
+        looks: &mut Looks<R>,
+        view: &mut V,
+        tree: &mut ProofTree,
+        compiler: &mut Compiler,
+        leaf: u32,
+    ) -> Result<Step, SearchError>
+        requires at_leaf { StandsAt R.KIND self.old tree.old compiler.old leaf (V.position view.old) }
+        requires defend { (link_at tree.old.links leaf).kind ≡ AnyKind.Defend }
+        ensures step { OnStep result (Grows R.KIND self.old self.new tree.old tree.new compiler.new leaf)
+            (HasSpent R.KIND self.old self.new tree.old tree.new) (HasStayed self.old self.new tree.old tree.new) }
+        ensures same { V.position view.new ≡ V.position view.old }
+        ensures kept { (more : List AnyNode) × (compiler.new ≡ compiler.old ++ more) }
+        ensures nothing { OnStep result ℕ (compiler.new ≡ compiler.old) ℕ }
+        ensures full { IsErrOf result SearchError.Full → (MAX_NODES < self.old.before + self.old.budget) × (MAX_NODES < self.old.before + threat_tree R.KIND self.old.depth self.old.root) }
+        ensures full_now { IsErrOf result SearchError.Full → length compiler.new ≡ MAX_NODES }
+    {
+        let left = self.notes[leaf as usize].left;
+        match looks.judge_replies::<V>(view, &mut self.board, u32::from(left))? {
             None => {
                 tree.settle(false);
                 Ok(Step::Done)
@@ -430,7 +431,7 @@ impl Search {
                     return Ok(Step::Spent);
                 }
                 let settled = settle_children::<R, V>(
-                    alloc,
+                    looks.alloc(),
                     view,
                     children.all.as_slice(),
                     left,

@@ -19,5 +19,5 @@ mod written;
 pub use attacks::{Attacks, find_attacks};
 pub use doubles::{Double, answers_of, compile_double};
 pub use last_moves::last_move;
-pub use replies::{Child, judge_replies, settle_child};
+pub use replies::{Child, Children, judge_replies, settle_child};
 pub use written::{compile_five, compile_last};

@@ -3,8 +3,8 @@ use Rattle.strategy_graph.specs.declared.Node.{Node}
 use Rattle.proof_number.specs.Searches.{IsSameAim, Searches, closed_nodes}
 use Rattle.proof_number.proofs.answer.proof_number.Given as goal
 
-abbrev pub invariant-loop-alloc : goal.invariant-loop-alloc
-invariant-loop-alloc g l = record {
+abbrev pub invariant-loop-search : goal.invariant-loop-search
+invariant-loop-search g l = record {
   searching : Searches g.R.Rule.KIND l.search l.tree l.compiler (λ i. ⊥);
   aim : IsSameAim l.initial.search l.search;
   view : g.V.Seen.position l.view ≡ l.search.root;
@@ -13,5 +13,5 @@ invariant-loop-alloc g l = record {
   kept : (more : List Node) × (l.compiler ≡ l.initial.compiler ++ more);
 }
 
-abbrev pub decreases-loop-alloc : goal.decreases-loop-alloc
-decreases-loop-alloc g l = 2 * l.search.budget - closed_nodes l.tree
+abbrev pub decreases-loop-search : goal.decreases-loop-search
+decreases-loop-search g l = 2 * l.search.budget - closed_nodes l.tree

@@ -1,9 +1,13 @@
-use Rattle.std.proofs.Common.{◌≡◌, ◌∙◌, sym, subst, false}
+use Rattle.std.proofs.Common.{sym, subst, false, arith}
 use Rattle.game_rules.specs.Grid.{Grid}
 use Rattle.proof_number.specs.Searches.{StandsAt}
-use Rattle.proof_number.proofs.Steps.{leaf-is, root-open, settled-at}
+use Rattle.proof_number.proofs.Steps.{leaf-is, leaf-noted, root-open, settled-at}
 use Rattle.proof_number.proofs.Defending.{denied-grows}
 use Rattle.proof_number.proofs.search.Search.defend.Goals as goal
+
+pub index-requires : goal.index-requires
+index-requires g c = let low = leaf-noted g.R.Rule.KIND c.args.self.now c.args.tree.now c.args.compiler.now c.args.leaf
+    (g.V.Seen.position c.args.view.now) c.requires.at_leaf in omega (arith, low)
 
 pub settle-requires : goal.settle-requires
 settle-requires g c = record {

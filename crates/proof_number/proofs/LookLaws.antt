@@ -1,0 +1,102 @@
+-- What is remembered of looks stays true while lists are added to those that are kept.
+use Rattle.std.proofs.Common.{◌≡◌, ℕ, ◌+◌, ◌<◌, ◌≤◌, List, ◌++◌, take, drop, length, refl, sym, ap, subst, ◌∙◌, arith}
+use Rattle.std.proofs.Common.{Option, Some, None, IfSome}
+use Rattle.std.proofs.lemmas.List.{drop-append-le, length-append, length-drop, take-append-le}
+use Rattle.std.proofs.Math.Seq.{drop-append_seam, take-length}
+use Rattle.game_rules.specs.Grid.{Grid}
+use Rattle.game_rules.specs.declared.RuleKind.{RuleKind}
+use Rattle.game_rules.specs.declared.Point.{Point}
+use Rattle.game_rules.specs.Play.{IsPosition}
+use Rattle.position_table.specs.Packing.{packed}
+use Rattle.position_table.specs.Remembering.{Remembered, IsTrueTable, value_under}
+use Rattle.position_table.proofs.Remembering.{true-found, true-weaker}
+use Rattle.threat_game.specs.declared.attacks.Attacks.TheVariants.{Moves}
+use Rattle.threat_game.specs.declared.replies.Child.{Child}
+use Rattle.threat_game.specs.declared.replies.Children.{Children}
+use Rattle.threat_game.specs.Attacks.{AreAttacks}
+use Rattle.threat_game.specs.Replies.{AreChildren}
+use Rattle.proof_number.specs.declared.spans.Span.{Span}
+use Rattle.proof_number.specs.declared.looks.Look.{Look}
+use Rattle.proof_number.specs.declared.looks.Look.TheVariants.{Tried, Denied, Escape, Replies}
+use Rattle.proof_number.specs.Looks.{part_of, IsAdded, IsPart, AreChildrenOf, IsTrueLook}
+
+-- ---- lists that are kept in one
+
+module _ {T : Type 0} (all more : List T) (span : Span) where
+  part-kept : span.first + span.count ≤ length all → part_of span (all ++ more) ≡ part_of span all
+  part-kept within =
+      let d = length-drop span.first all in
+      ap (take span.count) (drop-append-le span.first all more (omega (arith, within)))
+      ∙ take-append-le span.count (drop span.first all) more (omega (arith, within, d))
+
+  -- a list stays where it stands
+  pub part-grown : (says : List T → Type 0) → IsPart all says span → IsPart (all ++ more) says span
+  part-grown says is =
+      let within = is.within in
+      let d = length-append all more in
+      record { within = omega (arith, within, d); holds = subst says (sym (part-kept is.within)) is.holds }
+
+-- a list stands where it was added
+pub part-added : {T : Type 0} (before list after : List T) (span : Span) (says : List T → Type 0) → IsAdded before list after span
+    → says list → IsPart after says span
+part-added before list after span says added holds = record {
+  within = (let a = ap length added.all in let b = length-append before list in let first = added.first in let count = added.count in
+      omega (arith, a, b, first, count));
+  holds = subst says (sym part) holds;
+} where
+  part : part_of span after ≡ list
+  part =
+      ap (λ (n : ℕ). take n (drop span.first after)) added.count
+      ∙ ap (λ (n : ℕ). take (length list) (drop n after)) added.first
+      ∙ ap (λ xs. take (length list) (drop (length before) xs)) added.all
+      ∙ ap (take (length list)) (drop-append_seam before list) ∙ take-length list
+
+-- ---- looks
+
+-- children are the same wherever they stand
+pub children-all : (rule : RuleKind) (n : ℕ) (c : Grid) (children : Children) → AreChildren rule n c children
+    → AreChildrenOf rule n c children.count children.all.items
+children-all rule n c children are other items count = record {
+  judged = are.judged;
+  are = are.are;
+  kept = items ∙ are.kept;
+  some = subst (λ (xs : List Child). 0 < length xs) (sym items) are.some;
+  count_is = rw (items, count) are.count_is;
+  few = (let f = are.few in omega (arith, f, count));
+}
+
+module _ (rule : RuleKind) (moves : List Point) (children : List Child) where
+  moves-longer : (more : List Point) (b : Grid) (n : ℕ) (look : Look) → IsTrueLook rule moves children b n look
+      → IsTrueLook rule (moves ++ more) children b n look
+  moves-longer more b n (Tried span) is = part-grown moves more span (λ ps. AreAttacks rule b (Moves ps)) is
+  moves-longer more b n Denied is = is
+  moves-longer more b n Escape is = is
+  moves-longer more b n (Replies span count) is = is
+
+  children-longer : (more : List Child) (b : Grid) (n : ℕ) (look : Look) → IsTrueLook rule moves children b n look
+      → IsTrueLook rule moves (children ++ more) b n look
+  children-longer more b n (Tried span) is = is
+  children-longer more b n Denied is = is
+  children-longer more b n Escape is = is
+  children-longer more b n (Replies span count) is = part-grown children more span (AreChildrenOf rule n b count) is
+
+  module _ (t : Remembered Look) (true_of : IsTrueTable Look rule (IsTrueLook rule moves children) t) where
+    -- what is remembered stays true where moves are added, or children
+    pub moves-added : (list after : List Point) (span : Span) → IsAdded moves list after span
+        → IsTrueTable Look rule (IsTrueLook rule after children) t
+    moves-added list after span added =
+        subst (λ (ps : List Point). IsTrueTable Look rule (IsTrueLook rule ps children) t) (sym added.all)
+        (true-weaker rule (IsTrueLook rule moves children) (IsTrueLook rule (moves ++ list) children) (moves-longer list) t true_of)
+
+    pub children-added : (list after : List Child) (span : Span) → IsAdded children list after span
+        → IsTrueTable Look rule (IsTrueLook rule moves after) t
+    children-added list after span added =
+        subst (λ (xs : List Child). IsTrueTable Look rule (IsTrueLook rule moves xs) t) (sym added.all)
+        (true-weaker rule (IsTrueLook rule moves children) (IsTrueLook rule moves (children ++ list)) (children-longer list) t true_of)
+
+module _ (rule : RuleKind) (moves : List Point) (children : List Child) (b : Grid) (n : ℕ) (t : Remembered Look) where
+  -- what is found of a position holds there
+  pub look-found : IsPosition rule b → IsTrueTable Look rule (IsTrueLook rule moves children) t → (found : Option Look)
+      → found ≡ value_under (packed b, n) t → IfSome found (IsTrueLook rule moves children b n)
+  look-found lawful true_of None is = tt
+  look-found lawful true_of (Some look) is = true-found rule (IsTrueLook rule moves children) b b n look t lawful refl true_of is
