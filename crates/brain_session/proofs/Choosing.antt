@@ -7,7 +7,7 @@ use Rattle.game_rules.specs.declared.RuleKind.{RuleKind}
 use Rattle.game_rules.specs.declared.Point.{Point}
 use Rattle.strategy_graph.specs.Tables.{IsTable}
 use Rattle.strategy_checker.specs.HeldRoots.{HeldTable}
-use Rattle.brain_session.specs.declared.choice.Picked.{Picked}
+use Rattle.brain_session.specs.declared.choice.ChosenMove.{ChosenMove}
 use Rattle.brain_session.specs.declared.guide.Guide.{Guide}
 use Rattle.brain_session.specs.declared.own_win.OwnTable.{OwnTable}
 use Rattle.brain_session.specs.States.{Followed, HeldNode, OwnWin, Game, board_of}
@@ -52,7 +52,7 @@ module _ (h : HeldTable) (g : Game) where
 
 -- ---- the picked move
 
-module _ (h : HeldTable) (g : Game) (c : Picked) (guide : Guide) (is : c.guide ≡ Some guide) where
+module _ (h : HeldTable) (g : Game) (c : ChosenMove) (guide : Guide) (is : c.guide ≡ Some guide) where
   -- it is the choice that follows the guide
   pub picked-chosen : chosen_anew h g ≡ record { at = c.at; followed = Some (followed_of guide) } → choice_of c ≡ chosen_anew h g
   picked-chosen chosen = ap

@@ -1,4 +1,4 @@
--- How the state is kept: what a board with its moves, a course of a game and a guide mean.
+-- How the state is kept: what a board with its moves, a game in play and a guide mean.
 use Rattle.brain_session.specs.Running.{IsRunning}
 use Rattle.std.specs.Prelude.{◌≡◌, ℕ, ◌+◌, ◌-◌, ◌*◌, ◌<◌, ◌≤◌, Bool, true, false, List, [], ◌∷◌, length, Option, Some, None, IfSome}
 use Rattle.std.specs.Prelude.{MatchOption, is_none, is_some, ◌&&◌, if◌then◌else◌, IsSomeAnd}
@@ -18,8 +18,8 @@ use Rattle.strategy_checker.specs.HeldRoots.{HeldTable}
 use Rattle.four_search.specs.Plans.{four_plan}
 use Rattle.brain_session.specs.declared.guide.Guide.{Guide}
 use Rattle.brain_session.specs.declared.guide.Guide.TheVariants.{HeldNode as HeldGuide, OwnWin as OwnGuide}
-use Rattle.brain_session.specs.declared.course.Course.{Course}
-use Rattle.brain_session.specs.declared.choice.Picked.{Picked}
+use Rattle.brain_session.specs.declared.game.GameInPlay.{GameInPlay}
+use Rattle.brain_session.specs.declared.choice.ChosenMove.{ChosenMove}
 use Rattle.brain_session.specs.declared.own_win.OwnTable.{OwnTable}
 use Rattle.brain_session.specs.States.{Followed, HeldNode, OwnWin, Game, board_after, board_of, empty_board, Place, NoBoard, Fresh, InGame}
 use Rattle.brain_session.specs.States.{State}
@@ -62,8 +62,8 @@ abbrev pub followed_of : Guide → Followed
 followed_of (HeldGuide node) = HeldNode node
 followed_of (OwnGuide own) = OwnWin own.moves
 
--- the game of this course with these moves
-abbrev pub game_of : Moves → Course → Game
+-- the game that is in play with these moves
+abbrev pub game_of : Moves → GameInPlay → Game
 game_of m c = record {
   rule = c.kind;
   start = m.start;
@@ -73,12 +73,12 @@ game_of m c = record {
   followed = option_map followed_of c.guide;
 }
 
--- the place where a board with these moves has this course, or none yet
-abbrev pub place_of : Moves → Option Course → Place
+-- the place where a board with these moves has this game, or none yet
+abbrev pub place_of : Moves → Option GameInPlay → Place
 place_of m None = Fresh m.start.width m.start.height
 place_of m (Some c) = InGame (game_of m c)
 
--- the place of the round, if there is one
+-- the place of the begun board, if there is one
 abbrev pub place_in : Option Place → Place
 place_in None = NoBoard
 place_in (Some place) = place
@@ -106,10 +106,10 @@ pub record IsUntouched (m : Moves) : Type 0 where
   pub unmoved : m.moves ≡ []
   pub bare : m.start ≡ empty_board m.start.width m.start.height
 
--- a board with these moves and this course, or none yet
-abbrev pub IsRound : Moves → Option Course → Type 0
-IsRound m None = IsUntouched m
-IsRound m (Some c) = IsBoard m.start × GuidesOn c.ended c.kind (board_after m.start m.moves) c.guide
+-- a board with these moves and this game, or none yet
+abbrev pub IsBegunBoard : Moves → Option GameInPlay → Type 0
+IsBegunBoard m None = IsUntouched m
+IsBegunBoard m (Some c) = IsBoard m.start × GuidesOn c.ended c.kind (board_after m.start m.moves) c.guide
 
 -- a table of the brain's own with its node at b: the node stands for the plan of the win, and is accepted
 pub record OwnStandsAt (rule : RuleKind) (b : Grid) (own : OwnTable) : Type 0 where
@@ -145,7 +145,7 @@ IsInTable h (HeldGuide node) = node < length h.table
 IsInTable h (OwnGuide own) = (own.node < length own.table) × (1 ≤ own.moves)
 
 -- the choice of a picked move
-abbrev pub choice_of : Picked → Choice
+abbrev pub choice_of : ChosenMove → Choice
 choice_of c = record { at = c.at; followed = option_map followed_of c.guide }
 
 -- The table of the brain's own win at b: it is the table of the plan of the win, and its last node, which is followed, is
@@ -166,12 +166,12 @@ pub record GoesOnAfter (h : HeldTable) (rule : RuleKind) (b : Grid) (guide : Gui
   pub in_table : IsInTable h guide
   pub answers : MatchOption (guide_after h guide q) ⊥ (NodeStandsAt h rule b)
 
--- what the course follows, if anything, goes on at b after the last of these moves, if there is one
-abbrev pub IsReady : HeldTable → Moves → Course → Type 0
+-- what the game follows, if anything, goes on at b after the last of these moves, if there is one
+abbrev pub IsReady : HeldTable → Moves → GameInPlay → Type 0
 IsReady h m c = IfSome c.guide (λ guide. IfSome (last_move m.moves) (GoesOnAfter h c.kind (board_after m.start m.moves) guide))
 
--- the game of this course with these moves runs, and the guide goes on, if it is a table of the brain's own
-pub record IsKeptUp (h : HeldTable) (m : Moves) (c : Course) : Type 0 where
+-- the game in play with these moves runs, and the guide goes on, if it is a table of the brain's own
+pub record IsKeptUp (h : HeldTable) (m : Moves) (c : GameInPlay) : Type 0 where
   pub running : IsRunning h (game_of m c)
   pub guided : GuidesOn c.ended c.kind (board_after m.start m.moves) c.guide
 

@@ -15,7 +15,7 @@ ghost use Rattle.brain_session.specs.Running.{GoesOnAlong};
 ghost use Rattle.brain_session.specs.ChosenMoves.{chosen_anew, first_node, move_by, root_node as root_node_lem};
 ghost use Rattle.brain_session.specs.Kept.{IsInTable, NodeStandsAt, StandsAt, choice_of, followed_of, game_of, nodes_of};
 
-use crate::course::Course;
+use crate::game::GameInPlay;
 use crate::guide::Guide;
 use crate::moves_on_board::MovesOnBoard;
 use crate::under_rule::own_win;
@@ -26,7 +26,7 @@ use strategy_graph::Root;
 
 /// A move of the brain, and what it follows with it, if anything.
 #[derive(Drop)]
-pub(crate) struct Picked {
+pub(crate) struct ChosenMove {
     pub(crate) at: Point,
     pub(crate) guide: Option<Guide>,
 }
@@ -36,24 +36,24 @@ pub(crate) struct Picked {
 pub(crate) fn choose(
     alloc: Global,
     held: &Held,
-    course: &Course,
+    game: &GameInPlay,
     played: &mut MovesOnBoard,
-) -> Result<Picked, AllocError>
-    requires along { GoesOnAlong course.now.kind played.old.start played.old.moves }
-    ensures chosen { IfOk result (λ c. choice_of c ≡ chosen_anew held.now (game_of played.old course.now)) }
-    ensures stands { IfOk result (λ c. IfSome c.guide (StandsAt held.now course.now.kind (board_of (game_of played.old course.now)))) }
-    ensures empty { IfOk result (λ c. IsTrue (is_empty (board_of (game_of played.old course.now)) c.at)) }
-    ensures settled { IsSome (first_node (game_of played.old course.now) held.now.roots) → IsOk result }
+) -> Result<ChosenMove, AllocError>
+    requires along { GoesOnAlong game.now.kind played.old.start played.old.moves }
+    ensures chosen { IfOk result (λ c. choice_of c ≡ chosen_anew held.now (game_of played.old game.now)) }
+    ensures stands { IfOk result (λ c. IfSome c.guide (StandsAt held.now game.now.kind (board_of (game_of played.old game.now)))) }
+    ensures empty { IfOk result (λ c. IsTrue (is_empty (board_of (game_of played.old game.now)) c.at)) }
+    ensures settled { IsSome (first_node (game_of played.old game.now) held.now.roots) → IsOk result }
     ensures same { played.new ≡ played.old }
 {
-    if let Some(node) = held_node(held, course, played) {
+    if let Some(node) = held_node(held, game, played) {
         return Ok(by_following(held, Guide::HeldNode { node }));
     }
-    match own_win(alloc, course.kind, played.board())? {
+    match own_win(alloc, game.kind, played.board())? {
         Some(own) => Ok(by_following(held, Guide::OwnWin { own })),
         None => {
-            Ok(Picked {
-                at: played.plain_move(course.kind),
+            Ok(ChosenMove {
+                at: played.plain_move(game.kind),
                 guide: None,
             })
         }
@@ -61,26 +61,26 @@ pub(crate) fn choose(
 }
 
 /// The choice to follow this.
-fn by_following(held: &Held, guide: Guide) -> Picked
+fn by_following(held: &Held, guide: Guide) -> ChosenMove
     requires in_table { IsInTable held.now guide }
     ensures follows { (rule : RuleKind) (b : Grid) → NodeStandsAt held.now rule b guide → move_by held.now rule b (followed_of guide) ≡ Some result.at }
     ensures table { IsTable (nodes_of held.now guide) }
     ensures guide { result.guide ≡ Some guide }
 {
-    Picked {
+    ChosenMove {
         at: guide.attack(held),
         guide: Some(guide),
     }
 }
 
 /// The node to which the first held root leads that leads to one.
-fn held_node(held: &Held, course: &Course, played: &mut MovesOnBoard) -> Option<u32>
-    ensures node { result ≡ first_node (game_of played.old course.now) held.now.roots }
+fn held_node(held: &Held, game: &GameInPlay, played: &mut MovesOnBoard) -> Option<u32>
+    ensures node { result ≡ first_node (game_of played.old game.now) held.now.roots }
     ensures held { IsHeld held.now }
     ensures same { played.new ≡ played.old }
 {
     for i in 0..held.len() {
-        if let Some(node) = root_node(held, i, course, played) {
+        if let Some(node) = root_node(held, i, game, played) {
             return Some(node);
         }
     }
@@ -89,12 +89,12 @@ fn held_node(held: &Held, course: &Course, played: &mut MovesOnBoard) -> Option<
 
 /// The node to which held root `i` leads: under the rule of the game, the root at the board now, or the answer of the start at the
 /// board before the last move.
-fn root_node(held: &Held, i: u32, course: &Course, played: &mut MovesOnBoard) -> Option<u32>
+fn root_node(held: &Held, i: u32, game: &GameInPlay, played: &mut MovesOnBoard) -> Option<u32>
     requires held { i < length held.now.roots }
-    ensures node { result ≡ option_and_then (root_node_lem (game_of played.old course.now)) (slice_get held.now.roots i) }
+    ensures node { result ≡ option_and_then (root_node_lem (game_of played.old game.now)) (slice_get held.now.roots i) }
     ensures same { played.new ≡ played.old }
 {
-    if held.kind(i) != course.kind {
+    if held.kind(i) != game.kind {
         return None;
     }
     match held.root(i) {

@@ -6,15 +6,15 @@
 #![tactic(auto)]
 
 mod batch;
+mod begun_board;
 mod brain;
 mod choice;
-mod course;
+mod game;
 mod guide;
 mod laws;
 mod moves_on_board;
 mod own_win;
 mod plain_move;
-mod round;
 mod sessions;
 mod under_rule;
 

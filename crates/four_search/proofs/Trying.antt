@@ -34,8 +34,8 @@ use Rattle.four_search.specs.declared.search.Found.TheVariants.{Win, NoWin, Spen
 use Rattle.four_search.specs.FourGame.{until, tried, if_one, behind_move, four_tree}
 use Rattle.four_search.specs.Searching.{found_by, line_behind, line_from, four_line, positions_behind, found_at, found_behind, found_trying}
 use Rattle.four_search.specs.Searching.{found_answering}
-use Rattle.four_search.specs.declared.makers.Maker.{Maker}
-use Rattle.four_search.specs.Makers.{makes, maker_at, makers_of, RulesOut}
+use Rattle.four_search.specs.declared.four_points.FourPoint.{FourPoint}
+use Rattle.four_search.specs.FourPoints.{makes, four_point_at, four_points_of, RulesOut}
 use Rattle.four_search.proofs.Listing.{at-told, each-told}
 
 -- ---- one after another
@@ -493,24 +493,25 @@ makes-no_four rule b p h = by_empty (is_empty b p) refl where
 
 module _ (rule : RuleKind) (b : Grid) (lawful : IsPosition rule b) where
   -- of all points only these need be tried
-  pub try-makers : (n left : ℕ) → try_all rule n b left (map (λ m. m.at) (makers_of rule b)) ≡ try_all rule n b left (points_of b)
-  try-makers n left =
+  pub try-four_points : (n left : ℕ) → try_all rule n b left (map (λ m. m.at) (four_points_of rule b)) ≡ try_all rule n b left (points_of b)
+  try-four_points n left =
       ap (try_all rule n b left) (at-told rule b (filter (makes rule b) (points_of b)))
       ∙ sym (try_all-filter rule n b lawful (makes rule b) (λ p l e. trying-no_four rule n b p l (makes-no_four rule b p e)) left
       (points_of b))
 
   -- what is found by trying all
-  pub found-makers : (ms : List Maker) (moves budget : ℕ) → ms ≡ makers_of rule b → has_five rule b (mover b) ≡ false → 0 < moves
+  pub found-four_points : (ms : List FourPoint) (moves budget : ℕ) → ms ≡ four_points_of rule b → has_five rule b (mover b) ≡ false
+      → 0 < moves
       → 0 < budget → try_all rule (moves - 1) b (budget - 1) (map (λ m. m.at) ms) ≡ found_at rule moves b budget
-  found-makers ms moves budget is none some fits =
-      ap (λ (xs : List Maker). try_all rule (moves - 1) b (budget - 1) (map (λ m. m.at) xs)) is
-      ∙ try-makers (moves - 1) (budget - 1) ∙ found-after rule moves budget b lawful none some fits
+  found-four_points ms moves budget is none some fits =
+      ap (λ (xs : List FourPoint). try_all rule (moves - 1) b (budget - 1) (map (λ m. m.at) xs)) is
+      ∙ try-four_points (moves - 1) (budget - 1) ∙ found-after rule moves budget b lawful none some fits
 
   -- each is told with its five points
-  pub each-maker : (ms : List Maker) (i : ℕ) (m : Maker) → ms ≡ makers_of rule b → i < length ms
-      → (get_or ms i m ≡ maker_at rule b (get_or ms i m).at) × (makes rule b (get_or ms i m).at ≡ true)
-  each-maker ms i m is within =
-      let F : List Maker → Type 0 = λ xs. i < length xs → (get_or xs i m ≡ maker_at rule b (get_or xs i m).at)
+  pub each-four_point : (ms : List FourPoint) (i : ℕ) (m : FourPoint) → ms ≡ four_points_of rule b → i < length ms
+      → (get_or ms i m ≡ four_point_at rule b (get_or ms i m).at) × (makes rule b (get_or ms i m).at ≡ true)
+  each-four_point ms i m is within =
+      let F : List FourPoint → Type 0 = λ xs. i < length xs → (get_or xs i m ≡ four_point_at rule b (get_or xs i m).at)
       × (makes rule b (get_or xs i m).at ≡ true) in
       subst F (sym is) (each-told rule b (makes rule b) (points_of b) i m) within
 

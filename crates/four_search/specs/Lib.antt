@@ -1,6 +1,6 @@
 pub mod FourGame
 pub mod Searching
-pub mod Makers
+pub mod FourPoints
 pub mod Roots
 pub mod Remembering
 pub mod Plans

@@ -6,8 +6,8 @@
 #![tactic(auto)]
 
 mod answer;
+mod four_points;
 mod gaps;
-mod makers;
 mod memory;
 mod plan;
 mod root;

@@ -7,7 +7,7 @@
 ghost use Rattle.std.specs.Prelude.{IfOk};
 ghost use Rattle.four_search.specs.Roots.{TellsRoot};
 
-use crate::makers::{Maker, all_makers};
+use crate::four_points::{FourPoint, all_four_points};
 use foul_judge::Seen;
 use row_shapes::Rule;
 use std::alloc::{AllocError, Global};
@@ -21,7 +21,7 @@ pub(crate) enum Root {
     /// It has none. These are the defender's in short, and the points that make one for the attacker.
     NoFive {
         threat: FivePoints,
-        makers: Vec<Maker>,
+        four_points: Vec<FourPoint>,
     },
 }
 
@@ -34,6 +34,9 @@ pub(crate) fn look<R: Rule, V: Seen<R>>(alloc: Global, view: &V) -> Result<Root,
         return Ok(Root::Five);
     }
     let threat = view.fives_in_short(attacker.other());
-    let makers = all_makers::<R, V>(alloc, view)?;
-    Ok(Root::NoFive { threat, makers })
+    let four_points = all_four_points::<R, V>(alloc, view)?;
+    Ok(Root::NoFive {
+        threat,
+        four_points,
+    })
 }

@@ -15,11 +15,11 @@ ghost use Rattle.threat_moves.specs.FourMoves.{is_four_move};
 ghost use Rattle.threat_moves.specs.OneBlock.{all_foul as all_foul_lem, won_within as won_within_lem};
 ghost use Rattle.threat_moves.specs.Blocks.{fate as fate_lem};
 ghost use Rattle.row_shapes.specs.FivePoints.{in_short};
-ghost use Rattle.four_search.specs.Makers.{makers_of, AfterFour, AfterReply, RulesOut};
+ghost use Rattle.four_search.specs.FourPoints.{four_points_of, AfterFour, AfterReply, RulesOut};
 ghost use Rattle.four_search.specs.Roots.{TellsRoot};
 ghost use Rattle.four_search.specs.Searching.{found_at, found_trying, found_behind, found_answering};
 
-use crate::makers::{Maker, next_makers};
+use crate::four_points::{FourPoint, next_four_points};
 use crate::memory::FourMemory;
 use crate::root::Root;
 use foul_judge::{Outcome, Seen};
@@ -30,7 +30,7 @@ use threat_moves::{BlockAnswer, FivePoints, by_block};
 
 /// The least number of points that make a five point with which a position is looked up. Where fewer than three fours stand apart,
 /// fewer positions are searched than are kept.
-const LEAST_MAKERS: usize = 6;
+const LEAST_FOUR_POINTS: usize = 6;
 
 /// What a search within some moves finds, and how much of the budget it leaves.
 #[derive(Drop)]
@@ -68,11 +68,14 @@ pub(crate) fn search<R: Rule, V: Seen<R>>(
             left: budget - 1,
             line: Points::new(alloc),
         }),
-        Root::NoFive { threat, makers } => try_makers::<R, V>(
+        Root::NoFive {
+            threat,
+            four_points,
+        } => try_four_points::<R, V>(
             alloc,
             view,
             *threat,
-            makers.as_slice(),
+            four_points.as_slice(),
             moves,
             budget,
             memory,
@@ -90,7 +93,7 @@ fn search_on<R: Rule, V: Seen<R>>(
     moves: u32,
     budget: u64,
     threat: FivePoints,
-    before: &[Maker],
+    before: &[FourPoint],
     last: Point,
     reply: Point,
     memory: &mut FourMemory<R>,
@@ -107,13 +110,13 @@ fn search_on<R: Rule, V: Seen<R>>(
     if rules_out::<R, V>(view, threat) {
         return Ok(Found::NoWin { left: budget - 1 });
     }
-    let makers = next_makers::<R, V>(alloc, view, before, last, reply)?;
-    if makers.len() < LEAST_MAKERS || !matches!(threat, FivePoints::None) {
-        return try_makers::<R, V>(
+    let four_points = next_four_points::<R, V>(alloc, view, before, last, reply)?;
+    if four_points.len() < LEAST_FOUR_POINTS || !matches!(threat, FivePoints::None) {
+        return try_four_points::<R, V>(
             alloc,
             view,
             threat,
-            makers.as_slice(),
+            four_points.as_slice(),
             moves,
             budget,
             memory,
@@ -123,7 +126,7 @@ fn search_on<R: Rule, V: Seen<R>>(
         alloc,
         view,
         threat,
-        makers.as_slice(),
+        four_points.as_slice(),
         moves,
         budget,
         memory,
@@ -137,7 +140,7 @@ fn remembered<R: Rule, V: Seen<R>>(
     alloc: Global,
     view: &mut V,
     threat: FivePoints,
-    makers: &[Maker],
+    four_points: &[FourPoint],
     moves: u32,
     budget: u64,
     memory: &mut FourMemory<R>,
@@ -147,14 +150,14 @@ fn remembered<R: Rule, V: Seen<R>>(
     requires some_budget { 0 < budget }
     requires none { has_five_lem R.KIND (V.position view.old) (mover (V.position view.old)) ≡ false }
     requires threat { threat ≡ in_short (five_points R.KIND (V.position view.old) (other_lem (mover (V.position view.old)))) }
-    requires makers { makers.now ≡ makers_of R.KIND (V.position view.old) }
+    requires four_points { four_points.now ≡ four_points_of R.KIND (V.position view.old) }
     ensures found { IfOk result (λ found. found ≡ found_at R.KIND moves (V.position view.old) budget) }
     ensures same { V.position view.new ≡ V.position view.old }
 {
     if let Some(count) = memory.find(view.board(), moves) {
         return Ok(without_win(count, budget));
     }
-    match try_makers::<R, V>(alloc, view, threat, makers, moves, budget, memory)? {
+    match try_four_points::<R, V>(alloc, view, threat, four_points, moves, budget, memory)? {
         Found::NoWin { left } => {
             let _ = memory.keep(view.board(), moves, budget - left);
             Ok(Found::NoWin { left })
@@ -191,11 +194,11 @@ fn rules_out<R: Rule, V: Seen<R>>(view: &V, threat: FivePoints) -> bool
 
 /// The same where the points are known that make a five point: of these each is tried that leaves the defender none.
 #[cycle(search)]
-fn try_makers<R: Rule, V: Seen<R>>(
+fn try_four_points<R: Rule, V: Seen<R>>(
     alloc: Global,
     view: &mut V,
     threat: FivePoints,
-    makers: &[Maker],
+    four_points: &[FourPoint],
     moves: u32,
     budget: u64,
     memory: &mut FourMemory<R>,
@@ -205,15 +208,24 @@ fn try_makers<R: Rule, V: Seen<R>>(
     requires some_budget { 0 < budget }
     requires none { has_five_lem R.KIND (V.position view.old) (mover (V.position view.old)) ≡ false }
     requires threat { threat ≡ in_short (five_points R.KIND (V.position view.old) (other_lem (mover (V.position view.old)))) }
-    requires makers { makers.now ≡ makers_of R.KIND (V.position view.old) }
+    requires four_points { four_points.now ≡ four_points_of R.KIND (V.position view.old) }
     ensures found { IfOk result (λ found. found ≡ found_at R.KIND moves (V.position view.old) budget) }
     ensures same { V.position view.new ≡ V.position view.old }
 {
     let mut left = budget - 1;
-    for maker in makers {
-        let p = maker.at;
+    for four_point in four_points {
+        let p = four_point.at;
         if takes(threat, p) {
-            match try_point::<R, V>(alloc, view, p, maker.made, makers, moves - 1, left, memory)? {
+            match try_point::<R, V>(
+                alloc,
+                view,
+                p,
+                four_point.made,
+                four_points,
+                moves - 1,
+                left,
+                memory,
+            )? {
                 Found::NoWin { left: rest } => left = rest,
                 found => return Ok(found),
             }
@@ -230,7 +242,7 @@ fn try_point<R: Rule, V: Seen<R>>(
     view: &mut V,
     p: Point,
     made: FivePoints,
-    makers: &[Maker],
+    four_points: &[FourPoint],
     moves: u32,
     budget: u64,
     memory: &mut FourMemory<R>,
@@ -240,12 +252,12 @@ fn try_point<R: Rule, V: Seen<R>>(
     requires some { has_five_lem R.KIND (after (V.position view.old) p) (mover (V.position view.old)) ≡ true }
     requires made { made ≡ in_short (five_points R.KIND (after (V.position view.old) p) (mover (V.position view.old))) }
     requires safe { has_five_lem R.KIND (after (V.position view.old) p) (other_lem (mover (V.position view.old))) ≡ false }
-    requires makers { makers.now ≡ makers_of R.KIND (V.position view.old) }
+    requires four_points { four_points.now ≡ four_points_of R.KIND (V.position view.old) }
     ensures found { IfOk result (λ found. found ≡ found_trying R.KIND moves (V.position view.old) p budget) }
     ensures same { V.position view.new ≡ V.position view.old }
 {
     match no_five_outcome::<R, V>(view, p) {
-        Outcome::GoesOn => behind::<R, V>(alloc, view, p, made, makers, moves, budget, memory),
+        Outcome::GoesOn => behind::<R, V>(alloc, view, p, made, four_points, moves, budget, memory),
         _ => Ok(Found::NoWin { left: budget }),
     }
 }
@@ -257,7 +269,7 @@ fn behind<R: Rule, V: Seen<R>>(
     view: &mut V,
     p: Point,
     made: FivePoints,
-    makers: &[Maker],
+    four_points: &[FourPoint],
     moves: u32,
     budget: u64,
     memory: &mut FourMemory<R>,
@@ -266,12 +278,12 @@ fn behind<R: Rule, V: Seen<R>>(
     requires none { has_five_lem R.KIND (V.position view.old) (mover (V.position view.old)) ≡ false }
     requires made { made ≡ in_short (five_points R.KIND (after (V.position view.old) p) (mover (V.position view.old))) }
     requires safe { has_five_lem R.KIND (after (V.position view.old) p) (other_lem (mover (V.position view.old))) ≡ false }
-    requires makers { makers.now ≡ makers_of R.KIND (V.position view.old) }
+    requires four_points { four_points.now ≡ four_points_of R.KIND (V.position view.old) }
     ensures found { IfOk result (λ found. found ≡ found_behind R.KIND moves (V.position view.old) p budget) }
     ensures same { V.position view.new ≡ V.position view.old }
 {
     view.play(p);
-    let found = answering::<R, V>(alloc, view, p, made, makers, moves, budget, memory);
+    let found = answering::<R, V>(alloc, view, p, made, four_points, moves, budget, memory);
     view.undo(p);
     match found? {
         Found::Win { left, line } => win_by(p, line, left),
@@ -287,14 +299,14 @@ fn answering<R: Rule, V: Seen<R>>(
     view: &mut V,
     p: Point,
     made: FivePoints,
-    makers: &[Maker],
+    four_points: &[FourPoint],
     moves: u32,
     budget: u64,
     memory: &mut FourMemory<R>,
 ) -> Result<Found, AllocError>
     requires made { made ≡ in_short (five_points R.KIND (V.position view.old) (other_lem (mover (V.position view.old)))) }
     requires safe { has_five_lem R.KIND (V.position view.old) (mover (V.position view.old)) ≡ false }
-    requires makers { AfterFour R.KIND makers.now p (V.position view.old) }
+    requires four_points { AfterFour R.KIND four_points.now p (V.position view.old) }
     ensures found { IfOk result (λ found. found ≡ found_answering R.KIND moves (V.position view.old) budget) }
     ensures same { V.position view.new ≡ V.position view.old }
 {
@@ -314,7 +326,7 @@ fn answering<R: Rule, V: Seen<R>>(
             if moves == 0 {
                 Ok(Found::NoWin { left: budget })
             } else {
-                after_block::<R, V>(alloc, view, p, block, makers, moves, budget, memory)
+                after_block::<R, V>(alloc, view, p, block, four_points, moves, budget, memory)
             }
         }
     }
@@ -327,7 +339,7 @@ fn after_block<R: Rule, V: Seen<R>>(
     view: &mut V,
     p: Point,
     block: Point,
-    makers: &[Maker],
+    four_points: &[FourPoint],
     moves: u32,
     budget: u64,
     memory: &mut FourMemory<R>,
@@ -335,7 +347,7 @@ fn after_block<R: Rule, V: Seen<R>>(
     requires goes_on { outcome R.KIND (V.position view.old) block ≡ Outcome.GoesOn }
     requires one { in_short (five_points R.KIND (V.position view.old) (other_lem (mover (V.position view.old)))) ≡ FivePoints.One block }
     requires safe { has_five_lem R.KIND (V.position view.old) (mover (V.position view.old)) ≡ false }
-    requires makers { AfterFour R.KIND makers.now p (V.position view.old) }
+    requires four_points { AfterFour R.KIND four_points.now p (V.position view.old) }
     requires some { 0 < moves }
     ensures found { IfOk result (λ found. found ≡ found_at R.KIND moves (after (V.position view.old) block) budget) }
     ensures same { V.position view.new ≡ V.position view.old }
@@ -349,7 +361,17 @@ fn after_block<R: Rule, V: Seen<R>>(
     }
     let threat = view.fives_made(block);
     view.play(block);
-    let found = search_on::<R, V>(alloc, view, moves, budget, threat, makers, p, block, memory);
+    let found = search_on::<R, V>(
+        alloc,
+        view,
+        moves,
+        budget,
+        threat,
+        four_points,
+        p,
+        block,
+        memory,
+    );
     view.undo(block);
     found
 }

@@ -24,9 +24,9 @@ use Rattle.threat_moves.specs.declared.block.BlockAnswer.TheVariants.{Lost, Won}
 use Rattle.threat_moves.proofs.BlockLaw.{block_decides}
 use Rattle.threat_moves.proofs.FourLaws.{two-won}
 use Rattle.strategy_compiler.specs.declared.wins.WrittenWin.{WrittenWin}
-use Rattle.line_proof.specs.declared.doubles.Double.{Double}
-use Rattle.line_proof.specs.declared.doubles.Pair.{Pair}
-use Rattle.line_proof.specs.Doubles.{IsPressed, IsDouble}
+use Rattle.line_proof.specs.declared.doubles.DoubleThreat.{DoubleThreat}
+use Rattle.line_proof.specs.declared.doubles.TwoFives.{TwoFives}
+use Rattle.line_proof.specs.Doubles.{LeavesTwoFives, IsDouble}
 use Rattle.strategy_graph.specs.declared.Reply.{Reply}
 use Rattle.strategy_graph.proofs.Common.{NamesLower, depth}
 use Rattle.strategy_graph.proofs.Answering.{passed}
@@ -41,9 +41,10 @@ use Rattle.line_proof.specs.Replies.{AnswersAll}
 
 -- ---- two five points
 
-module _ (rule : RuleKind) (d : Grid) (lawful : IsPosition rule d) (s : Point) (ends : Pair) (pressed : IsPressed rule d s ends) where
+module _ (rule : RuleKind) (d : Grid) (lawful : IsPosition rule d) (s : Point) (ends : TwoFives)
+    (leaves_two : LeavesTwoFives rule d s ends) where
   e_lawful : IsPosition rule (after d s)
-  e_lawful = IsPosition-after rule d s lawful pressed.goes_on
+  e_lawful = IsPosition-after rule d s lawful leaves_two.goes_on
 
   on-end : (w : Point) → five rule (after d s) (other (mover (after d s))) w ≡ true → is_on (after d s) w ≡ true
   on-end w h = is_empty-on (after d s) w (five-empty rule (after d s) (other (mover (after d s))) w h)
@@ -51,9 +52,9 @@ module _ (rule : RuleKind) (d : Grid) (lawful : IsPosition rule d) (s : Point) (
   four : is_four_move rule d s ≡ true
   unfolding is_four_move
   four =
-      ap (λ o. goes_on_with o (has_five rule (after d s) (mover d))) pressed.goes_on
-      ∙ points-found (after d s) (five rule (after d s) (mover d)) ends.first (on-end ends.first pressed.open_ends.first)
-      (ap (λ t. five rule (after d s) t ends.first) (sym (mover-other rule d s lawful pressed.goes_on)) ∙ pressed.open_ends.first)
+      ap (λ o. goes_on_with o (has_five rule (after d s) (mover d))) leaves_two.goes_on
+      ∙ points-found (after d s) (five rule (after d s) (mover d)) ends.first (on-end ends.first leaves_two.open_ends.first)
+      (ap (λ t. five rule (after d s) t ends.first) (sym (mover-other rule d s lawful leaves_two.goes_on)) ∙ leaves_two.open_ends.first)
 
   found : (w : Point) → five rule (after d s) (other (mover (after d s))) w ≡ true
       → list_any (is_same_point w) (filter (five rule (after d s) (other (mover (after d s)))) (points_of (after d s))) ≡ true
@@ -64,22 +65,23 @@ module _ (rule : RuleKind) (d : Grid) (lawful : IsPosition rule d) (s : Point) (
   unfolding fate
   won =
       ap (λ r. cond r Lost (by_fives rule (after d s) (filter (five rule (after d s) (other (mover (after d s)))) (points_of (after d s)))))
-      pressed.open_ends.none
-      ∙ two-won rule (after d s) ends.first ends.second _ (found ends.first pressed.open_ends.first)
-      (found ends.second pressed.open_ends.second) pressed.open_ends.apart
+      leaves_two.open_ends.none
+      ∙ two-won rule (after d s) ends.first ends.second _ (found ends.first leaves_two.open_ends.first)
+      (found ends.second leaves_two.open_ends.second) leaves_two.open_ends.apart
 
   starts : starts_win (has_five rule) rule d (wins_by_fours rule 1) s ≡ true
   starts = block_decides rule 1 d s lawful four ∙ ap (block_wins rule 1 (after d s)) won
 
   -- it is a win by two fours
-  pub pressed-wins : wins_by_fours rule 2 d ≡ true
+  pub leaves_two-wins : wins_by_fours rule 2 d ≡ true
   unfolding wins_under
-  pressed-wins = points-found d (starts_win (has_five rule) rule d (wins_by_fours rule 1)) s (GoesOn-on rule d s pressed.goes_on) starts
+  leaves_two-wins = points-found d (starts_win (has_five rule) rule d (wins_by_fours rule 1)) s (GoesOn-on rule d s leaves_two.goes_on)
+      starts
 
   lost : list_all (λ q. loses_or (outcome rule (after d s) q) (wins_by_fours rule 1 (after (after d s) q))) (points_of (after d s)) ≡ true
   lost = and_right (has_five rule (after d s) (mover d)) _
       (sym (ap (λ o. wins_or o (has_five rule (after d s) (mover d) && list_all
-      (λ q. loses_or (outcome rule (after d s) q) (wins_by_fours rule 1 (after (after d s) q))) (points_of d))) pressed.goes_on)
+      (λ q. loses_or (outcome rule (after d s) q) (wins_by_fours rule 1 (after (after d s) q))) (points_of d))) leaves_two.goes_on)
       ∙ starts)
 
   -- after a reply beside it an end is a five point
@@ -93,19 +95,19 @@ module _ (rule : RuleKind) (d : Grid) (lawful : IsPosition rule d) (s : Point) (
       (ap (λ t. five rule (after (after d s) q) t w) (mover-then rule (after d s) q e_lawful go) ∙ still)
 
   -- and a double threat to the points of the board
-  pub pressed-threat : IsDoubleThreat rule d s ends.first ends.second (points_of d)
-  pressed-threat = record {
-    goes_on = pressed.goes_on;
+  pub leaves_two-threat : IsDoubleThreat rule d s ends.first ends.second (points_of d)
+  leaves_two-threat = record {
+    goes_on = leaves_two.goes_on;
     lost = λ q. by_outcome q (outcome rule (after d s) q) refl
         (each_reply rule (after d s) (wins_by_fours rule 1) (λ b. Unit {0}) (λ b e. tt) lost q);
     listed = λ q go. points-found d (is_same_point q) q (GoesOn-on rule (after d s) q go) (is_same_point-itself q);
-    on_board = (on-end ends.first pressed.open_ends.first, (on-end ends.second pressed.open_ends.second, points-on d));
+    on_board = (on-end ends.first leaves_two.open_ends.first, (on-end ends.second leaves_two.open_ends.second, points-on d));
   } where
     taken : (q : Point) → outcome rule (after d s) q ≡ GoesOn → (r : Bool) → is_same_point q ends.first ≡ r
         → outcome rule (after (after d s) q) (cond r ends.second ends.first) ≡ WinsNow
-    taken q go true same = end-stays q ends.second go pressed.open_ends.second
-        (ap (λ (x : Point). is_same_point x ends.second) (is_same_point-same q ends.first same) ∙ pressed.open_ends.apart)
-    taken q go false apart = end-stays q ends.first go pressed.open_ends.first apart
+    taken q go true same = end-stays q ends.second go leaves_two.open_ends.second
+        (ap (λ (x : Point). is_same_point x ends.second) (is_same_point-same q ends.first same) ∙ leaves_two.open_ends.apart)
+    taken q go false apart = end-stays q ends.first go leaves_two.open_ends.first apart
 
     by_outcome : (q : Point) (o : Outcome) → outcome rule (after d s) q ≡ o → LosesOr o (Unit {0})
         → LosesOr o (outcome rule (after (after d s) q) (cond (is_same_point q ends.first) ends.second ends.first) ≡ WinsNow)
@@ -115,53 +117,55 @@ module _ (rule : RuleKind) (d : Grid) (lawful : IsPosition rule d) (s : Point) (
     by_outcome q _ e h = tt
 
   -- it takes two moves, since the board has points
-  pub pressed-moves : double_moves (points_of d) ≡ 2
-  pressed-moves = some (points_of d)
-      (points-found d (is_same_point ends.first) ends.first (on-end ends.first pressed.open_ends.first) (is_same_point-itself ends.first))
+  pub leaves_two-moves : double_moves (points_of d) ≡ 2
+  leaves_two-moves = some (points_of d)
+      (points-found d (is_same_point ends.first) ends.first (on-end ends.first leaves_two.open_ends.first)
+      (is_same_point-itself ends.first))
     where
       some : (ps : List Point) → list_any (is_same_point ends.first) ps ≡ true → double_moves ps ≡ 2
       some [] h = cc
       some (p ∷ ps) h = refl
 
 -- the node that was compiled for the points of a board is one for each board of its size
-pub double-is : (b : Grid) (t : List Node) (points : List Point) (h : Double) (win : WrittenWin) → points ≡ points_of b
+pub double-is : (b : Grid) (t : List Node) (points : List Point) (h : DoubleThreat) (win : WrittenWin) → points ≡ points_of b
     → h.node ≡ win.node → win.moves ≡ double_moves points
     → ((rule : RuleKind) (d : Grid) → IsDoubleThreat rule d h.start h.ends.first h.ends.second points → IsWrittenWin rule 2 d t win)
     → IsDouble b.width b.height t h
 double-is b t points h win are node moves wins = record {
-  wins = λ rule d w v lawful pressed.
+  wins = λ rule d w v lawful leaves_two.
       let same : points_of d ≡ points = (λ i. points_within (w i) (v i)) ∙ sym are in
       let threat = subst (IsDoubleThreat rule d h.start h.ends.first h.ends.second) same
-      (pressed-threat rule d lawful h.start h.ends pressed) in
-      let two : win.moves ≡ 2 = moves ∙ ap double_moves (sym same) ∙ pressed-moves rule d lawful h.start h.ends pressed in
+      (leaves_two-threat rule d lawful h.start h.ends leaves_two) in
+      let two : win.moves ≡ 2 = moves ∙ ap double_moves (sym same) ∙ leaves_two-moves rule d lawful h.start h.ends leaves_two in
       subst (λ (m : ℕ). IsWrittenWin rule 2 d t (record { node = h.node; moves = m })) two
       (subst (λ (i : ℕ). IsWrittenWin rule 2 d t (record { node = i; moves = win.moves })) (sym node) (wins rule d threat));
 }
 
-pub double-wins : (rule : RuleKind) (d : Grid) → IsPosition rule d → (t : List Node) (h : Double) → IsDouble d.width d.height t h
-    → IsPressed rule d h.start h.ends → (win : WrittenWin) → win.node ≡ h.node → win.moves ≡ 2 → IsWrittenWin rule 2 d t win
-double-wins rule d lawful t h double pressed win node moves =
+pub double-wins : (rule : RuleKind) (d : Grid) → IsPosition rule d → (t : List Node) (h : DoubleThreat) → IsDouble d.width d.height t h
+    → LeavesTwoFives rule d h.start h.ends → (win : WrittenWin) → win.node ≡ h.node → win.moves ≡ 2 → IsWrittenWin rule 2 d t win
+double-wins rule d lawful t h double leaves_two win node moves =
     subst (λ (i : ℕ). IsWrittenWin rule 2 d t (record { node = i; moves = win.moves })) (sym node)
     (subst (λ (m : ℕ). IsWrittenWin rule 2 d t (record { node = h.node; moves = m })) (sym moves)
-    (double.wins rule d refl refl lawful pressed))
+    (double.wins rule d refl refl lawful leaves_two))
 
-pub hint-grown : (w h : ℕ) (t u : List Node) (k : ℕ) (o : Option Double) → NamesLower t → GrowsBy t u k → IfSome o (IsDouble w h t)
+pub hint-grown : (w h : ℕ) (t u : List Node) (k : ℕ) (o : Option DoubleThreat) → NamesLower t → GrowsBy t u k → IfSome o (IsDouble w h t)
     → IfSome o (IsDouble w h u)
 hint-grown w h t u k None lower grown double = tt
 hint-grown w h t u k (Some d) lower grown double = record
-    { wins = λ rule b x y lawful pressed. win-stays rule 2 b t u k _ lower grown (double.wins rule b x y lawful pressed) }
+    { wins = λ rule b x y lawful leaves_two. win-stays rule 2 b t u k _ lower grown (double.wins rule b x y lawful leaves_two) }
 
 -- the one that is given stays where there is one, and else the new one is given
-pub hint-kept : (w h : ℕ) (t u : List Node) (k : ℕ) (o : Option Double) (d : Double) → NamesLower t → GrowsBy t u k
+pub hint-kept : (w h : ℕ) (t u : List Node) (k : ℕ) (o : Option DoubleThreat) (d : DoubleThreat) → NamesLower t → GrowsBy t u k
     → IfSome o (IsDouble w h t) → IsDouble w h u d → IsDouble w h u (unwrap_or o d)
 hint-kept w h t u k None d lower grown given new = new
 hint-kept w h t u k (Some e) d lower grown given new = hint-grown w h t u k (Some e) lower grown given
 
 -- the threat that was compiled is the one that was found
-pub told-pressed : (rule : RuleKind) (b : Grid) (start : Point) (ends : Pair) (h : Double) → h.start ≡ start → h.ends ≡ ends
-    → IsPressed rule b start ends → IsPressed rule b h.start h.ends
-told-pressed rule b start ends h e f pressed =
-    subst (λ (x : Point). IsPressed rule b x h.ends) (sym e) (subst (λ (x : Pair). IsPressed rule b start x) (sym f) pressed)
+pub told-leaves_two : (rule : RuleKind) (b : Grid) (start : Point) (ends : TwoFives) (h : DoubleThreat) → h.start ≡ start → h.ends ≡ ends
+    → LeavesTwoFives rule b start ends → LeavesTwoFives rule b h.start h.ends
+told-leaves_two rule b start ends h e f leaves_two =
+    subst (λ (x : Point). LeavesTwoFives rule b x h.ends) (sym e)
+    (subst (λ (x : TwoFives). LeavesTwoFives rule b start x) (sym f) leaves_two)
 
 pub five-found : (rule : RuleKind) (d : Grid) (w : Point) → five rule d (mover d) w ≡ true → has_five rule d (mover d) ≡ true
 five-found rule d w h = points-found d (five rule d (mover d)) w (is_empty-on d w (five-empty rule d (mover d) w h)) h

@@ -1,4 +1,4 @@
-//! Double threats: moves after which the attacker has two five points and the defender none, which win in two moves.
+//! DoubleThreat threats: moves after which the attacker has two five points and the defender none, which win in two moves.
 //!
 //! After a three of the attacker most replies leave it one and the same double threat. Its node plays the same move and takes
 //! the same two points wherever it wins, so it is compiled once, and each further reply is only tested: whether the move goes
@@ -12,7 +12,7 @@ ghost use Rattle.game_rules.specs.Games.{has_five, wins_by_fours};
 ghost use Rattle.strategy_compiler.specs.Nodes.{IsCompiled};
 ghost use Rattle.strategy_compiler.specs.Wins.{IsWrittenWin};
 ghost use Rattle.strategy_compiler.specs.Growth.{Writes};
-ghost use Rattle.line_proof.specs.Doubles.{AreOpen, IsPressed, IsDouble};
+ghost use Rattle.line_proof.specs.Doubles.{AreOpen, LeavesTwoFives, IsDouble};
 
 use crate::SearchError;
 use crate::fives::is_five;
@@ -24,16 +24,16 @@ use strategy_compiler::{Compiler, WrittenWin};
 
 /// Two points.
 #[derive(Clone, Copy)]
-pub(crate) struct Pair {
+pub(crate) struct TwoFives {
     pub(crate) first: Point,
     pub(crate) second: Point,
 }
 
 /// A double threat that was compiled: its move, its two five points, and its node.
 #[derive(Clone, Copy)]
-pub(crate) struct Double {
+pub(crate) struct DoubleThreat {
     pub(crate) start: Point,
-    pub(crate) ends: Pair,
+    pub(crate) ends: TwoFives,
     pub(crate) node: u32,
 }
 
@@ -43,7 +43,7 @@ pub(crate) struct Double {
 pub(crate) fn double_win<R: Rule, V: Seen<R>>(
     alloc: Global,
     view: &mut V,
-    hint: &mut Option<Double>,
+    hint: &mut Option<DoubleThreat>,
     compiler: &mut Compiler,
 ) -> Result<Option<WrittenWin>, SearchError>
     requires compiled { IsCompiled compiler.old }
@@ -57,14 +57,14 @@ pub(crate) fn double_win<R: Rule, V: Seen<R>>(
 {
     // This tells that the position is lawful.
     view.side();
-    match pressed_hint::<R, V>(view, *hint) {
+    match hint_that_wins::<R, V>(view, *hint) {
         Some(double) => Ok(Some(double_of(double))),
         None => new_double::<R, V>(alloc, view, hint, compiler),
     }
 }
 
 /// The win by a double threat.
-fn double_of(double: Double) -> WrittenWin
+fn double_of(double: DoubleThreat) -> WrittenWin
     ensures node { result.node ≡ double.node }
     ensures moves { result.moves ≡ 2 }
 {
@@ -75,15 +75,18 @@ fn double_of(double: Double) -> WrittenWin
 }
 
 /// The double threat that is given, if it wins here. The view is as before.
-fn pressed_hint<R: Rule, V: Seen<R>>(view: &mut V, hint: Option<Double>) -> Option<Double>
-    ensures pressed { IfSome result (λ double. IsPressed R.KIND (V.position view.old) double.start double.ends) }
+fn hint_that_wins<R: Rule, V: Seen<R>>(
+    view: &mut V,
+    hint: Option<DoubleThreat>,
+) -> Option<DoubleThreat>
+    ensures leaves_two { IfSome result (λ double. LeavesTwoFives R.KIND (V.position view.old) double.start double.ends) }
     ensures given { IfSome result (λ double. hint ≡ Some double) }
     ensures same { V.position view.new ≡ V.position view.old }
 {
     match hint {
         None => None,
         Some(double) => {
-            if is_pressed::<R, V>(view, double.start, double.ends) {
+            if is_double_threat::<R, V>(view, double.start, double.ends) {
                 Some(double)
             } else {
                 None
@@ -96,7 +99,7 @@ fn pressed_hint<R: Rule, V: Seen<R>>(view: &mut V, hint: Option<Double>) -> Opti
 fn new_double<R: Rule, V: Seen<R>>(
     alloc: Global,
     view: &mut V,
-    hint: &mut Option<Double>,
+    hint: &mut Option<DoubleThreat>,
     compiler: &mut Compiler,
 ) -> Result<Option<WrittenWin>, SearchError>
     requires lawful { IsPosition R.KIND (V.position view.old) }
@@ -109,10 +112,10 @@ fn new_double<R: Rule, V: Seen<R>>(
     ensures writes { Writes compiler.old compiler.new (if wins_by_fours R.KIND 2 (V.position view.old) then 3 else 0) result }
     ensures same { V.position view.new ≡ V.position view.old }
 {
-    match pressing::<R, V>(alloc, view)? {
+    match find_double_threat::<R, V>(alloc, view)? {
         None => Ok(None),
         Some((start, ends)) => {
-            if !is_pressed::<R, V>(view, start, ends) {
+            if !is_double_threat::<R, V>(view, start, ends) {
                 return Ok(None);
             }
             let double = compile_double(alloc, view.board(), start, ends, compiler)?;
@@ -124,20 +127,20 @@ fn new_double<R: Rule, V: Seen<R>>(
 
 /// Whether the move of the side to move goes on and leaves it these two five points, and the other side none. The view is as
 /// before.
-fn is_pressed<R: Rule, V: Seen<R>>(view: &mut V, start: Point, ends: Pair) -> bool
-    ensures pressed { result ≡ true → IsPressed R.KIND (V.position view.old) start ends }
+fn is_double_threat<R: Rule, V: Seen<R>>(view: &mut V, start: Point, ends: TwoFives) -> bool
+    ensures leaves_two { result ≡ true → LeavesTwoFives R.KIND (V.position view.old) start ends }
     ensures same { V.position view.new ≡ V.position view.old }
 {
     match view.outcome(start) {
-        Outcome::GoesOn => opens::<R, V>(view, start, ends),
+        Outcome::GoesOn => leaves_two_fives::<R, V>(view, start, ends),
         _ => false,
     }
 }
 
 /// The same of a move that goes on.
-fn opens<R: Rule, V: Seen<R>>(view: &mut V, start: Point, ends: Pair) -> bool
+fn leaves_two_fives<R: Rule, V: Seen<R>>(view: &mut V, start: Point, ends: TwoFives) -> bool
     requires goes_on { outcome_lem R.KIND (V.position view.old) start ≡ Outcome.GoesOn }
-    ensures pressed { result ≡ true → IsPressed R.KIND (V.position view.old) start ends }
+    ensures leaves_two { result ≡ true → LeavesTwoFives R.KIND (V.position view.old) start ends }
     ensures same { V.position view.new ≡ V.position view.old }
 {
     view.play(start);
@@ -147,7 +150,7 @@ fn opens<R: Rule, V: Seen<R>>(view: &mut V, start: Point, ends: Pair) -> bool
 }
 
 /// Whether the side that is not to move has these two five points, and the side to move has none.
-fn are_open<R: Rule, V: Seen<R>>(view: &V, ends: Pair) -> bool
+fn are_open<R: Rule, V: Seen<R>>(view: &V, ends: TwoFives) -> bool
     ensures open { result ≡ true → AreOpen R.KIND (V.position view.now) ends }
 {
     let defender = view.side();
@@ -165,10 +168,10 @@ fn are_open<R: Rule, V: Seen<R>>(view: &V, ends: Pair) -> bool
 }
 
 /// A move of the side to move that may be a double threat, and two five points that it leaves. The view is as before.
-fn pressing<R: Rule, V: Seen<R>>(
+fn find_double_threat<R: Rule, V: Seen<R>>(
     alloc: Global,
     view: &mut V,
-) -> Result<Option<(Point, Pair)>, AllocError>
+) -> Result<Option<(Point, TwoFives)>, AllocError>
     ensures same { V.position view.new ≡ V.position view.old }
 {
     let attacker = view.side();
@@ -197,7 +200,7 @@ fn left_by<R: Rule, V: Seen<R>>(
     alloc: Global,
     view: &mut V,
     start: Point,
-) -> Result<Option<(Point, Pair)>, AllocError>
+) -> Result<Option<(Point, TwoFives)>, AllocError>
     requires goes_on { outcome_lem R.KIND (V.position view.old) start ≡ Outcome.GoesOn }
     ensures same { V.position view.new ≡ V.position view.old }
 {
@@ -208,7 +211,7 @@ fn left_by<R: Rule, V: Seen<R>>(
     match points?.as_slice() {
         [first, second, ..] => Ok(Some((
             start,
-            Pair {
+            TwoFives {
                 first: *first,
                 second: *second,
             },
@@ -222,9 +225,9 @@ fn compile_double(
     alloc: Global,
     board: &Board,
     start: Point,
-    ends: Pair,
+    ends: TwoFives,
     compiler: &mut Compiler,
-) -> Result<Double, SearchError>
+) -> Result<DoubleThreat, SearchError>
     ensures double { IfOk result (IsDouble board.now.width board.now.height compiler.new) }
     ensures start { IfOk result (λ d. d.start ≡ start) }
     ensures ends { IfOk result (λ d. d.ends ≡ ends) }
@@ -232,7 +235,7 @@ fn compile_double(
 {
     let points = board.all_points(alloc)?;
     let win = compiler.double(alloc, start, ends.first, ends.second, points.as_slice())?;
-    Ok(Double {
+    Ok(DoubleThreat {
         start,
         ends,
         node: win.node,

@@ -19,7 +19,7 @@ ghost use Rattle.line_proof.specs.Answers.{OnProved, is_proved};
 ghost use Rattle.line_proof.specs.Doubles.{IsDouble};
 
 use crate::answers::{Answering, add, fork};
-use crate::doubles::{Double, double_win};
+use crate::doubles::{DoubleThreat, double_win};
 use crate::fives::five_win;
 use foul_judge::{Outcome, Seen};
 use four_search::{FourAnswer, four_search};
@@ -275,7 +275,7 @@ fn answer_reply<R: Rule, V: Seen<R>>(
     threats: &[Threat],
     moves: u32,
     five: Option<Point>,
-    hint: &mut Option<Double>,
+    hint: &mut Option<DoubleThreat>,
     answers: &mut Answering,
     compiler: &mut Compiler,
 ) -> Result<bool, SearchError>
@@ -318,7 +318,7 @@ fn prove_after<R: Rule, V: Seen<R>>(
     threats: &[Threat],
     moves: u32,
     five: Option<Point>,
-    hint: &mut Option<Double>,
+    hint: &mut Option<DoubleThreat>,
     compiler: &mut Compiler,
 ) -> Result<LineAnswer, SearchError>
     requires fits { moves ≤ MAX_DEPTH }
@@ -345,7 +345,7 @@ fn prove_reply<R: Rule, V: Seen<R>>(
     threats: &[Threat],
     moves: u32,
     five: Option<Point>,
-    hint: &mut Option<Double>,
+    hint: &mut Option<DoubleThreat>,
     compiler: &mut Compiler,
 ) -> Result<LineAnswer, SearchError>
     requires fits { moves ≤ MAX_DEPTH }
@@ -373,7 +373,7 @@ fn prove_double<R: Rule, V: Seen<R>>(
     view: &mut V,
     threats: &[Threat],
     moves: u32,
-    hint: &mut Option<Double>,
+    hint: &mut Option<DoubleThreat>,
     compiler: &mut Compiler,
 ) -> Result<LineAnswer, SearchError>
     requires fits { moves ≤ MAX_DEPTH }

@@ -40,7 +40,7 @@ pub(crate) fn after_play<R: Rule>(
     let _ = codes.board();
     others.tell(p, false);
     own.tell(p, false);
-    tell_ends(own, codes, side, p);
+    set_ends(own, codes, side, p);
 }
 
 /// The same after a stone of the side went from the point.
@@ -61,27 +61,27 @@ pub(crate) fn after_undo<R: Rule>(
     let _ = codes.board();
     others.tell(p, codes.five(side.other(), p));
     own.tell(p, codes.five(side, p));
-    tell_ends(own, codes, side, p);
+    set_ends(own, codes, side, p);
 }
 
 /// Tells the ends of the runs through a point of which a stone of the side came or went.
-fn tell_ends<R: Rule>(fives: &mut FiveList, codes: &LineCodes<R>, side: Side, p: Point)
+fn set_ends<R: Rule>(fives: &mut FiveList, codes: &LineCodes<R>, side: Side, p: Point)
     requires on { IsTrue (is_on codes.now p) }
     requires told { TellsButEnds R.KIND codes.now side p 0 fives.old.points.items (vec_capacity fives.old.points) }
     ensures told { TellsSide R.KIND codes.now side fives.new.points.items (vec_capacity fives.new.points) }
 {
-    tell_end(fives, codes, side, Axis::Row, Way::Ahead, p);
-    tell_end(fives, codes, side, Axis::Row, Way::Behind, p);
-    tell_end(fives, codes, side, Axis::Column, Way::Ahead, p);
-    tell_end(fives, codes, side, Axis::Column, Way::Behind, p);
-    tell_end(fives, codes, side, Axis::Down, Way::Ahead, p);
-    tell_end(fives, codes, side, Axis::Down, Way::Behind, p);
-    tell_end(fives, codes, side, Axis::Up, Way::Ahead, p);
-    tell_end(fives, codes, side, Axis::Up, Way::Behind, p);
+    set_end(fives, codes, side, Axis::Row, Way::Ahead, p);
+    set_end(fives, codes, side, Axis::Row, Way::Behind, p);
+    set_end(fives, codes, side, Axis::Column, Way::Ahead, p);
+    set_end(fives, codes, side, Axis::Column, Way::Behind, p);
+    set_end(fives, codes, side, Axis::Down, Way::Ahead, p);
+    set_end(fives, codes, side, Axis::Down, Way::Behind, p);
+    set_end(fives, codes, side, Axis::Up, Way::Ahead, p);
+    set_end(fives, codes, side, Axis::Up, Way::Behind, p);
 }
 
 /// Tells the first point in that way that holds no stone of the side, where those before it are right.
-fn tell_end<R: Rule>(
+fn set_end<R: Rule>(
     fives: &mut FiveList,
     codes: &LineCodes<R>,
     side: Side,

@@ -32,7 +32,7 @@ use Rattle.strategy_compiler.proofs.Common.{GrowsBy, IsCompiled}
 use Rattle.threat_game.specs.declared.replies.Child.{Child}
 use Rattle.threat_game.specs.declared.replies.Children.{Children}
 use Rattle.threat_game.specs.declared.replies.Judged.{Judged}
-use Rattle.threat_game.specs.declared.replies.Judged.TheVariants.{Five, Double as DoubleWins, Last, Open}
+use Rattle.threat_game.specs.declared.replies.Judged.TheVariants.{Five, DoublePoint as DoubleWins, Last, Open}
 use Rattle.threat_game.proofs.Common.{IsThreatWin, LosesToThreats, is_open, moves_for, nodes_for, threat_tree, has_reply, AreChildren}
 use Rattle.threat_game.proofs.Common.{HasEscape, IsChild, IsJudged, counted_for, is_standing, kept_children, stands_for}
 use Rattle.threat_game.proofs.ReplyLaws.{judged-short, judged-three}

@@ -19,7 +19,7 @@ use Rattle.strategy_compiler.specs.declared.error.SearchError.{SearchError}
 use Rattle.strategy_compiler.specs.declared.wins.WrittenWin.{WrittenWin}
 use Rattle.strategy_compiler.proofs.Growing.{win-some}
 use Rattle.strategy_compiler.proofs.Common.{IsCompiled, GrowsBy}
-use Rattle.threat_game.specs.declared.doubles.Double.{Double}
+use Rattle.threat_game.specs.declared.doubles.DoublePoint.{DoublePoint}
 use Rattle.threat_game.proofs.TreeLaws.{tree-positive, one_where, counted-within}
 use Rattle.threat_game.proofs.Common.{threat_tree, IsThreatWin, IsDoubleWin, answer_nodes}
 use Rattle.proof_number.specs.declared.search.Step.{Step}
@@ -303,7 +303,7 @@ module _ (rule : RuleKind) (s : Search) (t : Tree) (c : List Node) (leaf : ℕ) 
         (omega (arith, one)) in
         omega (arith, sum-zeros (length t.links), low, here.searching.few)
 
-    pub double-fits : (d : Double) → IsDoubleWin rule view d
+    pub double-fits : (d : DoublePoint) → IsDoubleWin rule view d
         → 1 + answer_nodes rule view d ≤ threat_tree rule (note_at s.notes.items leaf).left view
     double-fits d wins = counted-within rule view d (leaf-lawful rule s t c leaf view stands) wins
         (attack-no_five rule s t c leaf view stands attack) (note_at s.notes.items leaf).left
@@ -322,7 +322,7 @@ module _ (rule : RuleKind) (s : Search) (t : Tree) (c : List Node) (leaf : ℕ) 
         node-fits in (omega (arith, b, fits, over), omega (arith, a, b, few, over))
 
     -- the same where the refusal is that of a win by a double point
-    pub double-full : {E : Type 0} (w : Grid) (d : Double) (nodes : ℕ) → w ≡ view → nodes ≡ answer_nodes rule view d
+    pub double-full : {E : Type 0} (w : Grid) (d : DoublePoint) (nodes : ℕ) → w ≡ view → nodes ≡ answer_nodes rule view d
         → IsDoubleWin rule view d → s.attacked + nodes ≤ s.budget → (E → MAX_NODES < length c + (1 + answer_nodes rule w d))
         → E → (MAX_NODES < s.before + s.budget) × (MAX_NODES < s.before + threat_tree rule s.depth s.root)
     double-full w d nodes same are wins fits refused e =

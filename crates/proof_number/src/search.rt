@@ -39,7 +39,7 @@ use std::alloc::{AllocError, Global};
 use stone_board::{Board, Point};
 use strategy_compiler::{Compiler, SearchError, WrittenWin};
 use threat_game::{
-    Attacks, Child, Double, answers_of, compile_double, compile_five, compile_last, last_move,
+    Attacks, Child, DoublePoint, answers_of, compile_double, compile_five, compile_last, last_move,
     settle_child,
 };
 
@@ -241,7 +241,7 @@ impl Search {
         ensures full_now { IsErrOf result SearchError.Full → length compiler.new ≡ MAX_NODES }
     {
         match looks.find_attacks::<V>(view, &mut self.board)? {
-            Attacks::Double(double) => {
+            Attacks::DoublePoint(double) => {
                 self.win_double::<R, V>(looks.alloc(), view, tree, compiler, leaf, double)
             }
             Attacks::NoReply(p) => self.win_last::<R>(tree, compiler, leaf, p),
@@ -284,7 +284,7 @@ impl Search {
         tree: &mut ProofTree,
         compiler: &mut Compiler,
         leaf: u32,
-        double: Double,
+        double: DoublePoint,
     ) -> Result<Step, SearchError>
         requires at_leaf { StandsAt R.KIND self.old tree.old compiler.old leaf (V.position view.old) }
         requires attack { (link_at tree.old.links leaf).kind ≡ AnyKind.Attack }

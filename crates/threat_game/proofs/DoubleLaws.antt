@@ -1,4 +1,5 @@
--- Double points: the two five points that a stone leaves, and the win that they are. A double point is a double threat, whatever the reply,
+-- DoublePoint points: the two five points that a stone leaves, and the win that they are. A double point is a double threat, whatever the
+-- reply,
 -- and its node a win by threats. Where no point makes two five points, a stone makes double points only on the lines through it: in the
 -- runs of any other point it plays no part.
 use Rattle.std.proofs.Common.{◌≡◌, ℕ, ◌≤◌, Bool, true, false, cond, ◌&&◌, sym, ap, ◌∙◌, arith, List, [], ◌∷◌, length, get_or, ◌+◌, not}
@@ -31,7 +32,7 @@ use Rattle.threat_moves.specs.declared.block.BlockAnswer.TheVariants.{Lost, Won}
 use Rattle.threat_moves.proofs.Common.{is_four_move, by_fives, fate, block_wins}
 use Rattle.threat_moves.proofs.BlockLaw.{block_decides}
 use Rattle.threat_moves.proofs.FourLaws.{two-won}
-use Rattle.threat_game.specs.declared.doubles.Double.{Double}
+use Rattle.threat_game.specs.declared.doubles.DoublePoint.{DoublePoint}
 use Rattle.threat_game.proofs.TreeLaws.{double-five, still-safe}
 use Rattle.threat_game.proofs.Common.{LeavesBoth, IsDoubleWin, answer_nodes, one_if, replies_at, is_threat_move, is_some_point}
 use Rattle.threat_game.proofs.ReplyLaws.{beside-five}
@@ -55,7 +56,7 @@ leaves-both rule b s p empty (w ∷ v ∷ more) are many =
 
 -- ---- a double point wins by fours within two moves
 
-module _ (rule : RuleKind) (b : Grid) (d : Double) (lawful : IsPosition rule b) (wins : IsDoubleWin rule b d) where
+module _ (rule : RuleKind) (b : Grid) (d : DoublePoint) (lawful : IsPosition rule b) (wins : IsDoubleWin rule b d) where
   turn : mover (after b d.at) ≡ other (mover b)
   turn = mover-then rule b d.at lawful wins.on
 
@@ -107,7 +108,7 @@ module _ (rule : RuleKind) (b : Grid) (d : Double) (lawful : IsPosition rule b) 
   double-threats n l = WinsByFours-WinsByThreats rule n b (WinsUnder-more (has_five rule) rule 2 n b l double-fours)
 
 -- the nodes that answer the replies, and its own
-pub nodes-are : (rule : RuleKind) (b : Grid) (d : Double)
+pub nodes-are : (rule : RuleKind) (b : Grid) (d : DoublePoint)
     → double_nodes d.first (replies_at rule (after b d.at)) ≡ 1 + answer_nodes rule b d
 nodes-are rule b d =
     let g : Point → Bool = λ q. goes_on (outcome rule (after b d.at) q) in
@@ -115,7 +116,7 @@ nodes-are rule b d =
     let beside = ap one_if (any-filter g (λ q. not (is_same_point q d.first)) (points_of (after b d.at))) in
     omega (arith, first, beside)
 
-module _ (rule : RuleKind) (b : Grid) (d : Double) (lawful : IsPosition rule b) (wins : IsDoubleWin rule b d) where
+module _ (rule : RuleKind) (b : Grid) (d : DoublePoint) (lawful : IsPosition rule b) (wins : IsDoubleWin rule b d) where
   lawful_c : IsPosition rule (after b d.at)
   lawful_c = IsPosition-after rule b d.at lawful wins.on
 

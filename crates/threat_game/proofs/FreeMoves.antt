@@ -15,7 +15,7 @@ use Rattle.game_rules.proofs.Positions.{GoesOn-on, mover-then}
 use Rattle.game_rules.proofs.Points.{points-found, any_witness, taken_refused, is_same_point-itself, is_same_point-same}
 use Rattle.game_rules.proofs.Outcomes.{goes_on-is, no_foul}
 use Rattle.game_rules.proofs.Wins.{no_five}
-use Rattle.threat_game.specs.declared.doubles.Double.{Double}
+use Rattle.threat_game.specs.declared.doubles.DoublePoint.{DoublePoint}
 use Rattle.threat_game.proofs.Common.{OthersFail, tried_moves, nowhere, HasEscape, IsDoubleWin, has_reply_at, EachGoesOn}
 use Rattle.threat_game.proofs.TreeLaws.{tried-at, still-safe}
 use Rattle.threat_game.proofs.AttackLaws.{escape-saves, tried-enough}
@@ -95,7 +95,7 @@ reply-at rule c w = by_test (goes_on (outcome rule c w)) refl where
   by_test false e = e ∙ by_some (has_reply_at rule c w) refl e
 
 -- after a double point that wins the other side has no five point
-pub double-safe : (rule : RuleKind) (b : Grid) (d : Double) → IsPosition rule b → IsDoubleWin rule b d
+pub double-safe : (rule : RuleKind) (b : Grid) (d : DoublePoint) → IsPosition rule b → IsDoubleWin rule b d
     → has_five rule (after b d.at) (mover (after b d.at)) ≡ false
 double-safe rule b d lawful wins =
     ap (has_five rule (after b d.at)) (mover-then rule b d.at lawful wins.on) ∙ still-safe rule b d.at lawful wins.on wins.safe

@@ -15,16 +15,16 @@ use Rattle.game_rules.proofs.Points.{points-found, is_same_point-itself, is_same
 use Rattle.game_rules.proofs.PointLists.{still-found}
 use Rattle.strategy_graph.specs.declared.Node.{Node}
 use Rattle.strategy_compiler.specs.declared.wins.WrittenWin.{WrittenWin}
-use Rattle.threat_game.specs.declared.doubles.Double.{Double}
+use Rattle.threat_game.specs.declared.doubles.DoublePoint.{DoublePoint}
 use Rattle.threat_game.specs.declared.replies.Child.{Child}
 use Rattle.threat_game.specs.declared.replies.Judged.{Judged}
-use Rattle.threat_game.specs.declared.replies.Judged.TheVariants.{Five, Double as DoubleWins, Last, Open}
+use Rattle.threat_game.specs.declared.replies.Judged.TheVariants.{Five, DoublePoint as DoubleWins, Last, Open}
 use Rattle.threat_game.proofs.Common.{IsDoubleWin, IsJudged, IsChild, IsThreatWin, AreJudged, moves_for}
 use Rattle.threat_game.proofs.Common.{is_standing, is_same_double, stands_for, is_met, put_first, kept_children}
 
 -- ---- what is judged first stands for itself
 
-pub double-itself : (d : Double) → is_same_double d d ≡ true
+pub double-itself : (d : DoublePoint) → is_same_double d d ≡ true
 double-itself d = rw (is_same_point-itself d.at, is_same_point-itself d.first, is_same_point-itself d.second) refl
 
 pub stands-itself : (judged : Judged) → is_standing judged ≡ true → stands_for judged judged ≡ true
@@ -212,7 +212,7 @@ five-stands rule b w (DoubleWins d nodes) h is = cc
 five-stands rule b w (Last p) h is = cc
 five-stands rule b w Open h is = cc
 
-double-same : (d e : Double) → is_same_double d e ≡ true → e ≡ d
+double-same : (d e : DoublePoint) → is_same_double d e ≡ true → e ≡ d
 double-same d e h =
     let parts = and_parts (is_same_point d.at e.at && is_same_point d.first e.first) (is_same_point d.second e.second) h in
     let more = and_parts (is_same_point d.at e.at) (is_same_point d.first e.first) parts.0 in
@@ -222,7 +222,8 @@ double-same d e h =
     λ i. record { at = at i; first = first i; second = second i }
 
 -- and the double point wins here
-pub double-stands : (rule : RuleKind) (b : Grid) (d : Double) (nodes : ℕ) (judged : Judged) → stands_for (DoubleWins d nodes) judged ≡ true
+pub double-stands : (rule : RuleKind) (b : Grid) (d : DoublePoint) (nodes : ℕ) (judged : Judged)
+    → stands_for (DoubleWins d nodes) judged ≡ true
     → IsJudged rule b judged
     → IsDoubleWin rule b d × (moves_for judged ≡ 2)
 double-stands rule b d nodes (DoubleWins e more) h is =
@@ -235,7 +236,7 @@ double-stands rule b d nodes Open h is = cc
 pub last-stands : (p : Point) (judged : Judged) → stands_for (Last p) judged ≡ true → ⊥
 last-stands p judged h = let standing = stands-standing (Last p) judged h in cc
 
-pub two-stands : (d : Double) (nodes : ℕ) (judged : Judged) → stands_for (DoubleWins d nodes) judged ≡ true → nodes ≡ 2
+pub two-stands : (d : DoublePoint) (nodes : ℕ) (judged : Judged) → stands_for (DoubleWins d nodes) judged ≡ true → nodes ≡ 2
 two-stands d nodes judged h = eqb-true nodes 2 (stands-standing (DoubleWins d nodes) judged h)
 
 module _ (rule : RuleKind) (c : Grid) (lawful : IsPosition rule c) (t : List Node) (win : WrittenWin) (moves : ℕ) (met : Child)
@@ -255,7 +256,7 @@ module _ (rule : RuleKind) (c : Grid) (lawful : IsPosition rule c) (t : List Nod
         moves-some (Last p) = omega arith
         moves-some Open = omega arith
 
-  pub standing-double : (d : Double) (nodes : ℕ)
+  pub standing-double : (d : DoublePoint) (nodes : ℕ)
       → ((rule : RuleKind) (b : Grid) (moves : ℕ) → IsPosition rule b → points_of b ≡ points_of c → IsDoubleWin rule b d → 2 ≤ moves
       → IsThreatWin rule moves b t win)
       → stands_for (DoubleWins d nodes) met.judged ≡ true → IsThreatWin rule moves (after c met.at) t win

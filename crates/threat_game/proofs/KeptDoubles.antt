@@ -1,4 +1,4 @@
--- Double points that are kept to settle replies by: each stays what it is after a stone of the other side beside it. The replies to a
+-- DoublePoint points that are kept to settle replies by: each stays what it is after a stone of the other side beside it. The replies to a
 -- double point that wins.
 use Rattle.std.proofs.Common.{◌≡◌, ◌≤◌, Bool, true, false, ◌&&◌, not, refl, sym, ap, ◌∙◌, arith, List, All, Option, Some, None, is_none}
 use Rattle.std.proofs.Common.{nat_eq}
@@ -17,7 +17,7 @@ use Rattle.game_rules.proofs.Points.{points-found}
 use Rattle.game_rules.proofs.Positions.{GoesOn-empty, mover-then}
 use Rattle.game_rules.proofs.Wins.{no_five}
 use Rattle.threat_moves.specs.FreePoints.{StaysFree}
-use Rattle.threat_game.specs.declared.doubles.Double.{Double}
+use Rattle.threat_game.specs.declared.doubles.DoublePoint.{DoublePoint}
 use Rattle.threat_game.specs.declared.doubles.Kept.{Kept}
 use Rattle.threat_game.specs.Attacks.{IsDoubleWin, IsKept, IsStillKept}
 use Rattle.threat_game.specs.Replies.{answer_nodes, has_reply_at, has_reply_beside}
@@ -67,7 +67,7 @@ still-goes_on rule b p empty none free many =
     ∙ ap (λ l. outcome_by true false None l) (not_one (empties_of b) many)
 
 -- where the other side has no fouls and enough points are empty, both replies to a double point that wins are there
-pub both-replies : (rule : RuleKind) (b : Grid) (d : Double) → IsPosition rule b → IsDoubleWin rule b d
+pub both-replies : (rule : RuleKind) (b : Grid) (d : DoublePoint) → IsPosition rule b → IsDoubleWin rule b d
     → has_fouls rule (other (mover b)) ≡ false → 3 ≤ empties_of b → 2 ≡ answer_nodes rule b d
 both-replies rule b d lawful wins calm many =
     let c : Grid = after b d.at in

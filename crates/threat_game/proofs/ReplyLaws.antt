@@ -21,11 +21,11 @@ use Rattle.game_rules.proofs.Places.{find-in, points_few}
 use Rattle.game_rules.proofs.PointLists.{without, Apart-back, none_found-filter, other_way, points-append_nil, none-listed}
 use Rattle.game_rules.proofs.Tests.{all_push}
 use Rattle.row_shapes.proofs.FiveLaws.{left-points}
-use Rattle.threat_game.specs.declared.doubles.Double.{Double}
+use Rattle.threat_game.specs.declared.doubles.DoublePoint.{DoublePoint}
 use Rattle.threat_game.specs.declared.replies.Child.{Child}
 use Rattle.threat_game.specs.declared.replies.Children.{Children}
 use Rattle.threat_game.specs.declared.replies.Judged.{Judged}
-use Rattle.threat_game.specs.declared.replies.Judged.TheVariants.{Five, Double as DoubleWins, Last, Open}
+use Rattle.threat_game.specs.declared.replies.Judged.TheVariants.{Five, DoublePoint as DoubleWins, Last, Open}
 use Rattle.threat_game.proofs.Common.{LeavesBoth, IsBeside, has_reply, IsJudged, IsChild, EscapesBy, HasEscape, AreChildren, AreJudged}
 use Rattle.threat_game.proofs.Common.{kept_children, moves_for, one_if, has_reply_at, has_reply_beside, counted_for, replies_at}
 use Rattle.threat_game.proofs.TreeLaws.{children-few}
@@ -79,7 +79,8 @@ module _ (rule : RuleKind) (c : Grid) (q : Point) (lawful : IsPosition rule c) (
       ∙ five-other (put c (other (mover c)) d) (mover c) q (IsBoard-put c (other (mover c)) d lawful.board) still rule w beside ∙ h
 
   -- a stone beside a double point and its two five points leaves all three
-  pub both-kept : (d : Double) → LeavesBoth rule c (other (mover c)) d → IsBeside d q → LeavesBoth rule (after c q) (mover (after c q)) d
+  pub both-kept : (d : DoublePoint) → LeavesBoth rule c (other (mover c)) d → IsBeside d q
+      → LeavesBoth rule (after c q) (mover (after c q)) d
   both-kept d both beside =
       let at : Apart d.at q = is_same_point-apart d.at q
       (not-true (is_same_point d.at q)

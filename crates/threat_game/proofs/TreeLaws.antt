@@ -20,9 +20,9 @@ use Rattle.game_rules.proofs.PointLists.{sum-least, filter-sum, some-counts}
 use Rattle.row_shapes.proofs.FiveLaws.{has_five-none, none-left, none-short}
 use Rattle.strategy_graph.specs.declared.Node.{Node}
 use Rattle.strategy_compiler.specs.declared.wins.WrittenWin.{WrittenWin}
-use Rattle.threat_game.specs.declared.doubles.Double.{Double}
+use Rattle.threat_game.specs.declared.doubles.DoublePoint.{DoublePoint}
 use Rattle.threat_game.specs.declared.replies.Judged.{Judged}
-use Rattle.threat_game.specs.declared.replies.Judged.TheVariants.{Five, Double as DoubleWins, Last, Open}
+use Rattle.threat_game.specs.declared.replies.Judged.TheVariants.{Five, DoublePoint as DoubleWins, Last, Open}
 use Rattle.threat_game.specs.declared.replies.Child.{Child}
 use Rattle.threat_game.proofs.Common.{is_threat_move, is_safe_threat, threat_tree, IsDoubleWin, answer_nodes, one_if, IsJudged, IsChild}
 use Rattle.threat_game.proofs.Common.{counted_for, moves_for, nowhere, move_at, LosesToThreats, has_reply, is_tried, tried_moves}
@@ -108,7 +108,7 @@ still-safe rule b p lawful on none =
     has_five-none rule (after b p) (other (mover b))
     (none-left rule b (mover b) p lawful.board (GoesOn-empty rule b p on) (none-short rule b (other (mover b)) none))
 
-module _ (rule : RuleKind) (b : Grid) (d : Double) (lawful : IsPosition rule b) (wins : IsDoubleWin rule b d) where
+module _ (rule : RuleKind) (b : Grid) (d : DoublePoint) (lawful : IsPosition rule b) (wins : IsDoubleWin rule b d) where
   -- after a double point its side has a five point
   pub double-five : has_five rule (after b d.at) (mover b) ≡ true
   double-five = points-found (after b d.at) _ d.first
@@ -302,7 +302,7 @@ pub whole-by : (rule : RuleKind) (left : ℕ) (c : Grid) (judged : Judged) → c
 whole-by rule left c (Five w) few = omega (arith, few)
 whole-by rule left c _ few = omega (arith, few)
 
-pub counted-within : (rule : RuleKind) (b : Grid) (d : Double) → IsPosition rule b → IsDoubleWin rule b d
+pub counted-within : (rule : RuleKind) (b : Grid) (d : DoublePoint) → IsPosition rule b → IsDoubleWin rule b d
     → has_five rule b (mover b) ≡ false → (n : ℕ) → 2 ≤ n → 1 + answer_nodes rule b d ≤ threat_tree rule n b
 counted-within rule b d lawful wins none zero l = absurd (omega arith)
 counted-within rule b d lawful wins none (suc zero) l = absurd (omega arith)

@@ -13,9 +13,9 @@ use Rattle.strategy_graph.proofs.Soundness.{accepted-wins}
 use Rattle.strategy_compiler.specs.declared.wins.WrittenWin.{WrittenWin}
 use Rattle.strategy_compiler.proofs.Common.{IsWrittenWin, WinsAtOnce, WinsByAnswers}
 use Rattle.strategy_compiler.proofs.Growing.{win-within}
-use Rattle.threat_game.specs.declared.doubles.Double.{Double}
+use Rattle.threat_game.specs.declared.doubles.DoublePoint.{DoublePoint}
 use Rattle.threat_game.specs.declared.replies.Judged.{Judged}
-use Rattle.threat_game.specs.declared.replies.Judged.TheVariants.{Five, Double as DoubleWins, Last}
+use Rattle.threat_game.specs.declared.replies.Judged.TheVariants.{Five, DoublePoint as DoubleWins, Last}
 use Rattle.threat_game.proofs.Common.{IsDoubleWin, is_last_move, IsJudged, IsJudgedDouble, answer_nodes, moves_for, nodes_for, IsThreatWin}
 use Rattle.threat_game.proofs.AttackLaws.{last-goes_on, last-fouled, last-wins}
 
@@ -39,7 +39,7 @@ module _ (rule : RuleKind) (b : Grid) (q : Point) (on : outcome rule b q ≡ Goe
       let least : moves_for judged ≡ 1 = ap moves_for e in
       says rule (after b q) moves (IsPosition-after rule b q lawful on) here (omega (arith, least, l))
 
-  module _ (d : Double) (nodes : ℕ) (e : judged ≡ DoubleWins d nodes) where
+  module _ (d : DoublePoint) (nodes : ℕ) (e : judged ≡ DoubleWins d nodes) where
     double-is : IsJudgedDouble rule (after b q) d nodes
     double-is = subst (λ (j : Judged). IsJudged rule (after b q) j) e is
 

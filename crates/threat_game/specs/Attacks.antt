@@ -11,12 +11,12 @@ use Rattle.game_rules.specs.declared.Outcome.TheVariants.{GoesOn}
 use Rattle.game_rules.specs.declared.Point.{Point}
 use Rattle.threat_moves.specs.OneBlock.{all_foul}
 use Rattle.threat_game.specs.declared.attacks.Attacks.{Attacks}
-use Rattle.threat_game.specs.declared.attacks.Attacks.TheVariants.{Double as DoubleWins, NoReply, Moves}
+use Rattle.threat_game.specs.declared.attacks.Attacks.TheVariants.{DoublePoint as DoubleWins, NoReply, Moves}
 use Rattle.threat_game.specs.declared.attacks.Attempt.{Attempt}
-use Rattle.threat_game.specs.declared.attacks.Attempt.TheVariants.{Tried, Last, Passed}
+use Rattle.threat_game.specs.declared.attacks.Attempt.TheVariants.{Tried, EachReplyFouls, Passed}
 use Rattle.threat_game.specs.declared.attacks.BestReply.{BestReply}
 use Rattle.threat_game.specs.declared.attacks.BestReply.TheVariants.{GoesOn as SomeGoesOn, Saves, Fouls as EachFouls}
-use Rattle.threat_game.specs.declared.doubles.Double.{Double}
+use Rattle.threat_game.specs.declared.doubles.DoublePoint.{DoublePoint}
 use Rattle.threat_game.specs.declared.doubles.Kept.{Kept}
 use Rattle.threat_game.specs.ThreatGame.{is_threat_move, is_safe_threat}
 use Rattle.threat_game.specs.NearDoubles.{points_of_two}
@@ -54,7 +54,7 @@ is_settled_move rule b p = not (is_threat_move rule b p) || is_tried rule b p ||
 -- what is said of a move: it has to be tried, or each reply to it fouls, or it need not be tried
 abbrev pub IsAttempt : RuleKind → Grid → Point → Attempt → Type 0
 IsAttempt rule b p Tried = (is_tried rule b p ≡ true) × (is_settled_move rule b p ≡ true)
-IsAttempt rule b p Last = is_last_move rule b p ≡ true
+IsAttempt rule b p EachReplyFouls = is_last_move rule b p ≡ true
 IsAttempt rule b p Passed = (is_tried rule b p ≡ false) × (is_settled_move rule b p ≡ true)
 
 -- the moves that have to be tried, in reading order
@@ -66,7 +66,7 @@ pub record OthersFail (rule : RuleKind) (b : Grid) : Type 0 where
   pub fails : (p : Point) → is_threat_move rule b p ≡ true → is_tried rule b p ≡ false → has_saving rule (after b p) ≡ true
 
 -- a stone of the side on the empty point of the double point leaves it both five points
-pub record LeavesBoth (rule : RuleKind) (b : Grid) (s : Side) (d : Double) : Type 0 where
+pub record LeavesBoth (rule : RuleKind) (b : Grid) (s : Side) (d : DoublePoint) : Type 0 where
   pub empty : is_empty b d.at ≡ true
   pub first : five rule (put b s d.at) s d.first ≡ true
   pub second : five rule (put b s d.at) s d.second ≡ true
@@ -85,7 +85,7 @@ pub record IsStillKept (rule : RuleKind) (b : Grid) (kept : Kept) : Type 0 where
 
 -- a double point of the side to move that wins: its stone there goes on and leaves it both five points, and the other side has
 -- none
-pub record IsDoubleWin (rule : RuleKind) (b : Grid) (d : Double) : Type 0 where
+pub record IsDoubleWin (rule : RuleKind) (b : Grid) (d : DoublePoint) : Type 0 where
   pub on : outcome rule b d.at ≡ GoesOn
   pub both : LeavesBoth rule b (mover b) d
   pub safe : has_five rule b (other (mover b)) ≡ false

@@ -9,9 +9,9 @@ use Rattle.game_rules.specs.Games.{WinsByThreats, has_five, behind_replies}
 use Rattle.game_rules.specs.declared.RuleKind.{RuleKind}
 use Rattle.game_rules.specs.declared.Outcome.TheVariants.{GoesOn}
 use Rattle.game_rules.specs.declared.Point.{Point}
-use Rattle.threat_game.specs.declared.doubles.Double.{Double}
+use Rattle.threat_game.specs.declared.doubles.DoublePoint.{DoublePoint}
 use Rattle.threat_game.specs.declared.replies.Judged.{Judged}
-use Rattle.threat_game.specs.declared.replies.Judged.TheVariants.{Five, Double as DoubleWins, Last, Open}
+use Rattle.threat_game.specs.declared.replies.Judged.TheVariants.{Five, DoublePoint as DoubleWins, Last, Open}
 use Rattle.threat_game.specs.declared.replies.Judgement.{Judgement}
 use Rattle.threat_game.specs.declared.replies.Judgement.TheVariants.{NoReply, Escape, Known}
 use Rattle.threat_game.specs.declared.replies.Child.{Child}
@@ -32,11 +32,11 @@ abbrev pub one_if : Bool → ℕ
 one_if test = if test then 1 else 0
 
 -- how many winning nodes answer the replies to a double point: one the reply on its first five point, and one all others
-abbrev pub answer_nodes : RuleKind → Grid → Double → ℕ
+abbrev pub answer_nodes : RuleKind → Grid → DoublePoint → ℕ
 answer_nodes rule b d = one_if (has_reply_at rule (after b d.at) d.first) + one_if (has_reply_beside rule (after b d.at) d.first)
 
 -- a double point wins at b, where the side to move has no five point, and so many nodes answer the replies to it
-pub record IsJudgedDouble (rule : RuleKind) (b : Grid) (d : Double) (nodes : ℕ) : Type 0 where
+pub record IsJudgedDouble (rule : RuleKind) (b : Grid) (d : DoublePoint) (nodes : ℕ) : Type 0 where
   pub no_five : has_five rule b (mover b) ≡ false
   pub wins : IsDoubleWin rule b d
   pub nodes_are : nodes ≡ answer_nodes rule b d
@@ -116,7 +116,7 @@ is_standing (Last p) = false
 is_standing Open = false
 
 -- whether two double points and their five points are the same
-abbrev pub is_same_double : Double → Double → Bool
+abbrev pub is_same_double : DoublePoint → DoublePoint → Bool
 is_same_double d e = is_same_point d.at e.at && is_same_point d.first e.first && is_same_point d.second e.second
 
 -- whether the win that is compiled for what is judged first wins where the other is judged: it is by the same five point, or by the
@@ -164,9 +164,9 @@ AreReplies rule moves c None = HasEscape rule moves c
 AreReplies rule moves c (Some children) = AreChildren rule moves c children
 
 -- whether a stone on q leaves the double point and its two five points empty
-abbrev pub is_beside : Double → Point → Bool
+abbrev pub is_beside : DoublePoint → Point → Bool
 is_beside d q = not (is_same_point d.at q) && not (is_same_point d.first q) && not (is_same_point d.second q)
 
 -- a stone on q leaves the double point and its two five points empty
-abbrev pub IsBeside : Double → Point → Type 0
+abbrev pub IsBeside : DoublePoint → Point → Type 0
 IsBeside d q = is_beside d q ≡ true

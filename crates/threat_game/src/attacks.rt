@@ -21,7 +21,7 @@ ghost use Rattle.threat_game.specs.NearDoubles.{points_of_two};
 ghost use Rattle.threat_game.specs.Attacks.{AreAttacks, IsAttempt, IsDoubleTold, IsDoubleWin, has_standing_double};
 ghost use Rattle.threat_game.specs.Attacks.{best_reply as best_reply_lem};
 
-use crate::doubles::{Double, double_at};
+use crate::doubles::{DoublePoint, double_at};
 use crate::last_moves::has_fouls;
 use crate::near_doubles::leaves_double;
 use crate::near_stones::{NearStones, near_stones};
@@ -36,7 +36,7 @@ use threat_moves::{is_four_move, is_three_move};
 #[derive(Drop)]
 pub enum Attacks {
     /// This double point goes on, and the other side has no five point.
-    Double(Double),
+    DoublePoint(DoublePoint),
     /// After this move each reply fouls.
     NoReply(Point),
     /// The moves to be tried, in reading order: after each the other side has no five point, and a reply that goes on. To each
@@ -50,7 +50,7 @@ enum Attempt {
     /// It has to be tried.
     Tried,
     /// Each reply to it fouls.
-    Last,
+    EachReplyFouls,
     /// It need not be tried.
     Passed,
 }
@@ -86,7 +86,7 @@ pub fn find_attacks<R: Rule, V: Seen<R>>(
     let twos = all_twos::<R, V>(alloc, view)?;
     if let FivePoints::None = threat {
         match find_double::<R, V>(alloc, view, board, twos.as_slice())? {
-            Some(double) => Ok(Attacks::Double(double)),
+            Some(double) => Ok(Attacks::DoublePoint(double)),
             None => find_moves::<R, V>(alloc, view, board, threat, twos.as_slice()),
         }
     } else {
@@ -100,7 +100,7 @@ fn find_double<R: Rule, V: Seen<R>>(
     view: &mut V,
     board: &mut Board,
     twos: &[Point],
-) -> Result<Option<Double>, AllocError>
+) -> Result<Option<DoublePoint>, AllocError>
     requires none { has_five_lem R.KIND (V.position view.old) (mover (V.position view.old)) ≡ false }
     requires safe { has_five_lem R.KIND (V.position view.old) (other (mover (V.position view.old))) ≡ false }
     requires copy { board.old ≡ V.position view.old }
@@ -197,7 +197,7 @@ fn find_moves<R: Rule, V: Seen<R>>(
     for p in view.board().points() {
         match judge_move::<R, V>(view, board, threat, twos, p) {
             Attempt::Tried => moves.push(p)?,
-            Attempt::Last => return Ok(Attacks::NoReply(p)),
+            Attempt::EachReplyFouls => return Ok(Attacks::NoReply(p)),
             Attempt::Passed => {}
         }
     }
@@ -230,7 +230,7 @@ fn judge_move<R: Rule, V: Seen<R>>(
     match best_reply_to::<R, V>(view, p) {
         BestReply::GoesOn => Attempt::Tried,
         BestReply::Saves => Attempt::Passed,
-        BestReply::Fouls => Attempt::Last,
+        BestReply::Fouls => Attempt::EachReplyFouls,
     }
 }
 

@@ -31,7 +31,7 @@ const MOST_KEPT: usize = 4;
 
 /// A double point, and two five points after a stone on it.
 #[derive(Clone, Copy, Debug, PartialEq, Eq)]
-pub struct Double {
+pub struct DoublePoint {
     pub at: Point,
     pub first: Point,
     pub second: Point,
@@ -44,7 +44,7 @@ pub fn double_at<R: Rule>(
     board: &mut Board,
     side: Side,
     at: Point,
-) -> Result<Option<Double>, AllocError>
+) -> Result<Option<DoublePoint>, AllocError>
     requires empty { IsTrue (is_empty board.old at) }
     ensures both { IfOk result (λ found. IfSome found (LeavesBoth R.KIND board.old side)) }
     ensures here { IfOk result (λ found. IfSome found (λ d. d.at ≡ at)) }
@@ -55,7 +55,7 @@ pub fn double_at<R: Rule>(
     let points = row_shapes::five_points::<R>(alloc, board, side);
     board.lift(at);
     match points?.as_slice() {
-        [first, second, ..] => Ok(Some(Double {
+        [first, second, ..] => Ok(Some(DoublePoint {
             at,
             first: *first,
             second: *second,
@@ -67,7 +67,7 @@ pub fn double_at<R: Rule>(
 /// A double point that is kept to settle replies by.
 #[derive(Clone, Copy)]
 pub(crate) struct Kept {
-    pub(crate) double: Double,
+    pub(crate) double: DoublePoint,
     /// It stays no foul wherever the other side puts a stone.
     pub(crate) sure: bool,
 }
@@ -137,7 +137,7 @@ fn is_other_reply<R: Rule, V: Seen<R>>(view: &mut V, first: Point, q: Point) -> 
 }
 
 /// The same after the double point, which goes on.
-fn replies_to<R: Rule, V: Seen<R>>(view: &mut V, double: Double) -> Replied
+fn replies_to<R: Rule, V: Seen<R>>(view: &mut V, double: DoublePoint) -> Replied
     requires on { outcome_lem R.KIND (V.position view.old) double.at ≡ Outcome.GoesOn }
     ensures at { result.at ≡ has_reply_at R.KIND (after (V.position view.old) double.at) double.first }
     ensures beside { result.beside ≡ has_reply_beside R.KIND (after (V.position view.old) double.at) double.first }
@@ -151,7 +151,7 @@ fn replies_to<R: Rule, V: Seen<R>>(view: &mut V, double: Double) -> Replied
 }
 
 /// How many winning nodes answer the replies to the double point, which goes on: two at most.
-pub fn answers_of<R: Rule, V: Seen<R>>(view: &mut V, double: Double) -> u64
+pub fn answers_of<R: Rule, V: Seen<R>>(view: &mut V, double: DoublePoint) -> u64
     requires on { outcome_lem R.KIND (V.position view.old) double.at ≡ Outcome.GoesOn }
     ensures nodes { result ≡ answer_nodes R.KIND (V.position view.old) double }
     ensures few { result ≤ 2 }
@@ -163,7 +163,7 @@ pub fn answers_of<R: Rule, V: Seen<R>>(view: &mut V, double: Double) -> u64
 
 /// The same of a double point that wins. Where the other side has no fouls both replies are there, as the number of empty points
 /// tells.
-pub(crate) fn answers_to_win<R: Rule, V: Seen<R>>(view: &mut V, double: Double) -> u64
+pub(crate) fn answers_to_win<R: Rule, V: Seen<R>>(view: &mut V, double: DoublePoint) -> u64
     requires wins { IsDoubleWin R.KIND (V.position view.old) double }
     ensures nodes { result ≡ answer_nodes R.KIND (V.position view.old) double }
     ensures few { result ≤ 2 }
@@ -179,7 +179,7 @@ pub(crate) fn answers_to_win<R: Rule, V: Seen<R>>(view: &mut V, double: Double) 
 pub fn compile_double<R: Rule, V: Seen<R>>(
     alloc: Global,
     view: &mut V,
-    double: Double,
+    double: DoublePoint,
     compiler: &mut Compiler,
 ) -> Result<WrittenWin, SearchError>
     requires wins { IsDoubleWin R.KIND (V.position view.old) double }
@@ -204,7 +204,7 @@ pub fn compile_double<R: Rule, V: Seen<R>>(
 pub fn compile_standing(
     alloc: Global,
     board: &Board,
-    double: Double,
+    double: DoublePoint,
     compiler: &mut Compiler,
 ) -> Result<WrittenWin, SearchError>
     ensures win { IfOk result (λ win. (rule : RuleKind) (b : Grid) (moves : ℕ) → IsPosition rule b → points_of b ≡ points_of board.now
@@ -225,7 +225,7 @@ pub fn compile_standing(
 fn all_replies_to<R: Rule, V: Seen<R>>(
     alloc: Global,
     view: &mut V,
-    double: Double,
+    double: DoublePoint,
 ) -> Result<Vec<Point>, AllocError>
     requires on { outcome_lem R.KIND (V.position view.old) double.at ≡ Outcome.GoesOn }
     requires none { has_five_lem R.KIND (after (V.position view.old) double.at) (mover (after (V.position view.old) double.at)) ≡ false }

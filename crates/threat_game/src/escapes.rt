@@ -55,7 +55,7 @@ fn fails<R: Rule, V: Seen<R>>(
     ensures same_board { board.new ≡ board.old }
 {
     match find_attacks::<R, V>(alloc, view, board)? {
-        Attacks::Double(_) | Attacks::NoReply(_) => Ok(false),
+        Attacks::DoublePoint(_) | Attacks::NoReply(_) => Ok(false),
         Attacks::Moves(moves) => each_fails::<R, V>(alloc, view, board, moves.as_slice()),
     }
 }

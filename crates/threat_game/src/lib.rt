@@ -17,7 +17,7 @@ mod replies;
 mod written;
 
 pub use attacks::{Attacks, find_attacks};
-pub use doubles::{Double, answers_of, compile_double};
+pub use doubles::{DoublePoint, answers_of, compile_double};
 pub use last_moves::last_move;
 pub use replies::{Child, Children, judge_replies, settle_child};
 pub use written::{compile_five, compile_last};

@@ -23,7 +23,7 @@ ghost use Rattle.threat_game.specs.Wins.{IsThreatWin};
 
 use crate::attacks::{each_goes_on, fives_by, goes_on_where};
 use crate::doubles::{
-    Double, Kept, answers_to_win, compile_double, compile_standing, first_doubles,
+    DoublePoint, Kept, answers_to_win, compile_double, compile_standing, first_doubles,
 };
 use crate::escapes::fails_after;
 use crate::last_moves::last_move;
@@ -41,7 +41,7 @@ pub enum Judged {
     /// This is a five point of the attacker.
     Five(Point),
     /// After this double point each reply that goes on leaves a five point. So many nodes answer them.
-    Double(Double, u64),
+    DoublePoint(DoublePoint, u64),
     /// After this move each reply fouls.
     Last(Point),
     /// Nothing.
@@ -168,7 +168,7 @@ fn is_standing(judged: Judged) -> bool
 {
     match judged {
         Judged::Five(_) => true,
-        Judged::Double(_, nodes) => nodes == 2,
+        Judged::DoublePoint(_, nodes) => nodes == 2,
         Judged::Last(_) | Judged::Open => false,
     }
 }
@@ -189,19 +189,20 @@ fn stands_for(first: Judged, judged: Judged) -> bool
 {
     match (first, judged) {
         (Judged::Five(w), Judged::Five(v)) => w.is(v),
-        (Judged::Double(d, nodes), Judged::Double(e, _)) => nodes == 2 && is_same_double(d, e),
+        (Judged::DoublePoint(d, nodes), Judged::DoublePoint(e, _)) => nodes == 2
+            && is_same_double(d, e),
         _ => false,
     }
 }
 
 /// Whether the two double points and their five points are the same.
-fn is_same_double(d: Double, e: Double) -> bool
+fn is_same_double(d: DoublePoint, e: DoublePoint) -> bool
     ensures same { result ≡ is_same_double_lem d e }
 {
     d.at.is(e.at) && d.first.is(e.first) && d.second.is(e.second)
 }
 
-/// Double points of the side, if it has no five point. It has so many.
+/// DoublePoint points of the side, if it has no five point. It has so many.
 fn doubles_for<R: Rule>(
     alloc: Global,
     board: &mut Board,
@@ -258,7 +259,7 @@ fn counted(judged: Judged) -> u64
     ensures counted { result ≡ counted_for judged }
 {
     match judged {
-        Judged::Double(_, nodes) => 1 + nodes,
+        Judged::DoublePoint(_, nodes) => 1 + nodes,
         Judged::Five(_) | Judged::Last(_) | Judged::Open => 1,
     }
 }
@@ -400,7 +401,7 @@ fn still_double<R: Rule, V: Seen<R>>(view: &mut V, q: Point, doubles: &[Kept]) -
     for kept in doubles {
         if is_beside(kept.double, q) && still_goes_on::<R, V>(view, *kept) {
             let nodes = answers_to_win::<R, V>(view, kept.double);
-            return Judged::Double(kept.double, nodes);
+            return Judged::DoublePoint(kept.double, nodes);
         }
     }
     Judged::Open
@@ -420,7 +421,7 @@ fn still_goes_on<R: Rule, V: Seen<R>>(view: &mut V, kept: Kept) -> bool
 }
 
 /// Whether a stone of the other side on `q` leaves the double point and its two five points empty.
-fn is_beside(double: Double, q: Point) -> bool
+fn is_beside(double: DoublePoint, q: Point) -> bool
     ensures beside { result ≡ is_beside_lem double q }
 {
     !double.at.is(q) && !double.first.is(q) && !double.second.is(q)
@@ -453,7 +454,7 @@ pub fn settle_child<R: Rule, V: Seen<R>>(
         Judged::Open => Ok(None),
         Judged::Five(five) => Ok(Some(compile_five(compiler, five)?)),
         Judged::Last(attack) => Ok(Some(compile_last(compiler, attack)?)),
-        Judged::Double(double, nodes) => {
+        Judged::DoublePoint(double, nodes) => {
             if nodes == 2 {
                 let win = compile_standing(alloc, view.board(), double, compiler)?;
                 return Ok(Some(win));

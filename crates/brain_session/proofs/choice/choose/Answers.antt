@@ -7,7 +7,7 @@ use Rattle.brain_session.specs.ChosenMoves.{Choice, plain_move}
 use Rattle.brain_session.specs.Kept.{Moves, game_of}
 use Rattle.brain_session.specs.declared.guide.Guide.TheVariants.{HeldNode as HeldGuide, OwnWin as OwnGuide}
 use Rattle.brain_session.specs.States.{board_of}
-use Rattle.brain_session.proofs.Courses.{along-lawful}
+use Rattle.brain_session.proofs.GamesInPlay.{along-lawful}
 use Rattle.brain_session.proofs.HeldNodes.{first-accepted}
 use Rattle.brain_session.proofs.LegalMoves.{plain-is_empty}
 use Rattle.brain_session.proofs.Guiding.{node-legal}
@@ -19,7 +19,7 @@ use Rattle.brain_session.proofs.choice.choose.Goals as goal
 
 pub by_following-requires : goal.by_following-requires
 by_following-requires c =
-    let g = game_of c.args.played.now c.args.course.now in
+    let g = game_of c.args.played.now c.args.game.now in
     record {
       in_table = (first-accepted c.args.held.now c.held_node.ensures.held g c.requires.along c.in-Some.node
           (sym c.in-Some.ensures.node)).0;
@@ -28,7 +28,7 @@ by_following-requires c =
 pub returns-in-Some-clause-chosen : goal.returns-in-Some-clause-chosen
 returns-in-Some-clause-chosen c =
     let h = c.args.held.now in
-    let g = game_of c.args.played.now c.args.course.now in
+    let g = game_of c.args.played.now c.args.game.now in
     let stands = first-accepted h c.held_node.ensures.held g c.requires.along c.in-Some.node (sym c.in-Some.ensures.node) in
     picked-chosen h g c.by_following.result _ c.by_following.ensures.guide
     (chosen-held h g c.in-Some.node c.by_following.result.at (sym c.in-Some.ensures.node)
@@ -37,14 +37,14 @@ returns-in-Some-clause-chosen c =
 pub returns-in-Some-clause-stands : goal.returns-in-Some-clause-stands
 returns-in-Some-clause-stands c =
     let h = c.args.held.now in
-    let g = game_of c.args.played.now c.args.course.now in
+    let g = game_of c.args.played.now c.args.game.now in
     let stands = first-accepted h c.held_node.ensures.held g c.requires.along c.in-Some.node (sym c.in-Some.ensures.node) in
     picked-stands h g c.by_following.result _ c.by_following.ensures.guide g.rule (board_of g) c.by_following.ensures.table stands
 
 pub returns-in-Some-clause-empty : goal.returns-in-Some-clause-empty
 returns-in-Some-clause-empty c =
     let h = c.args.held.now in
-    let g = game_of c.args.played.now c.args.course.now in
+    let g = game_of c.args.played.now c.args.game.now in
     let stands = first-accepted h c.held_node.ensures.held g c.requires.along c.in-Some.node (sym c.in-Some.ensures.node) in
     node-legal h g.rule (board_of g) (HeldGuide c.in-Some.node) c.by_following.result.at stands
     (c.by_following.ensures.follows g.rule (board_of g) stands)
@@ -53,16 +53,16 @@ returns-in-Some-clause-empty c =
 
 pub own_win-requires : goal.own_win-requires
 own_win-requires c =
-    let same = ap (λ (m : Moves). board_of (game_of m c.args.course.now)) c.held_node.ensures.same in
+    let same = ap (λ (m : Moves). board_of (game_of m c.args.game.now)) c.held_node.ensures.same in
     record {
-      lawful = subst (IsPosition c.args.course.now.kind) (sym (c.board.ensures.board ∙ same))
-          (along-lawful c.args.course.now.kind c.args.played.now.start c.args.played.now.moves c.requires.along);
+      lawful = subst (IsPosition c.args.game.now.kind) (sym (c.board.ensures.board ∙ same))
+          (along-lawful c.args.game.now.kind c.args.played.now.start c.args.played.now.moves c.requires.along);
     }
 
 pub by_following-requires-in-Some-2 : goal.by_following-requires-in-Some-2
 by_following-requires-in-Some-2 c =
-    let same = c.board.ensures.board ∙ ap (λ (m : Moves). board_of (game_of m c.args.course.now)) c.held_node.ensures.same in
-    let g = game_of c.args.played.now c.args.course.now in
+    let same = c.board.ensures.board ∙ ap (λ (m : Moves). board_of (game_of m c.args.game.now)) c.held_node.ensures.same in
+    let g = game_of c.args.played.now c.args.game.now in
     let is = found-own g.rule (board_of g) c.board.result.now c.in_ok-own.field-0 c.in-Some-2.own c.in-Some-2.is same
     c.in_ok-own.ensures.found in
     record {
@@ -74,9 +74,9 @@ by_following-requires-in-Some-2 c =
 
 pub returns-in-Some-2-clause-chosen : goal.returns-in-Some-2-clause-chosen
 returns-in-Some-2-clause-chosen c =
-    let same = c.board.ensures.board ∙ ap (λ (m : Moves). board_of (game_of m c.args.course.now)) c.held_node.ensures.same in
+    let same = c.board.ensures.board ∙ ap (λ (m : Moves). board_of (game_of m c.args.game.now)) c.held_node.ensures.same in
     let h = c.args.held.now in
-    let g = game_of c.args.played.now c.args.course.now in
+    let g = game_of c.args.played.now c.args.game.now in
     let is = found-own g.rule (board_of g) c.board.result.now c.in_ok-own.field-0 c.in-Some-2.own c.in-Some-2.is same
     c.in_ok-own.ensures.found in
     let stands = own_table-stands g.rule (board_of g) c.in-Some-2.own is in
@@ -86,9 +86,9 @@ returns-in-Some-2-clause-chosen c =
 
 pub returns-in-Some-2-clause-stands : goal.returns-in-Some-2-clause-stands
 returns-in-Some-2-clause-stands c =
-    let same = c.board.ensures.board ∙ ap (λ (m : Moves). board_of (game_of m c.args.course.now)) c.held_node.ensures.same in
+    let same = c.board.ensures.board ∙ ap (λ (m : Moves). board_of (game_of m c.args.game.now)) c.held_node.ensures.same in
     let h = c.args.held.now in
-    let g = game_of c.args.played.now c.args.course.now in
+    let g = game_of c.args.played.now c.args.game.now in
     let is = found-own g.rule (board_of g) c.board.result.now c.in_ok-own.field-0 c.in-Some-2.own c.in-Some-2.is same
     c.in_ok-own.ensures.found in
     picked-stands h g c.by_following-in-Some-2.result _ c.by_following-in-Some-2.ensures.guide g.rule (board_of g)
@@ -96,9 +96,9 @@ returns-in-Some-2-clause-stands c =
 
 pub returns-in-Some-2-clause-empty : goal.returns-in-Some-2-clause-empty
 returns-in-Some-2-clause-empty c =
-    let same = c.board.ensures.board ∙ ap (λ (m : Moves). board_of (game_of m c.args.course.now)) c.held_node.ensures.same in
+    let same = c.board.ensures.board ∙ ap (λ (m : Moves). board_of (game_of m c.args.game.now)) c.held_node.ensures.same in
     let h = c.args.held.now in
-    let g = game_of c.args.played.now c.args.course.now in
+    let g = game_of c.args.played.now c.args.game.now in
     let is = found-own g.rule (board_of g) c.board.result.now c.in_ok-own.field-0 c.in-Some-2.own c.in-Some-2.is same
     c.in_ok-own.ensures.found in
     let stands = own_table-stands g.rule (board_of g) c.in-Some-2.own is in
@@ -109,20 +109,20 @@ returns-in-Some-2-clause-empty c =
 
 pub returns-in-None-clause-chosen : goal.returns-in-None-clause-chosen
 returns-in-None-clause-chosen c =
-    let same = c.board.ensures.board ∙ ap (λ (m : Moves). board_of (game_of m c.args.course.now)) c.held_node.ensures.same in
+    let same = c.board.ensures.board ∙ ap (λ (m : Moves). board_of (game_of m c.args.game.now)) c.held_node.ensures.same in
     let h = c.args.held.now in
-    let g = game_of c.args.played.now c.args.course.now in
+    let g = game_of c.args.played.now c.args.game.now in
     let none = sym c.held_node.ensures.node ∙ c.in_default.is in
     let nothing = found-nothing g.rule (board_of g) c.board.result.now c.in_ok-own.field-0 c.in-None.is same c.in_ok-own.ensures.found in
-    let plain = c.plain_move.ensures.plain ∙ ap (λ (m : Moves). plain_move c.args.course.now.kind (board_of (game_of m c.args.course.now)))
+    let plain = c.plain_move.ensures.plain ∙ ap (λ (m : Moves). plain_move c.args.game.now.kind (board_of (game_of m c.args.game.now)))
     c.held_node.ensures.same in
     ap (λ (p : Point). let choice : Choice = record { at = p; followed = None } in choice) plain ∙ sym (chosen-plain h g none nothing)
 
 pub returns-in-None-clause-empty : goal.returns-in-None-clause-empty
 returns-in-None-clause-empty c =
-    let g = game_of c.args.played.now c.args.course.now in
-    let plain = c.plain_move.ensures.plain ∙ ap (λ (m : Moves). plain_move c.args.course.now.kind (board_of (game_of m c.args.course.now)))
+    let g = game_of c.args.played.now c.args.game.now in
+    let plain = c.plain_move.ensures.plain ∙ ap (λ (m : Moves). plain_move c.args.game.now.kind (board_of (game_of m c.args.game.now)))
     c.held_node.ensures.same in
     subst (λ (p : Point). is_empty (board_of g) p ≡ true) (sym plain)
     (plain-is_empty g.rule (board_of g)
-    (along-lawful c.args.course.now.kind c.args.played.now.start c.args.played.now.moves c.requires.along))
+    (along-lawful c.args.game.now.kind c.args.played.now.start c.args.played.now.moves c.requires.along))

@@ -7,5 +7,5 @@ use Rattle.brain_session.proofs.choice.held_node.Given as goal
 abbrev pub invariant-loop-i : goal.invariant-loop-i
 invariant-loop-i l = record {
   same : l.played ≡ l.fn.played;
-  first : first_node (game_of l.fn.played l.course) (drop l.i l.held.roots) ≡ first_node (game_of l.fn.played l.course) l.held.roots;
+  first : first_node (game_of l.fn.played l.game) (drop l.i l.held.roots) ≡ first_node (game_of l.fn.played l.game) l.held.roots;
 }

@@ -10,17 +10,17 @@ use Rattle.threat_moves.proofs.FourLaws.{one-goes_on}
 use Rattle.threat_moves.proofs.Fates.{block-alone}
 use Rattle.four_search.specs.declared.search.Found.{Found}
 use Rattle.four_search.specs.declared.search.Found.TheVariants.{NoWin}
-use Rattle.four_search.specs.declared.makers.Maker.{Maker}
-use Rattle.four_search.specs.Makers.{makers_of, AfterFour, AfterReply}
+use Rattle.four_search.specs.declared.four_points.FourPoint.{FourPoint}
+use Rattle.four_search.specs.FourPoints.{four_points_of, AfterFour, AfterReply}
 use Rattle.four_search.proofs.Listing.{drop-all, drop-next}
-use Rattle.four_search.proofs.Trying.{found-makers, ruled-out, each-maker, not_taken, taken-safe, try_all, try_all-none, step_at}
+use Rattle.four_search.proofs.Trying.{found-four_points, ruled-out, each-four_point, not_taken, taken-safe, try_all, try_all-none, step_at}
 use Rattle.four_search.proofs.Trying.{step-goes_on, step-ends, found-nothing, answering-no-more, behind-else, block-none, block-threat}
 use Rattle.four_search.proofs.Trying.{block-last, trying-else, trying-goes}
 use Rattle.four_search.specs.Searching.{found_trying, found_behind, found_answering}
 use Rattle.four_search.specs.Remembering.{IsDenied}
 use Rattle.four_search.proofs.Remembering.{denied-found, found-denied}
 use Rattle.four_search.proofs.search.+search.Goals as goal
-use Rattle.four_search.proofs.search.+search.Goals.{try_makers-then-takes+in_ok-found+in-NoWin, try_makers-else-takes}
+use Rattle.four_search.proofs.search.+search.Goals.{try_four_points-then-takes+in_ok-found+in-NoWin, try_four_points-else-takes}
 
 pub after_block-returns-then-budget-eq0-clause-found :
     goal.after_block-returns-then-budget-eq0-clause-found
@@ -54,8 +54,8 @@ after_block-search_on-found-requires g t c κs within =
     (five_points g.R.Rule.KIND (g.V.Seen.position c.play.new.self) (other (mover (g.V.Seen.position c.play.new.self)))) =
     c.fives_made-threat.ensures.made ∙ block-threat g.R.Rule.KIND b c.args.block lawful c.requires.goes_on c.requires.one
     ∙ ap (λ (w : Grid). in_short (five_points g.R.Rule.KIND w (other (mover w)))) (sym c.play.ensures.played) in
-    let before : AfterReply g.R.Rule.KIND c.args.makers.now c.args.p c.args.block (g.V.Seen.position c.play.new.self) =
-    record { four = b; from = c.requires.makers; on = c.requires.goes_on; is = c.play.ensures.played } in
+    let before : AfterReply g.R.Rule.KIND c.args.four_points.now c.args.p c.args.block (g.V.Seen.position c.play.new.self) =
+    record { four = b; from = c.requires.four_points; on = c.requires.goes_on; is = c.play.ensures.played } in
     search rules
 
 pub after_block-undo-requires-clause-stone : goal.after_block-undo-requires-clause-stone
@@ -90,15 +90,15 @@ answering-after_block-requires g t c κs within =
     let safe : has_five g.R.Rule.KIND d (mover d) ≡ false =
     ap (λ (w : Grid). has_five g.R.Rule.KIND w (mover w)) c.fate.ensures.same ∙ c.requires.safe in
     let some : 0 < c.args.moves = let more = c.if-moves-eq0.false in omega (arith, more) in
-    let from = c.requires.makers in
-    let makers : AfterFour g.R.Rule.KIND c.args.makers.now c.args.p d =
+    let from = c.requires.four_points in
+    let four_points : AfterFour g.R.Rule.KIND c.args.four_points.now c.args.p d =
     record {
       first = from.first;
       lawful = from.lawful;
       none = from.none;
       on = from.on;
       is = c.fate.ensures.same ∙ from.is;
-      makers = from.makers;
+      four_points = from.four_points;
     } in
     search rules
 
@@ -121,14 +121,14 @@ behind-answering-found-requires g t c κs within =
     ap (λ (w : Grid). has_five g.R.Rule.KIND w (mover w)) c.play.ensures.played
     ∙ ap (has_five g.R.Rule.KIND (after b c.args.p)) (mover-then g.R.Rule.KIND b c.args.p lawful c.requires.goes_on)
     ∙ c.requires.safe in
-    let makers : AfterFour g.R.Rule.KIND c.args.makers.now c.args.p d =
+    let four_points : AfterFour g.R.Rule.KIND c.args.four_points.now c.args.p d =
     record {
       first = b;
       lawful = lawful;
       none = c.requires.none;
       on = c.requires.goes_on;
       is = c.play.ensures.played;
-      makers = c.requires.makers;
+      four_points = c.requires.four_points;
     } in
     search rules
 
@@ -191,89 +191,95 @@ search_on-returns-then-rules_out-clause-found g t c =
     ruled-out g.R.Rule.KIND b c.requires.lawful c.args.threat c.requires.threat c.args.moves c.args.budget c.requires.none c.requires.some
     c.requires.some_budget (c.rules_out.ensures.out c.if-rules_out.true)
 
-pub try_makers-try_point-requires : goal.try_makers-try_point-requires
-try_makers-try_point-requires g t c κs within =
+pub try_four_points-try_point-requires : goal.try_four_points-try_point-requires
+try_four_points-try_point-requires g t c κs within =
     let b : Grid = g.V.Seen.position c.args.view.now in
-    let d : Grid = g.V.Seen.position c.loop-maker.view in
-    let i : ℕ = c.loop-maker.maker-index in
-    let none : Maker = record { at = record { x = 0; y = 0 }; made = None } in
-    let m : Maker = get_or c.args.makers.now i none in
-    let each = each-maker g.R.Rule.KIND b c.requires.lawful c.args.makers.now i none c.requires.makers c.loop-maker-test.true in
-    let same : d ≡ b = c.loop-maker.invariant.same in
+    let d : Grid = g.V.Seen.position c.loop-four_point.view in
+    let i : ℕ = c.loop-four_point.four_point-index in
+    let none : FourPoint = record { at = record { x = 0; y = 0 }; made = None } in
+    let m : FourPoint = get_or c.args.four_points.now i none in
+    let each = each-four_point g.R.Rule.KIND b c.requires.lawful c.args.four_points.now i none c.requires.four_points
+    c.loop-four_point-test.true in
+    let same : d ≡ b = c.loop-four_point.invariant.same in
     let some : has_five g.R.Rule.KIND (after d m.at) (mover d) ≡ true =
     ap (λ (w : Grid). has_five g.R.Rule.KIND (after w m.at) (mover w)) same ∙ and_right (is_empty b m.at) _ each.1 in
     let made : m.made ≡ in_short (five_points g.R.Rule.KIND (after d m.at) (mover d)) =
-    ap (λ (x : Maker). x.made) each.0 ∙ sym (ap (λ (w : Grid). in_short (five_points g.R.Rule.KIND (after w m.at) (mover w))) same) in
+    ap (λ (x : FourPoint). x.made) each.0 ∙ sym (ap (λ (w : Grid). in_short (five_points g.R.Rule.KIND (after w m.at) (mover w))) same) in
     let safe : has_five g.R.Rule.KIND (after d m.at) (other (mover d)) ≡ false =
     ap (λ (w : Grid). has_five g.R.Rule.KIND (after w m.at) (other (mover w))) same
     ∙ taken-safe g.R.Rule.KIND b c.requires.lawful c.args.threat c.requires.threat m.at (and_left (is_empty b m.at) _ each.1)
     (sym c.takes.ensures.takes ∙ c.if-takes.true) in
-    let makers : c.args.makers.now ≡ makers_of g.R.Rule.KIND d = c.requires.makers ∙ ap (makers_of g.R.Rule.KIND) (sym same) in
+    let four_points : c.args.four_points.now ≡ four_points_of g.R.Rule.KIND d =
+    c.requires.four_points ∙ ap (four_points_of g.R.Rule.KIND) (sym same) in
     let empty : is_empty d m.at ≡ true = ap (λ (w : Grid). is_empty w m.at) same ∙ and_left (is_empty b m.at) _ each.1 in
     let no_five : has_five g.R.Rule.KIND d (mover d) ≡ false =
     ap (λ (w : Grid). has_five g.R.Rule.KIND w (mover w)) same ∙ c.requires.none in
     search rules
 
-pub try_makers-returns-in_default : goal.try_makers-returns-in_default
-try_makers-returns-in_default g t c =
+pub try_four_points-returns-in_default : goal.try_four_points-returns-in_default
+try_four_points-returns-in_default g t c =
     let b : Grid = g.V.Seen.position c.args.view.now in
-    let i : ℕ = c.loop-maker.maker-index in
-    let none : Maker = record { at = record { x = 0; y = 0 }; made = None } in
-    let m : Maker = get_or c.args.makers.now i none in
-    let next : map (λ x. x.at) (drop i c.args.makers.now) ≡ m.at ∷ map (λ x. x.at) (drop (i + 1) c.args.makers.now) =
-    drop-next c.args.makers.now i none c.loop-maker-test.true in
-    let found : c.in_ok-found.found ≡ found_trying g.R.Rule.KIND (c.args.moves - 1) b m.at c.loop-maker.left =
-    c.in_ok-found.ensures.found ∙ ap (λ (w : Grid). found_trying g.R.Rule.KIND (c.args.moves - 1) w m.at c.loop-maker.left)
-    c.loop-maker.invariant.same in
+    let i : ℕ = c.loop-four_point.four_point-index in
+    let none : FourPoint = record { at = record { x = 0; y = 0 }; made = None } in
+    let m : FourPoint = get_or c.args.four_points.now i none in
+    let next : map (λ x. x.at) (drop i c.args.four_points.now) ≡ m.at ∷ map (λ x. x.at) (drop (i + 1) c.args.four_points.now) =
+    drop-next c.args.four_points.now i none c.loop-four_point-test.true in
+    let found : c.in_ok-found.found ≡ found_trying g.R.Rule.KIND (c.args.moves - 1) b m.at c.loop-four_point.left =
+    c.in_ok-found.ensures.found ∙ ap (λ (w : Grid). found_trying g.R.Rule.KIND (c.args.moves - 1) w m.at c.loop-four_point.left)
+    c.loop-four_point.invariant.same in
     record {
-      found = sym (step-ends g.R.Rule.KIND (c.args.moves - 1) b c.loop-maker.left m.at (map (λ x. x.at) (drop i c.args.makers.now))
-          (map (λ x. x.at) (drop (i + 1) c.args.makers.now)) next c.in_ok-found.found found c.in_default.not-NoWin)
-          ∙ c.loop-maker.invariant.rest
-          ∙ found-makers g.R.Rule.KIND b c.requires.lawful c.args.makers.now c.args.moves c.args.budget c.requires.makers c.requires.none
+      found = sym (step-ends g.R.Rule.KIND (c.args.moves - 1) b c.loop-four_point.left m.at
+          (map (λ x. x.at) (drop i c.args.four_points.now))
+          (map (λ x. x.at) (drop (i + 1) c.args.four_points.now)) next c.in_ok-found.found found c.in_default.not-NoWin)
+          ∙ c.loop-four_point.invariant.rest
+          ∙ found-four_points g.R.Rule.KIND b c.requires.lawful c.args.four_points.now c.args.moves c.args.budget c.requires.four_points
+          c.requires.none
           c.requires.some c.requires.some_budget;
-      same = c.try_point.ensures.same ∙ c.loop-maker.invariant.same;
+      same = c.try_point.ensures.same ∙ c.loop-four_point.invariant.same;
     }
 
-pub try_makers-loop-maker-preserved : goal.try_makers-loop-maker-preserved
-try_makers-loop-maker-preserved g t c =
+pub try_four_points-loop-four_point-preserved : goal.try_four_points-loop-four_point-preserved
+try_four_points-loop-four_point-preserved g t c =
     let b : Grid = g.V.Seen.position c.args.view.now in
-    let i : ℕ = c.loop-maker.maker-index in
-    let none : Maker = record { at = record { x = 0; y = 0 }; made = None } in
-    let m : Maker = get_or c.args.makers.now i none in
-    let next : map (λ x. x.at) (drop i c.args.makers.now) ≡ m.at ∷ map (λ x. x.at) (drop (i + 1) c.args.makers.now) =
-    drop-next c.args.makers.now i none c.loop-maker-test.true in
-    let rest_of : ℕ → Found = λ l. try_all g.R.Rule.KIND (c.args.moves - 1) b l (map (λ x. x.at) (drop (i + 1) c.args.makers.now)) in
+    let i : ℕ = c.loop-four_point.four_point-index in
+    let none : FourPoint = record { at = record { x = 0; y = 0 }; made = None } in
+    let m : FourPoint = get_or c.args.four_points.now i none in
+    let next : map (λ x. x.at) (drop i c.args.four_points.now) ≡ m.at ∷ map (λ x. x.at) (drop (i + 1) c.args.four_points.now) =
+    drop-next c.args.four_points.now i none c.loop-four_point-test.true in
+    let rest_of : ℕ → Found = λ l. try_all g.R.Rule.KIND (c.args.moves - 1) b l (map (λ x. x.at) (drop (i + 1) c.args.four_points.now)) in
     elim c.if-takes.branch [
-      | try_makers-then-takes+in_ok-found+in-NoWin w ↦
-          let found : w.in_ok-found.found ≡ found_trying g.R.Rule.KIND (c.args.moves - 1) b m.at c.loop-maker.left =
-          w.in_ok-found.ensures.found ∙ ap (λ (v : Grid). found_trying g.R.Rule.KIND (c.args.moves - 1) v m.at c.loop-maker.left)
-          c.loop-maker.invariant.same in
+      | try_four_points-then-takes+in_ok-found+in-NoWin w ↦
+          let found : w.in_ok-found.found ≡ found_trying g.R.Rule.KIND (c.args.moves - 1) b m.at c.loop-four_point.left =
+          w.in_ok-found.ensures.found ∙ ap (λ (v : Grid). found_trying g.R.Rule.KIND (c.args.moves - 1) v m.at c.loop-four_point.left)
+          c.loop-four_point.invariant.same in
           record {
-            same = ap g.V.Seen.position w.view-is ∙ w.try_point.ensures.same ∙ c.loop-maker.invariant.same;
+            same = ap g.V.Seen.position w.view-is ∙ w.try_point.ensures.same ∙ c.loop-four_point.invariant.same;
             rest = ap rest_of w.left-is ∙ sym
-                (step-goes_on g.R.Rule.KIND (c.args.moves - 1) b c.loop-maker.left m.at (map (λ x. x.at) (drop i c.args.makers.now))
-                (map (λ x. x.at) (drop (i + 1) c.args.makers.now)) next w.in_ok-found.found found w.in-NoWin.rest w.in-NoWin.is)
-                ∙ c.loop-maker.invariant.rest;
+                (step-goes_on g.R.Rule.KIND (c.args.moves - 1) b c.loop-four_point.left m.at
+                (map (λ x. x.at) (drop i c.args.four_points.now))
+                (map (λ x. x.at) (drop (i + 1) c.args.four_points.now)) next w.in_ok-found.found found w.in-NoWin.rest w.in-NoWin.is)
+                ∙ c.loop-four_point.invariant.rest;
           }
-      | try_makers-else-takes w ↦
+      | try_four_points-else-takes w ↦
           record {
-            same = ap g.V.Seen.position w.view-is ∙ c.loop-maker.invariant.same;
+            same = ap g.V.Seen.position w.view-is ∙ c.loop-four_point.invariant.same;
             rest = ap rest_of w.left-is ∙ sym
-                (step_at g.R.Rule.KIND (c.args.moves - 1) b c.loop-maker.left m.at (map (λ x. x.at) (drop i c.args.makers.now))
-                (map (λ x. x.at) (drop (i + 1) c.args.makers.now)) next (NoWin c.loop-maker.left)
-                (not_taken g.R.Rule.KIND b c.requires.lawful c.args.threat c.requires.threat m.at (c.args.moves - 1) c.loop-maker.left
-                (sym c.takes.ensures.takes ∙ w.if-takes.false))) ∙ c.loop-maker.invariant.rest;
+                (step_at g.R.Rule.KIND (c.args.moves - 1) b c.loop-four_point.left m.at (map (λ x. x.at) (drop i c.args.four_points.now))
+                (map (λ x. x.at) (drop (i + 1) c.args.four_points.now)) next (NoWin c.loop-four_point.left)
+                (not_taken g.R.Rule.KIND b c.requires.lawful c.args.threat c.requires.threat m.at (c.args.moves - 1) c.loop-four_point.left
+                (sym c.takes.ensures.takes ∙ w.if-takes.false))) ∙ c.loop-four_point.invariant.rest;
           }
     ]
 
-pub try_makers-returns-clause-found : goal.try_makers-returns-clause-found
-try_makers-returns-clause-found g t c =
+pub try_four_points-returns-clause-found : goal.try_four_points-returns-clause-found
+try_four_points-returns-clause-found g t c =
     let b : Grid = g.V.Seen.position c.args.view.now in
-    sym (try_all-none g.R.Rule.KIND (c.args.moves - 1) b c.loop-maker.left)
-    ∙ ap (λ (ms : List Maker). try_all g.R.Rule.KIND (c.args.moves - 1) b c.loop-maker.left (map (λ m. m.at) ms))
-    (sym (drop-all c.args.makers.now c.loop-maker.maker-index c.loop-maker-test.false))
-    ∙ c.loop-maker.invariant.rest
-    ∙ found-makers g.R.Rule.KIND b c.requires.lawful c.args.makers.now c.args.moves c.args.budget c.requires.makers c.requires.none
+    sym (try_all-none g.R.Rule.KIND (c.args.moves - 1) b c.loop-four_point.left)
+    ∙ ap (λ (ms : List FourPoint). try_all g.R.Rule.KIND (c.args.moves - 1) b c.loop-four_point.left (map (λ m. m.at) ms))
+    (sym (drop-all c.args.four_points.now c.loop-four_point.four_point-index c.loop-four_point-test.false))
+    ∙ c.loop-four_point.invariant.rest
+    ∙ found-four_points g.R.Rule.KIND b c.requires.lawful c.args.four_points.now c.args.moves c.args.budget c.requires.four_points
+    c.requires.none
     c.requires.some c.requires.some_budget
 
 pub try_point-returns-in-GoesOn : goal.try_point-returns-in-GoesOn

@@ -8,8 +8,8 @@ decreases-remembered g l = 7 * l.moves
 abbrev pub decreases-search_on : goal.decreases-search_on
 decreases-search_on g l = 7 * l.moves + 1
 
-abbrev pub decreases-try_makers : goal.decreases-try_makers
-decreases-try_makers g l = 7 * (l.moves - 1) + 6
+abbrev pub decreases-try_four_points : goal.decreases-try_four_points
+decreases-try_four_points g l = 7 * (l.moves - 1) + 6
 
 abbrev pub decreases-try_point : goal.decreases-try_point
 decreases-try_point g l = 7 * l.moves + 5
@@ -24,9 +24,10 @@ abbrev pub decreases-after_block : goal.decreases-after_block
 decreases-after_block g l = 7 * l.moves + 2
 
 -- the view is as before; the points left give what all points give
-abbrev pub invariant-try_makers-loop-maker : goal.invariant-try_makers-loop-maker
-invariant-try_makers-loop-maker g l = record {
+abbrev pub invariant-try_four_points-loop-four_point : goal.invariant-try_four_points-loop-four_point
+invariant-try_four_points-loop-four_point g l = record {
   same : g.V.Seen.position l.view ≡ g.V.Seen.position l.fn.view;
-  rest : try_all g.R.Rule.KIND (l.moves - 1) (g.V.Seen.position l.fn.view) l.left (map (λ m. m.at) (drop l.maker-index l.makers)) ≡ try_all
-      g.R.Rule.KIND (l.moves - 1) (g.V.Seen.position l.fn.view) (l.budget - 1) (map (λ m. m.at) l.makers);
+  rest : try_all g.R.Rule.KIND (l.moves - 1) (g.V.Seen.position l.fn.view) l.left (map (λ m. m.at) (drop l.four_point-index l.four_points))
+      ≡ try_all
+      g.R.Rule.KIND (l.moves - 1) (g.V.Seen.position l.fn.view) (l.budget - 1) (map (λ m. m.at) l.four_points);
 }

@@ -2,7 +2,7 @@ use Rattle.std.proofs.Common.{sym, subst, ◌∙◌}
 use Rattle.game_rules.proofs.Common.{Grid, mover, other, after}
 use Rattle.row_shapes.specs.declared.fives.FivePoints.{FivePoints}
 use Rattle.row_shapes.proofs.FiveLaws.{one-empty, has_five-none}
-use Rattle.four_search.specs.Makers.{RulesOut}
+use Rattle.four_search.specs.FourPoints.{RulesOut}
 use Rattle.four_search.proofs.search.rules_out.Goals as goal
 
 pub fives_made-requires-clause-empty : goal.fives_made-requires-clause-empty

@@ -17,10 +17,10 @@ returns-in-Five-clause-found g c =
     ap (Win (c.args.budget - 1)) c.new.ensures.empty ∙ found-five g.R.Rule.KIND c.args.moves c.args.budget b five c.requires.some
     (omega (arith, fits))
 
-pub try_makers-requires : goal.try_makers-requires
-try_makers-requires g c =
+pub try_four_points-requires : goal.try_four_points-requires
+try_four_points-requires g c =
     let b : Grid = g.V.Seen.position c.args.view.now in
-    let root : TellsNoFive g.R.Rule.KIND b c.in-NoFive.threat c.in-NoFive.makers.items =
+    let root : TellsNoFive g.R.Rule.KIND b c.in-NoFive.threat c.in-NoFive.four_points.items =
     subst (TellsRoot g.R.Rule.KIND b) c.in-NoFive.is c.requires.root in
     let some : 0 < c.args.budget = let more = c.if-budget-eq0.false in omega (arith, more) in
     record {
@@ -29,5 +29,5 @@ try_makers-requires g c =
       some_budget = some;
       none = root.none;
       threat = root.told;
-      makers = c.as_slice.ensures.value ∙ root.listed;
+      four_points = c.as_slice.ensures.value ∙ root.listed;
     }

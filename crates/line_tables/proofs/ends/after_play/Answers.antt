@@ -15,8 +15,8 @@ tell-requires-2 g c = record {
       c.args.side _ _ c.requires.own false;
 }
 
-pub tell_ends-requires-clause-told : goal.tell_ends-requires-clause-told
-tell_ends-requires-clause-told g c = came_own g.R.Rule.KIND c.args.codes.now c.args.side c.args.p c.board.ensures.sound c.requires.stone _ _
+pub set_ends-requires-clause-told : goal.set_ends-requires-clause-told
+set_ends-requires-clause-told g c = came_own g.R.Rule.KIND c.args.codes.now c.args.side c.args.p c.board.ensures.sound c.requires.stone _ _
     _ _ c.requires.own c.tell-2.ensures.told c.tell-2.ensures.room
 
 pub returns-clause-others : goal.returns-clause-others

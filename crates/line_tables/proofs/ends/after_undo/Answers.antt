@@ -17,8 +17,8 @@ tell-requires-2 g c = record {
       c.args.side _ _ c.requires.own c.five-2.result;
 }
 
-pub tell_ends-requires-clause-told : goal.tell_ends-requires-clause-told
-tell_ends-requires-clause-told g c =
+pub set_ends-requires-clause-told : goal.set_ends-requires-clause-told
+set_ends-requires-clause-told g c =
     let told : c.tell-2.new.self.points.items ≡ with_told c.args.p (five g.R.Rule.KIND c.args.codes.now c.args.side c.args.p)
     c.args.own.now.points.items =
     c.tell-2.ensures.told ∙ ap (λ v. with_told c.args.p v c.args.own.now.points.items) c.five-2.ensures.five in

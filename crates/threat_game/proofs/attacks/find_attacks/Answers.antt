@@ -7,7 +7,7 @@ use Rattle.game_rules.proofs.Common.{Grid, points_of, mover, other, five_points,
 use Rattle.game_rules.specs.declared.Side.{Side}
 use Rattle.row_shapes.specs.FivePoints.{in_short}
 use Rattle.row_shapes.proofs.FiveLaws.{has_five-none, none-short}
-use Rattle.threat_game.specs.declared.doubles.Double.{Double}
+use Rattle.threat_game.specs.declared.doubles.DoublePoint.{DoublePoint}
 use Rattle.threat_game.specs.NearDoubles.{makes_two, points_of_two}
 use Rattle.threat_game.proofs.attacks.find_attacks.Goals as goal
 
@@ -30,7 +30,7 @@ returns-in-None-clause-standing g c = λ safe stands.
     let rule = g.R.Rule.KIND in
     let b : Grid = g.V.Seen.position c.args.view.now in
     let none : list_any (λ p. goes_on (outcome rule b p)) c.as_slice.result.now ≡ false =
-    subst (λ (found : Option Double). IfNone found (list_any (λ p. goes_on (outcome rule b p)) c.as_slice.result.now ≡ false))
+    subst (λ (found : Option DoublePoint). IfNone found (list_any (λ p. goes_on (outcome rule b p)) c.as_slice.result.now ≡ false))
     c.in-None-2.is c.in_ok-double.ensures.none in
     let twos : c.as_slice.result.now ≡ points_of_two rule b (mover b) = c.as_slice.ensures.items ∙ c.in_ok-twos.ensures.twos in
     absurd (true≢false (sym stands ∙ ap (list_any (λ p. goes_on (outcome rule b p))) (sym twos) ∙ none))

@@ -7,7 +7,7 @@ use Rattle.game_rules.specs.Play.{mover}
 use Rattle.game_rules.specs.declared.Side.{Side}
 use Rattle.game_rules.specs.declared.Point.{Point}
 use Rattle.game_rules.proofs.Positions.{GoesOn-empty}
-use Rattle.threat_game.specs.declared.doubles.Double.{Double}
+use Rattle.threat_game.specs.declared.doubles.DoublePoint.{DoublePoint}
 use Rattle.threat_game.specs.NearDoubles.{makes_two}
 use Rattle.threat_game.proofs.attacks.find_double.Goals as goal
 
@@ -19,7 +19,8 @@ double_at-requires g c =
     record { empty = ap (λ (w : Grid). is_empty w p) (c.loop-p.invariant.1 ∙ c.requires.copy ∙ sym c.loop-p.invariant.0) ∙ here }
 
 -- where a stone leaves two, a double point is told
-is_told : {E : Type 0} (r : Result (Option Double) E) (makes other : Bool) → makes ≡ true → IfOk r (λ found. IfNone found (makes ≡ false))
+is_told : {E : Type 0} (r : Result (Option DoublePoint) E) (makes other : Bool) → makes ≡ true
+    → IfOk r (λ found. IfNone found (makes ≡ false))
     → IfOk r (λ found. IfNone found (other ≡ false))
 is_told (Err e) makes other two told = told
 is_told (Ok (Some d)) makes other two told = told

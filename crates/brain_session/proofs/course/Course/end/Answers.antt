@@ -1,9 +1,0 @@
-use Rattle.brain_session.specs.States.{board_after}
-use Rattle.brain_session.proofs.Courses.{ends-empty}
-use Rattle.brain_session.proofs.course.Course.end.Goals as goal
-
-pub play-requires : goal.play-requires
-play-requires c = record {
-  empty = ends-empty c.args.self.now.kind (board_after c.args.played.now.start c.args.played.now.moves) c.args.p
-      c.requires.ends;
-}
