@@ -18,7 +18,7 @@ use crate::SearchError;
 use crate::memory::FourMemory;
 use crate::plan::compile;
 use crate::root::look;
-use crate::search::{Found, search};
+use crate::search::{Found, Limits, search};
 use foul_judge::Seen;
 use row_shapes::Rule;
 use std::alloc::{AllocError, Global};
@@ -182,7 +182,11 @@ fn seek<R: Rule, V: Seen<R>>(
     let mut before = 0;
     for done in 0..depth {
         let moves = done + 1;
-        match search::<R, V>(alloc, view, &root, moves, left, memory)? {
+        let limits = Limits {
+            moves,
+            budget: left,
+        };
+        match search::<R, V>(view, &root, limits, memory)? {
             Found::Spent => return Ok(Sought::Spent),
             Found::NoWin { left: rest } => {
                 let looked = left - rest;

@@ -34,6 +34,7 @@ const COUNTS_BEFORE: u32 = 64;
 /// count as value. All that stands in it is true at every lawful position with its key, which is an invariant of the type.
 #[derive(Drop)]
 pub struct FourMemory<R: Rule> {
+    alloc: Global,
     table: LateTable,
     rule: PhantomData<R>,
 }
@@ -59,9 +60,15 @@ impl<R: Rule> FourMemory<R> {
         } }
     {
         FourMemory {
+            alloc,
             table: LateTable::new(alloc, MEMORY_ENTRIES, LEAST_COUNT, COUNTS_BEFORE),
             rule: PhantomData,
         }
+    }
+
+    /// Where its searches take memory.
+    pub(crate) fn alloc(&self) -> Global {
+        self.alloc
     }
 
     /// How many positions it takes to find no win by fours within so many moves, if the board is remembered and a look pays.

@@ -16,7 +16,7 @@ ghost use Rattle.four_search.specs.Searching.{four_line, line_behind};
 ghost use Rattle.four_search.specs.Plans.{four_plan, answers_for};
 
 use crate::SearchError;
-use crate::search::{has_fouls, no_five_outcome};
+use crate::search::{Exchange, has_fouls, no_five_outcome};
 use foul_judge::{Outcome, Seen};
 use row_shapes::Rule;
 use std::alloc::{AllocError, Global};
@@ -83,9 +83,10 @@ fn compile_four<R: Rule, V: Seen<R>>(
         BlockAnswer::Lost => unreachable!(),
         BlockAnswer::Draw(_) => unreachable!(),
         BlockAnswer::Won => compile_won::<R, V>(alloc, view, p, moves, compiler),
-        BlockAnswer::One(block) => compile_one::<R, V>(
-            alloc, view, p, block, moves, line, compiler,
-        ),
+        BlockAnswer::One(block) => {
+            let exchange = Exchange { four: p, block };
+            compile_one::<R, V>(alloc, view, exchange, moves, line, compiler)
+        }
     }
 }
 
@@ -94,17 +95,16 @@ fn compile_four<R: Rule, V: Seen<R>>(
 fn compile_one<R: Rule, V: Seen<R>>(
     alloc: Global,
     view: &mut V,
-    p: Point,
-    block: Point,
+    exchange: Exchange,
     moves: u32,
     line: &[Point],
     compiler: &mut Compiler,
 ) -> Result<u32, SearchError>
     requires lawful { IsPosition R.KIND (V.position view.old) }
     requires five { has_five R.KIND (V.position view.old) (mover (V.position view.old)) ≡ false }
-    requires chosen { four_move R.KIND moves (V.position view.old) ≡ Some p }
-    requires one { fate_lem R.KIND (after (V.position view.old) p) ≡ BlockAnswer.One block }
-    requires line { line.now ≡ four_line R.KIND (moves - 1) (after (after (V.position view.old) p) block) }
+    requires chosen { four_move R.KIND moves (V.position view.old) ≡ Some exchange.four }
+    requires one { fate_lem R.KIND (after (V.position view.old) exchange.four) ≡ BlockAnswer.One exchange.block }
+    requires line { line.now ≡ four_line R.KIND (moves - 1) (after (after (V.position view.old) exchange.four) exchange.block) }
     ensures stands { IfOk result (λ node. StandsFor compiler.new node (four_plan R.KIND moves (V.position view.old))) }
     ensures in_compiler { IfOk result (λ node. node < length compiler.new) }
     ensures same { V.position view.new ≡ V.position view.old }
@@ -112,36 +112,36 @@ fn compile_one<R: Rule, V: Seen<R>>(
 {
     // This law tells that the nodes that are added change no tree.
     growth_keeps_trees();
-    let at_block = compile_after::<R, V>(alloc, view, p, block, moves - 1, line, compiler)?;
-    let beside = compiler.leaf(block)?;
-    block_node::<R, V>(alloc, view, p, block, at_block, beside, compiler)
+    let at_block = compile_after::<R, V>(alloc, view, exchange, moves - 1, line, compiler)?;
+    let beside = compiler.leaf(exchange.block)?;
+    block_node::<R, V>(alloc, view, exchange, at_block, beside, compiler)
 }
 
-/// Compiles the plan of the position after `p` and the block, both of which go on.
+/// Compiles the plan of the position after a four and its block, both of which go on.
 #[cycle(plan)]
 fn compile_after<R: Rule, V: Seen<R>>(
     alloc: Global,
     view: &mut V,
-    p: Point,
-    block: Point,
+    exchange: Exchange,
     moves: u32,
     line: &[Point],
     compiler: &mut Compiler,
 ) -> Result<u32, SearchError>
-    requires goes_on { outcome_lem R.KIND (V.position view.old) p ≡ Outcome.GoesOn }
-    requires block { outcome_lem R.KIND (after (V.position view.old) p) block ≡ Outcome.GoesOn }
-    requires wins { wins_by_fours R.KIND moves (after (after (V.position view.old) p) block) ≡ true }
-    requires line { line.now ≡ four_line R.KIND moves (after (after (V.position view.old) p) block) }
-    ensures stands { IfOk result (λ node. StandsFor compiler.new node (four_plan R.KIND moves (after (after (V.position view.old) p) block))) }
+    requires goes_on { outcome_lem R.KIND (V.position view.old) exchange.four ≡ Outcome.GoesOn }
+    requires block { outcome_lem R.KIND (after (V.position view.old) exchange.four) exchange.block ≡ Outcome.GoesOn }
+    requires wins { wins_by_fours R.KIND moves (after (after (V.position view.old) exchange.four) exchange.block) ≡ true }
+    requires line { line.now ≡ four_line R.KIND moves (after (after (V.position view.old) exchange.four) exchange.block) }
+    ensures stands { IfOk result (λ node. StandsFor compiler.new node
+        (four_plan R.KIND moves (after (after (V.position view.old) exchange.four) exchange.block))) }
     ensures in_compiler { IfOk result (λ node. node < length compiler.new) }
     ensures same { V.position view.new ≡ V.position view.old }
     ensures writes { Writes compiler.old compiler.new (2 * moves) result }
 {
-    view.play(p);
-    view.play(block);
+    view.play(exchange.four);
+    view.play(exchange.block);
     let node = compile::<R, V>(alloc, view, moves, line, compiler);
-    view.undo(block);
-    view.undo(p);
+    view.undo(exchange.block);
+    view.undo(exchange.four);
     node
 }
 
@@ -175,12 +175,20 @@ fn compile_won<R: Rule, V: Seen<R>>(
         [] => unreachable!(),
         [block] => {
             let beside = compiler.leaf(*block)?;
-            block_node::<R, V>(alloc, view, p, *block, beside, beside, compiler)
+            let exchange = Exchange {
+                four: p,
+                block: *block,
+            };
+            block_node::<R, V>(alloc, view, exchange, beside, beside, compiler)
         }
         [first, second, ..] => {
             let beside = compiler.leaf(*first)?;
             let at_first = compiler.leaf(*second)?;
-            block_node::<R, V>(alloc, view, p, *first, at_first, beside, compiler)
+            let exchange = Exchange {
+                four: p,
+                block: *first,
+            };
+            block_node::<R, V>(alloc, view, exchange, at_first, beside, compiler)
         }
     }
 }
@@ -202,34 +210,35 @@ fn fives_after<R: Rule, V: Seen<R>>(
     points
 }
 
-/// The node that plays `p` and has one answer to the block, and another to each other reply that goes on. The defender has no five
-/// point after it.
+/// The node that plays the four and has one answer to the block, and another to each other reply that goes on. The defender has no
+/// five point after it.
 fn block_node<R: Rule, V: Seen<R>>(
     alloc: Global,
     view: &mut V,
-    p: Point,
-    block: Point,
+    exchange: Exchange,
     at_block: u32,
     beside: u32,
     compiler: &mut Compiler,
 ) -> Result<u32, SearchError>
-    requires goes_on { outcome_lem R.KIND (V.position view.old) p ≡ Outcome.GoesOn }
-    requires safe { has_five R.KIND (after (V.position view.old) p) (mover (after (V.position view.old) p)) ≡ false }
+    requires goes_on { outcome_lem R.KIND (V.position view.old) exchange.four ≡ Outcome.GoesOn }
+    requires safe { has_five R.KIND (after (V.position view.old) exchange.four) (mover (after (V.position view.old) exchange.four)) ≡ false }
     requires at_block_below { at_block < length compiler.old }
     requires beside_below { beside < length compiler.old }
     ensures stands { IfOk result (λ node. (branches : Branches)
-        → AnswersBranches compiler.old (answers_for (outcome_lem R.KIND (after (V.position view.old) p)) (answer_node_lem block at_block beside) (points_of (V.position view.old))) branches
-        → StandsFor compiler.new node (Fork p branches)) }
+        → AnswersBranches compiler.old (answers_for (outcome_lem R.KIND (after (V.position view.old) exchange.four))
+        (answer_node_lem exchange.block at_block beside) (points_of (V.position view.old))) branches
+        → StandsFor compiler.new node (Fork exchange.four branches)) }
     ensures in_compiler { IfOk result (λ node. node < length compiler.new) }
     ensures same { V.position view.new ≡ V.position view.old }
     ensures writes { Writes compiler.old compiler.new 1 result }
 {
-    view.play(p);
+    let Exchange { four, block } = exchange;
+    view.play(four);
     let found = answers::<R, V>(alloc, view, block, at_block, beside);
-    view.undo(p);
+    view.undo(four);
     match found {
         Err(_) => Err(SearchError::Memory),
-        Ok(answers) => compiler.fork(p, answers.as_slice()),
+        Ok(answers) => compiler.fork(four, answers.as_slice()),
     }
 }
 

@@ -24,13 +24,27 @@ use crate::memory::FourMemory;
 use crate::root::Root;
 use foul_judge::{Outcome, Seen};
 use row_shapes::{Rule, takes};
-use std::alloc::{AllocError, Global};
+use std::alloc::AllocError;
 use stone_board::{Point, Points, Side};
 use threat_moves::{BlockAnswer, FivePoints, by_block};
 
 /// The least number of points that make a five point with which a position is looked up. Where fewer than three fours stand apart,
 /// fewer positions are searched than are kept.
 const LEAST_FOUR_POINTS: usize = 6;
+
+/// What a search may use: so many moves of the attacker, and so many positions to look at.
+#[derive(Clone, Copy)]
+pub(crate) struct Limits {
+    pub(crate) moves: u32,
+    pub(crate) budget: u64,
+}
+
+/// A four, and the one block that answers it.
+#[derive(Clone, Copy)]
+pub(crate) struct Exchange {
+    pub(crate) four: Point,
+    pub(crate) block: Point,
+}
 
 /// What a search within some moves finds, and how much of the budget it leaves.
 #[derive(Drop)]
@@ -47,119 +61,96 @@ pub(crate) enum Found {
 /// Searches a win by fours within so many moves, at least 1, with at most `budget` positions. The first position is looked at
 /// already. The view is as before, also where memory ran out.
 pub(crate) fn search<R: Rule, V: Seen<R>>(
-    alloc: Global,
     view: &mut V,
     root: &Root,
-    moves: u32,
-    budget: u64,
+    limits: Limits,
     memory: &mut FourMemory<R>,
 ) -> Result<Found, AllocError>
-    requires some { 0 < moves }
+    requires some { 0 < limits.moves }
     requires lawful { IsPosition R.KIND (V.position view.old) }
     requires root { TellsRoot R.KIND (V.position view.old) root.now }
-    ensures found { IfOk result (λ found. found ≡ found_at R.KIND moves (V.position view.old) budget) }
+    ensures found { IfOk result (λ found. found ≡ found_at R.KIND limits.moves (V.position view.old) limits.budget) }
     ensures same { V.position view.new ≡ V.position view.old }
 {
-    if budget == 0 {
+    if limits.budget == 0 {
         return Ok(Found::Spent);
     }
     match root {
         Root::Five => Ok(Found::Win {
-            left: budget - 1,
-            line: Points::new(alloc),
+            left: limits.budget - 1,
+            line: Points::new(memory.alloc()),
         }),
         Root::NoFive {
             threat,
             four_points,
-        } => try_four_points::<R, V>(
-            alloc,
-            view,
-            *threat,
-            four_points.as_slice(),
-            moves,
-            budget,
-            memory,
-        ),
+        } => try_four_points::<R, V>(view, *threat, four_points.as_slice(), limits, memory),
     }
 }
 
 /// Searches a position that comes after a four and its block. The attacker has no five point, the defender's are known in short, and
-/// the budget is not spent. The points are known that made a five point before the last two moves, the attacker's `last` and the
-/// reply to it. Only a position with fours enough is looked up.
+/// the budget is not spent. The points are known that made a five point before the four and its block. Only a position with fours
+/// enough is looked up.
 #[cycle(search)]
 fn search_on<R: Rule, V: Seen<R>>(
-    alloc: Global,
     view: &mut V,
-    moves: u32,
-    budget: u64,
     threat: FivePoints,
     before: &[FourPoint],
-    last: Point,
-    reply: Point,
+    exchange: Exchange,
+    limits: Limits,
     memory: &mut FourMemory<R>,
 ) -> Result<Found, AllocError>
-    requires some { 0 < moves }
+    requires some { 0 < limits.moves }
     requires lawful { IsPosition R.KIND (V.position view.old) }
-    requires some_budget { 0 < budget }
+    requires some_budget { 0 < limits.budget }
     requires none { has_five_lem R.KIND (V.position view.old) (mover (V.position view.old)) ≡ false }
     requires threat { threat ≡ in_short (five_points R.KIND (V.position view.old) (other_lem (mover (V.position view.old)))) }
-    requires before { AfterReply R.KIND before.now last reply (V.position view.old) }
-    ensures found { IfOk result (λ found. found ≡ found_at R.KIND moves (V.position view.old) budget) }
+    requires before { AfterReply R.KIND before.now exchange.four exchange.block (V.position view.old) }
+    ensures found { IfOk result (λ found. found ≡ found_at R.KIND limits.moves (V.position view.old) limits.budget) }
     ensures same { V.position view.new ≡ V.position view.old }
 {
     if rules_out::<R, V>(view, threat) {
-        return Ok(Found::NoWin { left: budget - 1 });
+        return Ok(Found::NoWin {
+            left: limits.budget - 1,
+        });
     }
-    let four_points = next_four_points::<R, V>(alloc, view, before, last, reply)?;
-    if four_points.len() < LEAST_FOUR_POINTS || !matches!(threat, FivePoints::None) {
-        return try_four_points::<R, V>(
-            alloc,
-            view,
-            threat,
-            four_points.as_slice(),
-            moves,
-            budget,
-            memory,
-        );
-    }
-    remembered::<R, V>(
-        alloc,
+    let four_points = next_four_points::<R, V>(
+        memory.alloc(),
         view,
-        threat,
-        four_points.as_slice(),
-        moves,
-        budget,
-        memory,
-    )
+        before,
+        exchange.four,
+        exchange.block,
+    )?;
+    if four_points.len() < LEAST_FOUR_POINTS || !matches!(threat, FivePoints::None) {
+        return try_four_points::<R, V>(view, threat, four_points.as_slice(), limits, memory);
+    }
+    remembered::<R, V>(view, threat, four_points.as_slice(), limits, memory)
 }
 
 /// Takes what is remembered of a position within as many moves, or searches it. The points are known that make a five point. Without
 /// memory to remember it the search goes on.
 #[cycle(search)]
 fn remembered<R: Rule, V: Seen<R>>(
-    alloc: Global,
     view: &mut V,
     threat: FivePoints,
     four_points: &[FourPoint],
-    moves: u32,
-    budget: u64,
+    limits: Limits,
     memory: &mut FourMemory<R>,
 ) -> Result<Found, AllocError>
-    requires some { 0 < moves }
+    requires some { 0 < limits.moves }
     requires lawful { IsPosition R.KIND (V.position view.old) }
-    requires some_budget { 0 < budget }
+    requires some_budget { 0 < limits.budget }
     requires none { has_five_lem R.KIND (V.position view.old) (mover (V.position view.old)) ≡ false }
     requires threat { threat ≡ in_short (five_points R.KIND (V.position view.old) (other_lem (mover (V.position view.old)))) }
     requires four_points { four_points.now ≡ four_points_of R.KIND (V.position view.old) }
-    ensures found { IfOk result (λ found. found ≡ found_at R.KIND moves (V.position view.old) budget) }
+    ensures found { IfOk result (λ found. found ≡ found_at R.KIND limits.moves (V.position view.old) limits.budget) }
     ensures same { V.position view.new ≡ V.position view.old }
 {
-    if let Some(count) = memory.find(view.board(), moves) {
-        return Ok(without_win(count, budget));
+    if let Some(count) = memory.find(view.board(), limits.moves) {
+        return Ok(without_win(count, limits.budget));
     }
-    match try_four_points::<R, V>(alloc, view, threat, four_points, moves, budget, memory)? {
+    match try_four_points::<R, V>(view, threat, four_points, limits, memory)? {
         Found::NoWin { left } => {
-            let _ = memory.keep(view.board(), moves, budget - left);
+            let _ = memory.keep(view.board(), limits.moves, limits.budget - left);
             Ok(Found::NoWin { left })
         }
         other => Ok(other),
@@ -195,37 +186,29 @@ fn rules_out<R: Rule, V: Seen<R>>(view: &V, threat: FivePoints) -> bool
 /// The same where the points are known that make a five point: of these each is tried that leaves the defender none.
 #[cycle(search)]
 fn try_four_points<R: Rule, V: Seen<R>>(
-    alloc: Global,
     view: &mut V,
     threat: FivePoints,
     four_points: &[FourPoint],
-    moves: u32,
-    budget: u64,
+    limits: Limits,
     memory: &mut FourMemory<R>,
 ) -> Result<Found, AllocError>
-    requires some { 0 < moves }
+    requires some { 0 < limits.moves }
     requires lawful { IsPosition R.KIND (V.position view.old) }
-    requires some_budget { 0 < budget }
+    requires some_budget { 0 < limits.budget }
     requires none { has_five_lem R.KIND (V.position view.old) (mover (V.position view.old)) ≡ false }
     requires threat { threat ≡ in_short (five_points R.KIND (V.position view.old) (other_lem (mover (V.position view.old)))) }
     requires four_points { four_points.now ≡ four_points_of R.KIND (V.position view.old) }
-    ensures found { IfOk result (λ found. found ≡ found_at R.KIND moves (V.position view.old) budget) }
+    ensures found { IfOk result (λ found. found ≡ found_at R.KIND limits.moves (V.position view.old) limits.budget) }
     ensures same { V.position view.new ≡ V.position view.old }
 {
-    let mut left = budget - 1;
+    let mut left = limits.budget - 1;
     for four_point in four_points {
-        let p = four_point.at;
-        if takes(threat, p) {
-            match try_point::<R, V>(
-                alloc,
-                view,
-                p,
-                four_point.made,
-                four_points,
-                moves - 1,
-                left,
-                memory,
-            )? {
+        if takes(threat, four_point.at) {
+            let later = Limits {
+                moves: limits.moves - 1,
+                budget: left,
+            };
+            match try_point::<R, V>(view, *four_point, four_points, later, memory)? {
                 Found::NoWin { left: rest } => left = rest,
                 found => return Ok(found),
             }
@@ -234,89 +217,83 @@ fn try_four_points<R: Rule, V: Seen<R>>(
     Ok(Found::NoWin { left })
 }
 
-/// Searches behind the move `p`, if it is a four move, where the attacker has so many moves after it. It makes these five
-/// points. The attacker has no five point before it, and the defender none after it.
+/// Searches behind a point that makes a five point, if a four move is there, where the attacker has so many moves after it. The
+/// attacker has no five point before it, and the defender none after it.
 #[cycle(search)]
 fn try_point<R: Rule, V: Seen<R>>(
-    alloc: Global,
     view: &mut V,
-    p: Point,
-    made: FivePoints,
+    four: FourPoint,
     four_points: &[FourPoint],
-    moves: u32,
-    budget: u64,
+    limits: Limits,
     memory: &mut FourMemory<R>,
 ) -> Result<Found, AllocError>
-    requires empty { IsTrue (is_empty (V.position view.old) p) }
+    requires empty { IsTrue (is_empty (V.position view.old) four.at) }
     requires none { has_five_lem R.KIND (V.position view.old) (mover (V.position view.old)) ≡ false }
-    requires some { has_five_lem R.KIND (after (V.position view.old) p) (mover (V.position view.old)) ≡ true }
-    requires made { made ≡ in_short (five_points R.KIND (after (V.position view.old) p) (mover (V.position view.old))) }
-    requires safe { has_five_lem R.KIND (after (V.position view.old) p) (other_lem (mover (V.position view.old))) ≡ false }
+    requires some { has_five_lem R.KIND (after (V.position view.old) four.at) (mover (V.position view.old)) ≡ true }
+    requires made { four.made ≡ in_short (five_points R.KIND (after (V.position view.old) four.at) (mover (V.position view.old))) }
+    requires safe { has_five_lem R.KIND (after (V.position view.old) four.at) (other_lem (mover (V.position view.old))) ≡ false }
     requires four_points { four_points.now ≡ four_points_of R.KIND (V.position view.old) }
-    ensures found { IfOk result (λ found. found ≡ found_trying R.KIND moves (V.position view.old) p budget) }
+    ensures found { IfOk result (λ found. found ≡ found_trying R.KIND limits.moves (V.position view.old) four.at limits.budget) }
     ensures same { V.position view.new ≡ V.position view.old }
 {
-    match no_five_outcome::<R, V>(view, p) {
-        Outcome::GoesOn => behind::<R, V>(alloc, view, p, made, four_points, moves, budget, memory),
-        _ => Ok(Found::NoWin { left: budget }),
+    match no_five_outcome::<R, V>(view, four.at) {
+        Outcome::GoesOn => behind::<R, V>(view, four, four_points, limits, memory),
+        _ => Ok(Found::NoWin {
+            left: limits.budget,
+        }),
     }
 }
 
-/// Searches behind the four move `p`, which makes these five points, where the attacker has so many more moves.
+/// Searches behind a four move, where the attacker has so many more moves.
 #[cycle(search)]
 fn behind<R: Rule, V: Seen<R>>(
-    alloc: Global,
     view: &mut V,
-    p: Point,
-    made: FivePoints,
+    four: FourPoint,
     four_points: &[FourPoint],
-    moves: u32,
-    budget: u64,
+    limits: Limits,
     memory: &mut FourMemory<R>,
 ) -> Result<Found, AllocError>
-    requires goes_on { outcome R.KIND (V.position view.old) p ≡ Outcome.GoesOn }
+    requires goes_on { outcome R.KIND (V.position view.old) four.at ≡ Outcome.GoesOn }
     requires none { has_five_lem R.KIND (V.position view.old) (mover (V.position view.old)) ≡ false }
-    requires made { made ≡ in_short (five_points R.KIND (after (V.position view.old) p) (mover (V.position view.old))) }
-    requires safe { has_five_lem R.KIND (after (V.position view.old) p) (other_lem (mover (V.position view.old))) ≡ false }
+    requires made { four.made ≡ in_short (five_points R.KIND (after (V.position view.old) four.at) (mover (V.position view.old))) }
+    requires safe { has_five_lem R.KIND (after (V.position view.old) four.at) (other_lem (mover (V.position view.old))) ≡ false }
     requires four_points { four_points.now ≡ four_points_of R.KIND (V.position view.old) }
-    ensures found { IfOk result (λ found. found ≡ found_behind R.KIND moves (V.position view.old) p budget) }
+    ensures found { IfOk result (λ found. found ≡ found_behind R.KIND limits.moves (V.position view.old) four.at limits.budget) }
     ensures same { V.position view.new ≡ V.position view.old }
 {
-    view.play(p);
-    let found = answering::<R, V>(alloc, view, p, made, four_points, moves, budget, memory);
-    view.undo(p);
+    view.play(four.at);
+    let found = answering::<R, V>(view, four, four_points, limits, memory);
+    view.undo(four.at);
     match found? {
-        Found::Win { left, line } => win_by(p, line, left),
+        Found::Win { left, line } => win_by(four.at, line, left),
         found => Ok(found),
     }
 }
 
-/// Searches after the four `p`, where the attacker has so many more moves: the defender is to move and has no five point,
-/// and the attacker has these.
+/// Searches after a four, where the attacker has so many more moves: the defender is to move and has no five point, and the attacker
+/// has those that the four made.
 #[cycle(search)]
 fn answering<R: Rule, V: Seen<R>>(
-    alloc: Global,
     view: &mut V,
-    p: Point,
-    made: FivePoints,
+    four: FourPoint,
     four_points: &[FourPoint],
-    moves: u32,
-    budget: u64,
+    limits: Limits,
     memory: &mut FourMemory<R>,
 ) -> Result<Found, AllocError>
-    requires made { made ≡ in_short (five_points R.KIND (V.position view.old) (other_lem (mover (V.position view.old)))) }
+    requires made { four.made ≡ in_short (five_points R.KIND (V.position view.old) (other_lem (mover (V.position view.old)))) }
     requires safe { has_five_lem R.KIND (V.position view.old) (mover (V.position view.old)) ≡ false }
-    requires four_points { AfterFour R.KIND four_points.now p (V.position view.old) }
-    ensures found { IfOk result (λ found. found ≡ found_answering R.KIND moves (V.position view.old) budget) }
+    requires four_points { AfterFour R.KIND four_points.now four.at (V.position view.old) }
+    ensures found { IfOk result (λ found. found ≡ found_answering R.KIND limits.moves (V.position view.old) limits.budget) }
     ensures same { V.position view.new ≡ V.position view.old }
 {
-    match fate::<R, V>(view, made) {
+    let Limits { moves, budget } = limits;
+    match fate::<R, V>(view, four.made) {
         BlockAnswer::Lost | BlockAnswer::Draw(_) => Ok(Found::NoWin { left: budget }),
         BlockAnswer::Won => {
             if won_within::<R, V>(view, moves) {
                 Ok(Found::Win {
                     left: budget,
-                    line: Points::new(alloc),
+                    line: Points::new(memory.alloc()),
                 })
             } else {
                 Ok(Found::NoWin { left: budget })
@@ -326,53 +303,46 @@ fn answering<R: Rule, V: Seen<R>>(
             if moves == 0 {
                 Ok(Found::NoWin { left: budget })
             } else {
-                after_block::<R, V>(alloc, view, p, block, four_points, moves, budget, memory)
+                let exchange = Exchange {
+                    four: four.at,
+                    block,
+                };
+                after_block::<R, V>(view, exchange, four_points, limits, memory)
             }
         }
     }
 }
 
-/// Searches after the one block of the four `p`, which goes on. A last move can win only where the defender may foul.
+/// Searches after the one block of a four, which goes on. A last move can win only where the defender may foul.
 #[cycle(search)]
 fn after_block<R: Rule, V: Seen<R>>(
-    alloc: Global,
     view: &mut V,
-    p: Point,
-    block: Point,
+    exchange: Exchange,
     four_points: &[FourPoint],
-    moves: u32,
-    budget: u64,
+    limits: Limits,
     memory: &mut FourMemory<R>,
 ) -> Result<Found, AllocError>
-    requires goes_on { outcome R.KIND (V.position view.old) block ≡ Outcome.GoesOn }
-    requires one { in_short (five_points R.KIND (V.position view.old) (other_lem (mover (V.position view.old)))) ≡ FivePoints.One block }
+    requires goes_on { outcome R.KIND (V.position view.old) exchange.block ≡ Outcome.GoesOn }
+    requires one { in_short (five_points R.KIND (V.position view.old) (other_lem (mover (V.position view.old)))) ≡ FivePoints.One exchange.block }
     requires safe { has_five_lem R.KIND (V.position view.old) (mover (V.position view.old)) ≡ false }
-    requires four_points { AfterFour R.KIND four_points.now p (V.position view.old) }
-    requires some { 0 < moves }
-    ensures found { IfOk result (λ found. found ≡ found_at R.KIND moves (after (V.position view.old) block) budget) }
+    requires four_points { AfterFour R.KIND four_points.now exchange.four (V.position view.old) }
+    requires some { 0 < limits.moves }
+    ensures found { IfOk result (λ found. found ≡ found_at R.KIND limits.moves (after (V.position view.old) exchange.block) limits.budget) }
     ensures same { V.position view.new ≡ V.position view.old }
 {
-    if budget == 0 {
+    if limits.budget == 0 {
         return Ok(Found::Spent);
     }
     let defender = view.side();
-    if moves == 1 && !has_fouls::<R>(defender) {
-        return Ok(Found::NoWin { left: budget - 1 });
+    if limits.moves == 1 && !has_fouls::<R>(defender) {
+        return Ok(Found::NoWin {
+            left: limits.budget - 1,
+        });
     }
-    let threat = view.fives_made(block);
-    view.play(block);
-    let found = search_on::<R, V>(
-        alloc,
-        view,
-        moves,
-        budget,
-        threat,
-        four_points,
-        p,
-        block,
-        memory,
-    );
-    view.undo(block);
+    let threat = view.fives_made(exchange.block);
+    view.play(exchange.block);
+    let found = search_on::<R, V>(view, threat, four_points, exchange, limits, memory);
+    view.undo(exchange.block);
     found
 }
 

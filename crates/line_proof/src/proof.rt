@@ -38,6 +38,24 @@ pub enum LineAnswer {
     Fails,
 }
 
+/// What is left of a line: the threats whose gains are still to come, within so many moves of the attacker.
+#[derive(Clone, Copy)]
+struct Line<'a> {
+    /// Where its answers take memory.
+    alloc: Global,
+    threats: &'a [Threat],
+    moves: u32,
+}
+
+/// What won after an earlier reply, or may do so: it is tried before a search.
+#[derive(Clone, Copy)]
+struct Hints {
+    /// A five point that the attacker had before the replies.
+    five: Option<Point>,
+    /// A double threat that was compiled.
+    double: Option<DoubleThreat>,
+}
+
 /// Proves that the side to move wins along the gains of these threats within `depth` moves, 1 to `MAX_DEPTH`, whatever the
 /// replies. At each position two continuous fours come first, then the least five point of the other side, and then the
 /// next gain.
@@ -66,34 +84,41 @@ pub fn prove_line<R: Rule, V: Seen<R>>(
 {
     // This tells what holds of every compiler.
     compiler.len();
-    prove::<R, V>(alloc, view, sequence.as_slice(), depth, compiler)
+    let whole = Line {
+        alloc,
+        threats: sequence.as_slice(),
+        moves: depth,
+    };
+    prove::<R, V>(view, whole, compiler)
 }
 
-/// The same of these threats, within so many moves, none included.
+/// The same of a line of any number of moves, none included.
 #[cycle(line)]
 fn prove<R: Rule, V: Seen<R>>(
-    alloc: Global,
     view: &mut V,
-    threats: &[Threat],
-    moves: u32,
+    line: Line,
     compiler: &mut Compiler,
 ) -> Result<LineAnswer, SearchError>
-    requires fits { moves ≤ MAX_DEPTH }
+    requires fits { line.moves ≤ MAX_DEPTH }
     requires compiled { IsCompiled compiler.old }
-    ensures proved { IfOk result (λ a. OnProved a (IsWrittenWin R.KIND moves (V.position view.old) compiler.new)) }
-    ensures wins { IfOk result (λ a. is_proved a ≡ line_wins R.KIND threats.now moves (V.position view.old)) }
-    ensures writes { Writes compiler.old compiler.new (line_tree R.KIND threats.now moves (V.position view.old)) result }
+    ensures proved { IfOk result (λ a. OnProved a (IsWrittenWin R.KIND line.entry.moves (V.position view.old) compiler.new)) }
+    ensures wins { IfOk result (λ a. is_proved a ≡ line_wins R.KIND line.entry.threats.now line.entry.moves (V.position view.old)) }
+    ensures writes { Writes compiler.old compiler.new (line_tree R.KIND line.entry.threats.now line.entry.moves (V.position view.old)) result }
     ensures same { V.position view.new ≡ V.position view.old }
 {
-    if moves == 0 {
+    if line.moves == 0 {
         return Ok(LineAnswer::Fails);
     }
-    if let Some(win) = quick_win::<R, V>(alloc, view, moves, compiler)? {
+    if let Some(win) = quick_win::<R, V>(line.alloc, view, line.moves, compiler)? {
         return Ok(LineAnswer::Proved(win));
     }
-    match block::<R, V>(alloc, view)? {
-        Some(block) => prove_move::<R, V>(alloc, view, block, threats, moves - 1, compiler),
-        None => prove_gain::<R, V>(alloc, view, threats, moves - 1, compiler),
+    let later = Line {
+        moves: line.moves - 1,
+        ..line
+    };
+    match block::<R, V>(line.alloc, view)? {
+        Some(block) => prove_move::<R, V>(view, block, later, compiler),
+        None => prove_gain::<R, V>(view, later, compiler),
     }
 }
 
@@ -136,58 +161,52 @@ fn block<R: Rule, V: Seen<R>>(alloc: Global, view: &V) -> Result<Option<Point>, 
     }
 }
 
-/// Proves the line that begins with the first gain, where the attacker has so many more moves after it.
+/// Proves the line that begins with the first gain, where the attacker has as many more moves after it.
 #[cycle(line)]
 fn prove_gain<R: Rule, V: Seen<R>>(
-    alloc: Global,
     view: &mut V,
-    threats: &[Threat],
-    moves: u32,
+    line: Line,
     compiler: &mut Compiler,
 ) -> Result<LineAnswer, SearchError>
-    requires fits { moves < MAX_DEPTH }
+    requires fits { line.moves < MAX_DEPTH }
     requires compiled { IsCompiled compiler.old }
-    ensures proved { IfOk result (λ a. OnProved a (IsWrittenWin R.KIND (suc moves) (V.position view.old) compiler.new)) }
+    ensures proved { IfOk result (λ a. OnProved a (IsWrittenWin R.KIND (suc line.entry.moves) (V.position view.old) compiler.new)) }
     ensures wins { IfOk result (λ a. is_proved a
-        ≡ move_wins R.KIND (V.position view.old) (λ ts. line_wins R.KIND ts moves) (first_gain threats.now)) }
+        ≡ move_wins R.KIND (V.position view.old) (λ ts. line_wins R.KIND ts line.entry.moves) (first_gain line.entry.threats.now)) }
     ensures writes { Writes compiler.old compiler.new
-        (1 + behind_line_move R.KIND (V.position view.old) (λ ts. line_tree R.KIND ts moves) (first_gain threats.now)) result }
+        (1 + behind_line_move R.KIND (V.position view.old) (λ ts. line_tree R.KIND ts line.entry.moves)
+        (first_gain line.entry.threats.now)) result }
     ensures same { V.position view.new ≡ V.position view.old }
 {
-    match threats.split_first() {
+    match line.threats.split_first() {
         None => Ok(LineAnswer::Fails),
-        Some((threat, later)) => prove_move::<R, V>(
-            alloc,
-            view,
-            threat.gain,
-            later,
-            moves,
-            compiler,
-        ),
+        Some((threat, threats)) => {
+            let later = Line { threats, ..line };
+            prove_move::<R, V>(view, threat.gain, later, compiler)
+        }
     }
 }
 
-/// Proves the line that begins with the move `p`, where the attacker has so many more moves after it and these threats.
+/// Proves the move `p` with the line behind it.
 #[cycle(line)]
 fn prove_move<R: Rule, V: Seen<R>>(
-    alloc: Global,
     view: &mut V,
     p: Point,
-    threats: &[Threat],
-    moves: u32,
+    line: Line,
     compiler: &mut Compiler,
 ) -> Result<LineAnswer, SearchError>
-    requires fits { moves < MAX_DEPTH }
+    requires fits { line.moves < MAX_DEPTH }
     requires compiled { IsCompiled compiler.old }
-    ensures proved { IfOk result (λ a. OnProved a (IsWrittenWin R.KIND (suc moves) (V.position view.old) compiler.new)) }
+    ensures proved { IfOk result (λ a. OnProved a (IsWrittenWin R.KIND (suc line.entry.moves) (V.position view.old) compiler.new)) }
     ensures wins { IfOk result (λ a. is_proved a
-        ≡ move_wins R.KIND (V.position view.old) (λ ts. line_wins R.KIND ts moves) (Some (p, threats.now))) }
+        ≡ move_wins R.KIND (V.position view.old) (λ ts. line_wins R.KIND ts line.entry.moves) (Some (p, line.entry.threats.now))) }
     ensures writes { Writes compiler.old compiler.new
-        (1 + behind_line_move R.KIND (V.position view.old) (λ ts. line_tree R.KIND ts moves) (Some (p, threats.now))) result }
+        (1 + behind_line_move R.KIND (V.position view.old) (λ ts. line_tree R.KIND ts line.entry.moves)
+        (Some (p, line.entry.threats.now))) result }
     ensures same { V.position view.new ≡ V.position view.old }
 {
     match view.outcome(p) {
-        Outcome::GoesOn => prove_on::<R, V>(alloc, view, p, threats, moves, compiler),
+        Outcome::GoesOn => prove_on::<R, V>(view, p, line, compiler),
         _ => Ok(LineAnswer::Fails),
     }
 }
@@ -195,25 +214,23 @@ fn prove_move<R: Rule, V: Seen<R>>(
 /// The same where the move goes on.
 #[cycle(line)]
 fn prove_on<R: Rule, V: Seen<R>>(
-    alloc: Global,
     view: &mut V,
     p: Point,
-    threats: &[Threat],
-    moves: u32,
+    line: Line,
     compiler: &mut Compiler,
 ) -> Result<LineAnswer, SearchError>
-    requires fits { moves < MAX_DEPTH }
+    requires fits { line.moves < MAX_DEPTH }
     requires goes_on { outcome_lem R.KIND (V.position view.old) p ≡ Outcome.GoesOn }
     requires compiled { IsCompiled compiler.old }
-    ensures proved { IfOk result (λ a. OnProved a (IsWrittenWin R.KIND (suc moves) (V.position view.old) compiler.new)) }
+    ensures proved { IfOk result (λ a. OnProved a (IsWrittenWin R.KIND (suc line.entry.moves) (V.position view.old) compiler.new)) }
     ensures wins { IfOk result (λ a. is_proved a
-        ≡ each_loses R.KIND (after (V.position view.old) p) (line_wins R.KIND threats.now moves)) }
+        ≡ each_loses R.KIND (after (V.position view.old) p) (line_wins R.KIND line.entry.threats.now line.entry.moves)) }
     ensures writes { Writes compiler.old compiler.new
-        (1 + behind_replies R.KIND (line_tree R.KIND threats.now moves) (after (V.position view.old) p)) result }
+        (1 + behind_replies R.KIND (line_tree R.KIND line.entry.threats.now line.entry.moves) (after (V.position view.old) p)) result }
     ensures same { V.position view.new ≡ V.position view.old }
 {
     view.play(p);
-    let found = answer_each::<R, V>(alloc, view, threats, moves, compiler);
+    let found = answer_each::<R, V>(view, line, compiler);
     view.undo(p);
     match found? {
         None => Ok(LineAnswer::Fails),
@@ -222,20 +239,19 @@ fn prove_on<R: Rule, V: Seen<R>>(
 }
 
 /// The answers to the replies at a position where the other side is to move, if each reply that is a move fouls or goes on
-/// to a position that is won along these threats within so many moves.
+/// to a position that is won along the line.
 #[cycle(line)]
 fn answer_each<R: Rule, V: Seen<R>>(
-    alloc: Global,
     view: &mut V,
-    threats: &[Threat],
-    moves: u32,
+    line: Line,
     compiler: &mut Compiler,
 ) -> Result<Option<Answering>, SearchError>
-    requires fits { moves < MAX_DEPTH }
+    requires fits { line.moves < MAX_DEPTH }
     requires compiled { IsCompiled compiler.old }
-    ensures found { IfOk result (λ found. FindsAnswers R.KIND moves compiler.new (V.position view.old)
-        (each_loses R.KIND (V.position view.old) (line_wins R.KIND threats.now moves)) found) }
-    ensures writes { Writes compiler.old compiler.new (behind_replies R.KIND (line_tree R.KIND threats.now moves) (V.position view.old)) result }
+    ensures found { IfOk result (λ found. FindsAnswers R.KIND line.entry.moves compiler.new (V.position view.old)
+        (each_loses R.KIND (V.position view.old) (line_wins R.KIND line.entry.threats.now line.entry.moves)) found) }
+    ensures writes { Writes compiler.old compiler.new
+        (behind_replies R.KIND (line_tree R.KIND line.entry.threats.now line.entry.moves) (V.position view.old)) result }
     ensures same { V.position view.new ≡ V.position view.old }
 {
     let defender = view.side();
@@ -243,23 +259,15 @@ fn answer_each<R: Rule, V: Seen<R>>(
         return Ok(None);
     }
     let mut answers = Answering {
-        replies: Vec::new(alloc),
+        replies: Vec::new(line.alloc),
         moves: 0,
     };
-    let five = block::<R, V>(alloc, view)?;
-    let mut hint = None;
+    let mut hints = Hints {
+        five: block::<R, V>(line.alloc, view)?,
+        double: None,
+    };
     for q in view.board().points() {
-        if !answer_reply::<R, V>(
-            alloc,
-            view,
-            q,
-            threats,
-            moves,
-            five,
-            &mut hint,
-            &mut answers,
-            compiler,
-        )? {
+        if !answer_reply::<R, V>(view, q, line, &mut hints, &mut answers, compiler)? {
             return Ok(None);
         }
     }
@@ -269,36 +277,35 @@ fn answer_each<R: Rule, V: Seen<R>>(
 /// Whether the reply `q` is no move, fouls, or goes on to a position that is won. To one that goes on the answer is added.
 #[cycle(line)]
 fn answer_reply<R: Rule, V: Seen<R>>(
-    alloc: Global,
     view: &mut V,
     q: Point,
-    threats: &[Threat],
-    moves: u32,
-    five: Option<Point>,
-    hint: &mut Option<DoubleThreat>,
+    line: Line,
+    hints: &mut Hints,
     answers: &mut Answering,
     compiler: &mut Compiler,
 ) -> Result<bool, SearchError>
-    requires fits { moves < MAX_DEPTH }
+    requires fits { line.moves < MAX_DEPTH }
     requires compiled { IsCompiled compiler.old }
-    requires hint { IfSome hint.old (IsDouble (V.position view.old).width (V.position view.old).height compiler.old) }
-    requires answers { AreAnswers R.KIND moves compiler.old (V.position view.old) answers.old }
+    requires hint { IfSome hints.old.double (IsDouble (V.position view.old).width (V.position view.old).height compiler.old) }
+    requires answers { AreAnswers R.KIND line.moves compiler.old (V.position view.old) answers.old }
     ensures loses { IfOk result (λ loses. loses
-        ≡ loses_or (outcome_lem R.KIND (V.position view.old) q) (line_wins R.KIND threats.now moves (after (V.position view.old) q))) }
+        ≡ loses_or (outcome_lem R.KIND (V.position view.old) q)
+        (line_wins R.KIND line.entry.threats.now line.entry.moves (after (V.position view.old) q))) }
     ensures answers { IfOk result (λ loses. loses ≡ true
-        → AreAnswers R.KIND moves compiler.new (V.position view.old) answers.new) }
+        → AreAnswers R.KIND line.entry.moves compiler.new (V.position view.old) answers.new) }
     ensures added { IfOk result (λ loses. loses ≡ true
         → answered answers.new ≡ answered answers.old ++ going_on R.KIND (V.position view.old) (q ∷ [])) }
-    ensures hint { OnOk result (IfSome hint.new (IsDouble (V.position view.old).width (V.position view.old).height compiler.new)) }
+    ensures hint { OnOk result (IfSome hints.new.double (IsDouble (V.position view.old).width (V.position view.old).height compiler.new)) }
     ensures writes { Writes compiler.old compiler.new
-        (if_goes_on (outcome_lem R.KIND (V.position view.old) q) (line_tree R.KIND threats.now moves (after (V.position view.old) q))) result }
+        (if_goes_on (outcome_lem R.KIND (V.position view.old) q)
+        (line_tree R.KIND line.entry.threats.now line.entry.moves (after (V.position view.old) q))) result }
     ensures same { V.position view.new ≡ V.position view.old }
 {
     match view.outcome(q) {
         Outcome::Refused | Outcome::Fouls(_) => Ok(true),
         Outcome::Wins | Outcome::Draws => Ok(false),
         Outcome::GoesOn => {
-            match prove_after::<R, V>(alloc, view, q, threats, moves, five, hint, compiler)? {
+            match prove_after::<R, V>(view, q, line, hints, compiler)? {
                 LineAnswer::Fails => Ok(false),
                 LineAnswer::Proved(win) => {
                     add(answers, q, win)?;
@@ -312,27 +319,25 @@ fn answer_reply<R: Rule, V: Seen<R>>(
 /// Proves the line at the position after the reply `q`, which goes on.
 #[cycle(line)]
 fn prove_after<R: Rule, V: Seen<R>>(
-    alloc: Global,
     view: &mut V,
     q: Point,
-    threats: &[Threat],
-    moves: u32,
-    five: Option<Point>,
-    hint: &mut Option<DoubleThreat>,
+    line: Line,
+    hints: &mut Hints,
     compiler: &mut Compiler,
 ) -> Result<LineAnswer, SearchError>
-    requires fits { moves ≤ MAX_DEPTH }
+    requires fits { line.moves ≤ MAX_DEPTH }
     requires goes_on { outcome_lem R.KIND (V.position view.old) q ≡ Outcome.GoesOn }
     requires compiled { IsCompiled compiler.old }
-    requires hint { IfSome hint.old (IsDouble (V.position view.old).width (V.position view.old).height compiler.old) }
-    ensures proved { IfOk result (λ a. OnProved a (IsWrittenWin R.KIND moves (after (V.position view.old) q) compiler.new)) }
-    ensures wins { IfOk result (λ a. is_proved a ≡ line_wins R.KIND threats.now moves (after (V.position view.old) q)) }
-    ensures hint { OnOk result (IfSome hint.new (IsDouble (V.position view.old).width (V.position view.old).height compiler.new)) }
-    ensures writes { Writes compiler.old compiler.new (line_tree R.KIND threats.now moves (after (V.position view.old) q)) result }
+    requires hint { IfSome hints.old.double (IsDouble (V.position view.old).width (V.position view.old).height compiler.old) }
+    ensures proved { IfOk result (λ a. OnProved a (IsWrittenWin R.KIND line.entry.moves (after (V.position view.old) q) compiler.new)) }
+    ensures wins { IfOk result (λ a. is_proved a ≡ line_wins R.KIND line.entry.threats.now line.entry.moves (after (V.position view.old) q)) }
+    ensures hint { OnOk result (IfSome hints.new.double (IsDouble (V.position view.old).width (V.position view.old).height compiler.new)) }
+    ensures writes { Writes compiler.old compiler.new
+        (line_tree R.KIND line.entry.threats.now line.entry.moves (after (V.position view.old) q)) result }
     ensures same { V.position view.new ≡ V.position view.old }
 {
     view.play(q);
-    let found = prove_reply::<R, V>(alloc, view, threats, moves, five, hint, compiler);
+    let found = prove_reply::<R, V>(view, line, hints, compiler);
     view.undo(q);
     found
 }
@@ -340,56 +345,51 @@ fn prove_after<R: Rule, V: Seen<R>>(
 /// The same at that position. The five point that the attacker had before the reply is tried first.
 #[cycle(line)]
 fn prove_reply<R: Rule, V: Seen<R>>(
-    alloc: Global,
     view: &mut V,
-    threats: &[Threat],
-    moves: u32,
-    five: Option<Point>,
-    hint: &mut Option<DoubleThreat>,
+    line: Line,
+    hints: &mut Hints,
     compiler: &mut Compiler,
 ) -> Result<LineAnswer, SearchError>
-    requires fits { moves ≤ MAX_DEPTH }
+    requires fits { line.moves ≤ MAX_DEPTH }
     requires compiled { IsCompiled compiler.old }
-    requires hint { IfSome hint.old (IsDouble (V.position view.old).width (V.position view.old).height compiler.old) }
-    ensures proved { IfOk result (λ a. OnProved a (IsWrittenWin R.KIND moves (V.position view.old) compiler.new)) }
-    ensures wins { IfOk result (λ a. is_proved a ≡ line_wins R.KIND threats.now moves (V.position view.old)) }
-    ensures hint { OnOk result (IfSome hint.new (IsDouble (V.position view.old).width (V.position view.old).height compiler.new)) }
-    ensures writes { Writes compiler.old compiler.new (line_tree R.KIND threats.now moves (V.position view.old)) result }
+    requires hint { IfSome hints.old.double (IsDouble (V.position view.old).width (V.position view.old).height compiler.old) }
+    ensures proved { IfOk result (λ a. OnProved a (IsWrittenWin R.KIND line.entry.moves (V.position view.old) compiler.new)) }
+    ensures wins { IfOk result (λ a. is_proved a ≡ line_wins R.KIND line.entry.threats.now line.entry.moves (V.position view.old)) }
+    ensures hint { OnOk result (IfSome hints.new.double (IsDouble (V.position view.old).width (V.position view.old).height compiler.new)) }
+    ensures writes { Writes compiler.old compiler.new (line_tree R.KIND line.entry.threats.now line.entry.moves (V.position view.old)) result }
     ensures same { V.position view.new ≡ V.position view.old }
 {
-    if moves == 0 {
-        return prove::<R, V>(alloc, view, threats, moves, compiler);
+    if line.moves == 0 {
+        return prove::<R, V>(view, line, compiler);
     }
-    match five_win::<R, V>(view, five, compiler)? {
+    match five_win::<R, V>(view, hints.five, compiler)? {
         Some(win) => Ok(LineAnswer::Proved(win)),
-        None => prove_double::<R, V>(alloc, view, threats, moves, hint, compiler),
+        None => prove_double::<R, V>(view, line, hints, compiler),
     }
 }
 
 /// The same where that point is no five point. A double threat that won after an earlier reply is tried before a search.
 #[cycle(line)]
 fn prove_double<R: Rule, V: Seen<R>>(
-    alloc: Global,
     view: &mut V,
-    threats: &[Threat],
-    moves: u32,
-    hint: &mut Option<DoubleThreat>,
+    line: Line,
+    hints: &mut Hints,
     compiler: &mut Compiler,
 ) -> Result<LineAnswer, SearchError>
-    requires fits { moves ≤ MAX_DEPTH }
+    requires fits { line.moves ≤ MAX_DEPTH }
     requires compiled { IsCompiled compiler.old }
-    requires hint { IfSome hint.old (IsDouble (V.position view.old).width (V.position view.old).height compiler.old) }
-    ensures proved { IfOk result (λ a. OnProved a (IsWrittenWin R.KIND moves (V.position view.old) compiler.new)) }
-    ensures wins { IfOk result (λ a. is_proved a ≡ line_wins R.KIND threats.now moves (V.position view.old)) }
-    ensures hint { OnOk result (IfSome hint.new (IsDouble (V.position view.old).width (V.position view.old).height compiler.new)) }
-    ensures writes { Writes compiler.old compiler.new (line_tree R.KIND threats.now moves (V.position view.old)) result }
+    requires hint { IfSome hints.old.double (IsDouble (V.position view.old).width (V.position view.old).height compiler.old) }
+    ensures proved { IfOk result (λ a. OnProved a (IsWrittenWin R.KIND line.entry.moves (V.position view.old) compiler.new)) }
+    ensures wins { IfOk result (λ a. is_proved a ≡ line_wins R.KIND line.entry.threats.now line.entry.moves (V.position view.old)) }
+    ensures hint { OnOk result (IfSome hints.new.double (IsDouble (V.position view.old).width (V.position view.old).height compiler.new)) }
+    ensures writes { Writes compiler.old compiler.new (line_tree R.KIND line.entry.threats.now line.entry.moves (V.position view.old)) result }
     ensures same { V.position view.new ≡ V.position view.old }
 {
-    if moves < 2 {
-        return prove::<R, V>(alloc, view, threats, moves, compiler);
+    if line.moves < 2 {
+        return prove::<R, V>(view, line, compiler);
     }
-    match double_win::<R, V>(alloc, view, hint, compiler)? {
+    match double_win::<R, V>(line.alloc, view, &mut hints.double, compiler)? {
         Some(win) => Ok(LineAnswer::Proved(win)),
-        None => prove::<R, V>(alloc, view, threats, moves, compiler),
+        None => prove::<R, V>(view, line, compiler),
     }
 }

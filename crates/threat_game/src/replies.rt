@@ -219,6 +219,17 @@ fn doubles_for<R: Rule>(
     Ok(Vec::new(alloc))
 }
 
+/// What is known before the replies.
+#[derive(Clone, Copy)]
+struct Known<'a> {
+    /// Whether it is known that each move on an empty point goes on.
+    free: bool,
+    /// The five points of the attacker.
+    fives: &'a Points,
+    /// Some of its double points.
+    doubles: &'a [Kept],
+}
+
 /// What is judged of each reply, where the attacker has these five points and these double points before it.
 fn each_reply<R: Rule, V: Seen<R>>(
     alloc: Global,
@@ -242,9 +253,13 @@ fn each_reply<R: Rule, V: Seen<R>>(
     ensures same_board { board.new ≡ board.old }
 {
     let mut all = Vec::new(alloc);
-    let free = each_goes_on::<R, V>(view);
+    let known = Known {
+        free: each_goes_on::<R, V>(view),
+        fives,
+        doubles,
+    };
     for q in view.board().points() {
-        match judge::<R, V>(alloc, view, board, free, q, moves, fives, doubles)? {
+        match judge::<R, V>(alloc, view, board, known, q, moves)? {
             Judgement::NoReply => {}
             Judgement::Escape => return Ok(None),
             Judgement::Known(judged) => all.push(Child { at: q, judged })?,
@@ -264,36 +279,33 @@ fn counted(judged: Judged) -> u64
     }
 }
 
-/// What is known of the point `q` as a reply, where before it the attacker has these five points and these double points. It may be
-/// told that each move on an empty point goes on.
+/// What is judged of the point `q` as a reply, where this is known before it.
 fn judge<R: Rule, V: Seen<R>>(
     alloc: Global,
     view: &mut V,
     board: &mut Board,
-    free: bool,
+    known: Known,
     q: Point,
     moves: u32,
-    fives: &Points,
-    doubles: &[Kept],
 ) -> Result<Judgement, AllocError>
     requires lawful { IsPosition R.KIND (V.position view.old) }
-    requires each { IsTrue free → EachGoesOn R.KIND (V.position view.old) }
+    requires each { IsTrue known.free → EachGoesOn R.KIND (V.position view.old) }
     requires some_moves { 1 ≤ moves }
     requires no_five { has_five_lem R.KIND (V.position view.old) (mover (V.position view.old)) ≡ false }
     requires copy { board.old ≡ V.position view.old }
-    requires fives { fives.now ≡ five_points_lem R.KIND (V.position view.old) (other (mover (V.position view.old))) }
-    requires doubles { All (IsKept R.KIND (V.position view.old) (other (mover (V.position view.old)))) doubles.now }
+    requires fives { known.fives.now ≡ five_points_lem R.KIND (V.position view.old) (other (mover (V.position view.old))) }
+    requires doubles { All (IsKept R.KIND (V.position view.old) (other (mover (V.position view.old)))) known.doubles.now }
     ensures judgement { IfOk result (IsJudgement R.KIND moves (V.position view.old) q) }
     ensures early { IfOk result (λ judgement. IfEscape judgement (moves ≤ 2)) }
     ensures same { V.position view.new ≡ V.position view.old }
     ensures same_board { board.new ≡ board.old }
 {
-    if !goes_on_where::<R, V>(view, free, q) {
+    if !goes_on_where::<R, V>(view, known.free, q) {
         return Ok(Judgement::NoReply);
     }
-    match five_beside(fives, q) {
+    match five_beside(known.fives, q) {
         Some(five) => Ok(Judgement::Known(Judged::Five(five))),
-        None => judge_quiet::<R, V>(alloc, view, board, q, moves, doubles),
+        None => judge_quiet::<R, V>(alloc, view, board, q, moves, known.doubles),
     }
 }
 

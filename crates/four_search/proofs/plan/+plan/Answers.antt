@@ -13,45 +13,48 @@ use Rattle.four_search.proofs.plan.+plan.Goals as goal
 pub compile_after-undo-requires-clause-stone : goal.compile_after-undo-requires-clause-stone
 compile_after-undo-requires-clause-stone g t c =
     let b : Grid = g.V.Seen.position c.args.view.now in
-    let lawful : IsPosition g.R.Rule.KIND (after b c.args.p) =
-    IsPosition-after g.R.Rule.KIND b c.args.p c.play.ensures.lawful c.requires.goes_on in
-    stone_back g.R.Rule.KIND (after b c.args.p) _ c.args.block lawful c.requires.block
-    (c.compile-node.ensures.same ∙ c.play-2.ensures.played ∙ ap (λ (w : Grid). after w c.args.block) c.play.ensures.played)
+    let lawful : IsPosition g.R.Rule.KIND (after b c.args.exchange.four) =
+    IsPosition-after g.R.Rule.KIND b c.args.exchange.four c.play.ensures.lawful c.requires.goes_on in
+    stone_back g.R.Rule.KIND (after b c.args.exchange.four) _ c.args.exchange.block lawful c.requires.block
+    (c.compile-node.ensures.same ∙ c.play-2.ensures.played ∙ ap (λ (w : Grid). after w c.args.exchange.block) c.play.ensures.played)
 
 pub compile_after-undo-requires-clause-unwon : goal.compile_after-undo-requires-clause-unwon
 compile_after-undo-requires-clause-unwon g t c =
     let b : Grid = g.V.Seen.position c.args.view.now in
-    let lawful : IsPosition g.R.Rule.KIND (after b c.args.p) =
-    IsPosition-after g.R.Rule.KIND b c.args.p c.play.ensures.lawful c.requires.goes_on in
-    unwon_back g.R.Rule.KIND (after b c.args.p) _ c.args.block lawful c.requires.block
-    (c.compile-node.ensures.same ∙ c.play-2.ensures.played ∙ ap (λ (w : Grid). after w c.args.block) c.play.ensures.played)
+    let lawful : IsPosition g.R.Rule.KIND (after b c.args.exchange.four) =
+    IsPosition-after g.R.Rule.KIND b c.args.exchange.four c.play.ensures.lawful c.requires.goes_on in
+    unwon_back g.R.Rule.KIND (after b c.args.exchange.four) _ c.args.exchange.block lawful c.requires.block
+    (c.compile-node.ensures.same ∙ c.play-2.ensures.played ∙ ap (λ (w : Grid). after w c.args.exchange.block) c.play.ensures.played)
 
 pub compile_after-undo-requires-2-clause-stone : goal.compile_after-undo-requires-2-clause-stone
 compile_after-undo-requires-2-clause-stone g t c =
     let b : Grid = g.V.Seen.position c.args.view.now in
-    let lawful : IsPosition g.R.Rule.KIND (after b c.args.p) =
-    IsPosition-after g.R.Rule.KIND b c.args.p c.play.ensures.lawful c.requires.goes_on in
-    let back = c.undo.ensures.undone ∙ lift_back g.R.Rule.KIND (after b c.args.p) _ c.args.block lawful c.requires.block
-    (c.compile-node.ensures.same ∙ c.play-2.ensures.played ∙ ap (λ (w : Grid). after w c.args.block) c.play.ensures.played) in
-    stone_back g.R.Rule.KIND b _ c.args.p c.play.ensures.lawful c.requires.goes_on back
+    let lawful : IsPosition g.R.Rule.KIND (after b c.args.exchange.four) =
+    IsPosition-after g.R.Rule.KIND b c.args.exchange.four c.play.ensures.lawful c.requires.goes_on in
+    let back = c.undo.ensures.undone ∙ lift_back g.R.Rule.KIND (after b c.args.exchange.four) _ c.args.exchange.block lawful
+    c.requires.block
+    (c.compile-node.ensures.same ∙ c.play-2.ensures.played ∙ ap (λ (w : Grid). after w c.args.exchange.block) c.play.ensures.played) in
+    stone_back g.R.Rule.KIND b _ c.args.exchange.four c.play.ensures.lawful c.requires.goes_on back
 
 pub compile_after-undo-requires-2-clause-unwon : goal.compile_after-undo-requires-2-clause-unwon
 compile_after-undo-requires-2-clause-unwon g t c =
     let b : Grid = g.V.Seen.position c.args.view.now in
-    let lawful : IsPosition g.R.Rule.KIND (after b c.args.p) =
-    IsPosition-after g.R.Rule.KIND b c.args.p c.play.ensures.lawful c.requires.goes_on in
-    let back = c.undo.ensures.undone ∙ lift_back g.R.Rule.KIND (after b c.args.p) _ c.args.block lawful c.requires.block
-    (c.compile-node.ensures.same ∙ c.play-2.ensures.played ∙ ap (λ (w : Grid). after w c.args.block) c.play.ensures.played) in
-    unwon_back g.R.Rule.KIND b _ c.args.p c.play.ensures.lawful c.requires.goes_on back
+    let lawful : IsPosition g.R.Rule.KIND (after b c.args.exchange.four) =
+    IsPosition-after g.R.Rule.KIND b c.args.exchange.four c.play.ensures.lawful c.requires.goes_on in
+    let back = c.undo.ensures.undone ∙ lift_back g.R.Rule.KIND (after b c.args.exchange.four) _ c.args.exchange.block lawful
+    c.requires.block
+    (c.compile-node.ensures.same ∙ c.play-2.ensures.played ∙ ap (λ (w : Grid). after w c.args.exchange.block) c.play.ensures.played) in
+    unwon_back g.R.Rule.KIND b _ c.args.exchange.four c.play.ensures.lawful c.requires.goes_on back
 
 pub compile_after-returns-clause-same : goal.compile_after-returns-clause-same
 compile_after-returns-clause-same g t c =
     let b : Grid = g.V.Seen.position c.args.view.now in
-    let lawful : IsPosition g.R.Rule.KIND (after b c.args.p) =
-    IsPosition-after g.R.Rule.KIND b c.args.p c.play.ensures.lawful c.requires.goes_on in
-    let back = c.undo.ensures.undone ∙ lift_back g.R.Rule.KIND (after b c.args.p) _ c.args.block lawful c.requires.block
-    (c.compile-node.ensures.same ∙ c.play-2.ensures.played ∙ ap (λ (w : Grid). after w c.args.block) c.play.ensures.played) in
-    c.undo-2.ensures.undone ∙ lift_back g.R.Rule.KIND b _ c.args.p c.play.ensures.lawful c.requires.goes_on back
+    let lawful : IsPosition g.R.Rule.KIND (after b c.args.exchange.four) =
+    IsPosition-after g.R.Rule.KIND b c.args.exchange.four c.play.ensures.lawful c.requires.goes_on in
+    let back = c.undo.ensures.undone ∙ lift_back g.R.Rule.KIND (after b c.args.exchange.four) _ c.args.exchange.block lawful
+    c.requires.block
+    (c.compile-node.ensures.same ∙ c.play-2.ensures.played ∙ ap (λ (w : Grid). after w c.args.exchange.block) c.play.ensures.played) in
+    c.undo-2.ensures.undone ∙ lift_back g.R.Rule.KIND b _ c.args.exchange.four c.play.ensures.lawful c.requires.goes_on back
 
 pub compile-returns-in-len1-up-clause-stands : goal.compile-returns-in-len1-up-clause-stands
 compile-returns-in-len1-up-clause-stands g t c =
@@ -102,57 +105,64 @@ compile_four-unreachable-requires g t c =
 
 pub compile_one-overflow_sub-moves : goal.compile_one-overflow_sub-moves
 compile_one-overflow_sub-moves g t c =
-    let some = plan-some g.R.Rule.KIND c.args.moves (g.V.Seen.position c.args.view.now) c.args.p c.requires.lawful c.requires.five
+    let some = plan-some g.R.Rule.KIND c.args.moves (g.V.Seen.position c.args.view.now) c.args.exchange.four c.requires.lawful
+    c.requires.five
     c.requires.chosen in
     omega (arith, some)
 
 pub compile_one-compile_after-requires : goal.compile_one-compile_after-requires
 compile_one-compile_after-requires g t c =
     let b : Grid = g.V.Seen.position c.args.view.now in
-    let goes_on = plan-goes_on g.R.Rule.KIND c.args.moves b c.args.p c.requires.lawful c.requires.five c.requires.chosen in
-    let block = plan-block g.R.Rule.KIND c.args.moves b c.args.p c.requires.lawful c.requires.five c.requires.chosen c.args.block
+    let goes_on = plan-goes_on g.R.Rule.KIND c.args.moves b c.args.exchange.four c.requires.lawful c.requires.five c.requires.chosen in
+    let block = plan-block g.R.Rule.KIND c.args.moves b c.args.exchange.four c.requires.lawful c.requires.five c.requires.chosen
+    c.args.exchange.block
     c.requires.one in
-    let both = plan-wins g.R.Rule.KIND c.args.moves b c.args.p c.requires.lawful c.requires.five c.requires.chosen c.args.block
+    let both = plan-wins g.R.Rule.KIND c.args.moves b c.args.exchange.four c.requires.lawful c.requires.five c.requires.chosen
+    c.args.exchange.block
     c.requires.one in
     let wins = both.0 in
     let more = both.1 in
-    let some = plan-some g.R.Rule.KIND c.args.moves b c.args.p c.requires.lawful c.requires.five c.requires.chosen in
+    let some = plan-some g.R.Rule.KIND c.args.moves b c.args.exchange.four c.requires.lawful c.requires.five c.requires.chosen in
     search rules
 
 pub compile_one-returns-in_err-beside-clause-writes : goal.compile_one-returns-in_err-beside-clause-writes
 compile_one-returns-in_err-beside-clause-writes g t c =
-    let some = plan-some g.R.Rule.KIND c.args.moves (g.V.Seen.position c.args.view.now) c.args.p c.requires.lawful c.requires.five
+    let some = plan-some g.R.Rule.KIND c.args.moves (g.V.Seen.position c.args.view.now) c.args.exchange.four c.requires.lawful
+    c.requires.five
     c.requires.chosen in
     writes-then-fails _ _ _ (2 * (c.args.moves - 1)) 1 _ _ _ _ c.in_ok-at_block.ensures.writes c.in_err-beside.ensures.writes
     (omega (arith, some)) (search rules)
 
 pub compile_one-block_node-requires-clause-safe : goal.compile_one-block_node-requires-clause-safe
 compile_one-block_node-requires-clause-safe g t c =
-    ap (λ (w : Grid). has_five g.R.Rule.KIND (after w c.args.p) (mover (after w c.args.p))) c.in_ok-at_block.ensures.same
-    ∙ one-safe g.R.Rule.KIND (after (g.V.Seen.position c.args.view.now) c.args.p) c.args.block c.requires.one
+    ap (λ (w : Grid). has_five g.R.Rule.KIND (after w c.args.exchange.four) (mover (after w c.args.exchange.four)))
+    c.in_ok-at_block.ensures.same
+    ∙ one-safe g.R.Rule.KIND (after (g.V.Seen.position c.args.view.now) c.args.exchange.four) c.args.exchange.block c.requires.one
 
 pub compile_one-block_node-requires-clause-goes_on : goal.compile_one-block_node-requires-clause-goes_on
 compile_one-block_node-requires-clause-goes_on g t c =
     let b : Grid = g.V.Seen.position c.args.view.now in
-    ap (λ (w : Grid). outcome g.R.Rule.KIND w c.args.p) c.in_ok-at_block.ensures.same
-    ∙ plan-goes_on g.R.Rule.KIND c.args.moves b c.args.p c.requires.lawful c.requires.five c.requires.chosen
+    ap (λ (w : Grid). outcome g.R.Rule.KIND w c.args.exchange.four) c.in_ok-at_block.ensures.same
+    ∙ plan-goes_on g.R.Rule.KIND c.args.moves b c.args.exchange.four c.requires.lawful c.requires.five c.requires.chosen
 
 pub compile_one-returns-clause-stands : goal.compile_one-returns-clause-stands
 compile_one-returns-clause-stands g t c =
     let b : Grid = g.V.Seen.position c.args.view.now in
     let d : Grid = g.V.Seen.position c.compile_after.new.view in
-    let both = plan-wins g.R.Rule.KIND c.args.moves b c.args.p c.requires.lawful c.requires.five c.requires.chosen c.args.block
+    let both = plan-wins g.R.Rule.KIND c.args.moves b c.args.exchange.four c.requires.lawful c.requires.five c.requires.chosen
+    c.args.exchange.block
     c.requires.one in
     let at_block = stands-grown c.growth_keeps_trees.ensures.same _ _ 1 c.in_ok-beside.ensures.writes.grows c.in_ok-at_block.at_block _
     c.in_ok-at_block.ensures.stands in
-    plan-one g.R.Rule.KIND c.args.moves b c.args.p c.requires.lawful c.requires.five c.requires.chosen c.leaf.new.self
+    plan-one g.R.Rule.KIND c.args.moves b c.args.exchange.four c.requires.lawful c.requires.five c.requires.chosen c.leaf.new.self
     c.block_node.new.compiler c.block_node.result
-    d c.in_ok-at_block.ensures.same c.args.block c.requires.one both.1 c.in_ok-at_block.at_block c.in_ok-beside.beside at_block
+    d c.in_ok-at_block.ensures.same c.args.exchange.block c.requires.one both.1 c.in_ok-at_block.at_block c.in_ok-beside.beside at_block
     c.in_ok-beside.ensures.stands c.block_node.ensures.stands
 
 pub compile_one-returns-clause-writes : goal.compile_one-returns-clause-writes
 compile_one-returns-clause-writes g t c =
-    let some = plan-some g.R.Rule.KIND c.args.moves (g.V.Seen.position c.args.view.now) c.args.p c.requires.lawful c.requires.five
+    let some = plan-some g.R.Rule.KIND c.args.moves (g.V.Seen.position c.args.view.now) c.args.exchange.four c.requires.lawful
+    c.requires.five
     c.requires.chosen in
     writes-then _ _ _ (2 * (c.args.moves - 1) + 1) 1 _ _ _
     (writes-then _ _ _ (2 * (c.args.moves - 1)) 1

@@ -22,10 +22,11 @@ use Rattle.four_search.proofs.Remembering.{denied-found, found-denied}
 use Rattle.four_search.proofs.search.+search.Goals as goal
 use Rattle.four_search.proofs.search.+search.Goals.{try_four_points-then-takes+in_ok-found+in-NoWin, try_four_points-else-takes}
 
-pub after_block-returns-then-budget-eq0-clause-found :
-    goal.after_block-returns-then-budget-eq0-clause-found
-after_block-returns-then-budget-eq0-clause-found g t c =
-    found-nothing g.R.Rule.KIND c.args.moves c.args.budget (after (g.V.Seen.position c.args.view.now) c.args.block) c.if-budget-eq0.true
+pub after_block-returns-then-limits-eq0-clause-found :
+    goal.after_block-returns-then-limits-eq0-clause-found
+after_block-returns-then-limits-eq0-clause-found g t c =
+    found-nothing g.R.Rule.KIND c.args.limits.moves c.args.limits.budget (after (g.V.Seen.position c.args.view.now) c.args.exchange.block)
+    c.if-limits-eq0.true
 
 pub after_block-returns-then-not-has_fouls-clause-found :
     goal.after_block-returns-then-not-has_fouls-clause-found
@@ -33,47 +34,49 @@ after_block-returns-then-not-has_fouls-clause-found g t c =
     let b : Grid = g.V.Seen.position c.args.view.now in
     let calm : has_fouls g.R.Rule.KIND (mover b) ≡ false =
     ap (has_fouls g.R.Rule.KIND) (sym c.side-defender.ensures.side) ∙ sym c.if-not-has_fouls.ensures.fouls in
-    let fits = c.if-budget-eq0.false in
-    block-last g.R.Rule.KIND b c.args.block c.side-defender.ensures.lawful c.requires.goes_on c.requires.one c.args.moves c.args.budget
-    c.if-moves-eq1.true (omega (arith, fits)) calm
+    let fits = c.if-limits-eq0.false in
+    block-last g.R.Rule.KIND b c.args.exchange.block c.side-defender.ensures.lawful c.requires.goes_on c.requires.one c.args.limits.moves
+    c.args.limits.budget
+    c.if-limits-eq1.true (omega (arith, fits)) calm
 
 pub after_block-fives_made-threat-requires-clause-empty :
     goal.after_block-fives_made-threat-requires-clause-empty
 after_block-fives_made-threat-requires-clause-empty g t c =
-    GoesOn-empty g.R.Rule.KIND (g.V.Seen.position c.args.view.now) c.args.block c.requires.goes_on
+    GoesOn-empty g.R.Rule.KIND (g.V.Seen.position c.args.view.now) c.args.exchange.block c.requires.goes_on
 
 pub after_block-search_on-found-requires : goal.after_block-search_on-found-requires
 after_block-search_on-found-requires g t c κs within =
     let b : Grid = g.V.Seen.position c.args.view.now in
     let lawful : IsPosition g.R.Rule.KIND b = c.side-defender.ensures.lawful in
-    let fits : 0 < c.args.budget = let some = c.if-budget-eq0.false in omega (arith, some) in
+    let fits : 0 < c.args.limits.budget = let some = c.if-limits-eq0.false in omega (arith, some) in
     let none : has_five g.R.Rule.KIND (g.V.Seen.position c.play.new.self) (mover (g.V.Seen.position c.play.new.self)) ≡ false =
     ap (λ (w : Grid). has_five g.R.Rule.KIND w (mover w)) c.play.ensures.played
-    ∙ block-none g.R.Rule.KIND b c.args.block lawful c.requires.goes_on c.requires.one in
+    ∙ block-none g.R.Rule.KIND b c.args.exchange.block lawful c.requires.goes_on c.requires.one in
     let threat : c.fives_made-threat.result ≡ in_short
     (five_points g.R.Rule.KIND (g.V.Seen.position c.play.new.self) (other (mover (g.V.Seen.position c.play.new.self)))) =
-    c.fives_made-threat.ensures.made ∙ block-threat g.R.Rule.KIND b c.args.block lawful c.requires.goes_on c.requires.one
+    c.fives_made-threat.ensures.made ∙ block-threat g.R.Rule.KIND b c.args.exchange.block lawful c.requires.goes_on c.requires.one
     ∙ ap (λ (w : Grid). in_short (five_points g.R.Rule.KIND w (other (mover w)))) (sym c.play.ensures.played) in
-    let before : AfterReply g.R.Rule.KIND c.args.four_points.now c.args.p c.args.block (g.V.Seen.position c.play.new.self) =
+    let before : AfterReply g.R.Rule.KIND c.args.four_points.now c.args.exchange.four c.args.exchange.block
+    (g.V.Seen.position c.play.new.self) =
     record { four = b; from = c.requires.four_points; on = c.requires.goes_on; is = c.play.ensures.played } in
     search rules
 
 pub after_block-undo-requires-clause-stone : goal.after_block-undo-requires-clause-stone
 after_block-undo-requires-clause-stone g t c =
     let b : Grid = g.V.Seen.position c.args.view.now in
-    stone_back g.R.Rule.KIND b _ c.args.block c.side-defender.ensures.lawful c.requires.goes_on
+    stone_back g.R.Rule.KIND b _ c.args.exchange.block c.side-defender.ensures.lawful c.requires.goes_on
     (c.search_on-found.ensures.same ∙ c.play.ensures.played)
 
 pub after_block-undo-requires-clause-unwon : goal.after_block-undo-requires-clause-unwon
 after_block-undo-requires-clause-unwon g t c =
     let b : Grid = g.V.Seen.position c.args.view.now in
-    unwon_back g.R.Rule.KIND b _ c.args.block c.side-defender.ensures.lawful c.requires.goes_on
+    unwon_back g.R.Rule.KIND b _ c.args.exchange.block c.side-defender.ensures.lawful c.requires.goes_on
     (c.search_on-found.ensures.same ∙ c.play.ensures.played)
 
 pub after_block-returns-clause-same : goal.after_block-returns-clause-same
 after_block-returns-clause-same g t c =
     let b : Grid = g.V.Seen.position c.args.view.now in
-    c.undo.ensures.undone ∙ lift_back g.R.Rule.KIND b _ c.args.block c.side-defender.ensures.lawful c.requires.goes_on
+    c.undo.ensures.undone ∙ lift_back g.R.Rule.KIND b _ c.args.exchange.block c.side-defender.ensures.lawful c.requires.goes_on
     (c.search_on-found.ensures.same ∙ c.play.ensures.played)
 
 pub answering-after_block-requires : goal.answering-after_block-requires
@@ -89,9 +92,9 @@ answering-after_block-requires g t c κs within =
     ∙ ap in_short (block-alone g.R.Rule.KIND b c.in-One.block one).1 in
     let safe : has_five g.R.Rule.KIND d (mover d) ≡ false =
     ap (λ (w : Grid). has_five g.R.Rule.KIND w (mover w)) c.fate.ensures.same ∙ c.requires.safe in
-    let some : 0 < c.args.moves = let more = c.if-moves-eq0.false in omega (arith, more) in
+    let some : 0 < c.args.limits.moves = let more = c.if-moves-eq0.false in omega (arith, more) in
     let from = c.requires.four_points in
-    let four_points : AfterFour g.R.Rule.KIND c.args.four_points.now c.args.p d =
+    let four_points : AfterFour g.R.Rule.KIND c.args.four_points.now c.args.four.at d =
     record {
       first = from.first;
       lawful = from.lawful;
@@ -105,7 +108,8 @@ answering-after_block-requires g t c κs within =
 pub answering-returns-then-moves-eq0-clause-found :
     goal.answering-returns-then-moves-eq0-clause-found
 answering-returns-then-moves-eq0-clause-found g t c =
-    answering-no-more g.R.Rule.KIND (g.V.Seen.position c.args.view.now) c.args.budget c.args.moves c.in-One.block c.if-moves-eq0.true
+    answering-no-more g.R.Rule.KIND (g.V.Seen.position c.args.view.now) c.args.limits.budget c.args.limits.moves c.in-One.block
+    c.if-moves-eq0.true
     c.in-One.ensures.fate
 
 pub behind-answering-found-requires : goal.behind-answering-found-requires
@@ -113,15 +117,15 @@ behind-answering-found-requires g t c κs within =
     let b : Grid = g.V.Seen.position c.args.view.now in
     let d : Grid = g.V.Seen.position c.play.new.self in
     let lawful : IsPosition g.R.Rule.KIND b = c.play.ensures.lawful in
-    let made : c.args.made ≡ in_short (five_points g.R.Rule.KIND d (other (mover d))) =
-    c.requires.made ∙ ap (λ s. in_short (five_points g.R.Rule.KIND (after b c.args.p) s))
-    (sym (mover-other g.R.Rule.KIND b c.args.p lawful c.requires.goes_on))
+    let made : c.args.four.made ≡ in_short (five_points g.R.Rule.KIND d (other (mover d))) =
+    c.requires.made ∙ ap (λ s. in_short (five_points g.R.Rule.KIND (after b c.args.four.at) s))
+    (sym (mover-other g.R.Rule.KIND b c.args.four.at lawful c.requires.goes_on))
     ∙ ap (λ (w : Grid). in_short (five_points g.R.Rule.KIND w (other (mover w)))) (sym c.play.ensures.played) in
     let safe : has_five g.R.Rule.KIND d (mover d) ≡ false =
     ap (λ (w : Grid). has_five g.R.Rule.KIND w (mover w)) c.play.ensures.played
-    ∙ ap (has_five g.R.Rule.KIND (after b c.args.p)) (mover-then g.R.Rule.KIND b c.args.p lawful c.requires.goes_on)
+    ∙ ap (has_five g.R.Rule.KIND (after b c.args.four.at)) (mover-then g.R.Rule.KIND b c.args.four.at lawful c.requires.goes_on)
     ∙ c.requires.safe in
-    let four_points : AfterFour g.R.Rule.KIND c.args.four_points.now c.args.p d =
+    let four_points : AfterFour g.R.Rule.KIND c.args.four_points.now c.args.four.at d =
     record {
       first = b;
       lawful = lawful;
@@ -135,41 +139,45 @@ behind-answering-found-requires g t c κs within =
 pub behind-undo-requires-clause-stone : goal.behind-undo-requires-clause-stone
 behind-undo-requires-clause-stone g t c =
     let b : Grid = g.V.Seen.position c.args.view.now in
-    stone_back g.R.Rule.KIND b _ c.args.p c.play.ensures.lawful c.requires.goes_on (c.answering-found.ensures.same ∙ c.play.ensures.played)
+    stone_back g.R.Rule.KIND b _ c.args.four.at c.play.ensures.lawful c.requires.goes_on
+    (c.answering-found.ensures.same ∙ c.play.ensures.played)
 
 pub behind-undo-requires-clause-unwon : goal.behind-undo-requires-clause-unwon
 behind-undo-requires-clause-unwon g t c =
     let b : Grid = g.V.Seen.position c.args.view.now in
-    unwon_back g.R.Rule.KIND b _ c.args.p c.play.ensures.lawful c.requires.goes_on (c.answering-found.ensures.same ∙ c.play.ensures.played)
+    unwon_back g.R.Rule.KIND b _ c.args.four.at c.play.ensures.lawful c.requires.goes_on
+    (c.answering-found.ensures.same ∙ c.play.ensures.played)
 
 pub behind-returns-in_err-found-clause-same : goal.behind-returns-in_err-found-clause-same
 behind-returns-in_err-found-clause-same g t c =
     let b : Grid = g.V.Seen.position c.args.view.now in
-    c.undo.ensures.undone ∙ lift_back g.R.Rule.KIND b _ c.args.p c.play.ensures.lawful c.requires.goes_on
+    c.undo.ensures.undone ∙ lift_back g.R.Rule.KIND b _ c.args.four.at c.play.ensures.lawful c.requires.goes_on
     (c.answering-found.ensures.same ∙ c.play.ensures.played)
 
 pub behind-returns-in-Win-clause-same : goal.behind-returns-in-Win-clause-same
 behind-returns-in-Win-clause-same g t c =
     let b : Grid = g.V.Seen.position c.args.view.now in
-    c.undo.ensures.undone ∙ lift_back g.R.Rule.KIND b _ c.args.p c.play.ensures.lawful c.requires.goes_on
+    c.undo.ensures.undone ∙ lift_back g.R.Rule.KIND b _ c.args.four.at c.play.ensures.lawful c.requires.goes_on
     (c.answering-found.ensures.same ∙ c.play.ensures.played)
 
 pub behind-returns-in_default : goal.behind-returns-in_default
 behind-returns-in_default g t c =
     let b : Grid = g.V.Seen.position c.args.view.now in
-    let found : c.in_ok-found.found ≡ found_answering g.R.Rule.KIND c.args.moves (after b c.args.p) c.args.budget =
-    c.in_ok-found.ensures.found ∙ ap (λ (w : Grid). found_answering g.R.Rule.KIND c.args.moves w c.args.budget) c.play.ensures.played in
+    let found : c.in_ok-found.found ≡ found_answering g.R.Rule.KIND c.args.limits.moves (after b c.args.four.at) c.args.limits.budget =
+    c.in_ok-found.ensures.found ∙ ap (λ (w : Grid). found_answering g.R.Rule.KIND c.args.limits.moves w c.args.limits.budget)
+    c.play.ensures.played in
     record {
-      found = behind-else g.R.Rule.KIND c.args.moves b c.args.p c.args.budget c.in_ok-found.found c.in_default.not-Win found;
-      same = c.undo.ensures.undone ∙ lift_back g.R.Rule.KIND b _ c.args.p c.play.ensures.lawful c.requires.goes_on
+      found = behind-else g.R.Rule.KIND c.args.limits.moves b c.args.four.at c.args.limits.budget c.in_ok-found.found c.in_default.not-Win
+          found;
+      same = c.undo.ensures.undone ∙ lift_back g.R.Rule.KIND b _ c.args.four.at c.play.ensures.lawful c.requires.goes_on
           (c.answering-found.ensures.same ∙ c.play.ensures.played);
     }
 
 pub remembered-returns-in-Some-clause-found : goal.remembered-returns-in-Some-clause-found
 remembered-returns-in-Some-clause-found g t c =
     let b : Grid = g.V.Seen.position c.args.view.now in
-    denied-found g.R.Rule.KIND b c.args.moves c.args.budget c.in-Some.count c.without_win.result
-    (subst (λ (w : Grid). IsDenied g.R.Rule.KIND w c.args.moves c.in-Some.count) c.board.ensures.board c.in-Some.ensures.denied)
+    denied-found g.R.Rule.KIND b c.args.limits.moves c.args.limits.budget c.in-Some.count c.without_win.result
+    (subst (λ (w : Grid). IsDenied g.R.Rule.KIND w c.args.limits.moves c.in-Some.count) c.board.ensures.board c.in-Some.ensures.denied)
     c.without_win.ensures.found
 
 pub remembered-find-requires : goal.remembered-find-requires
@@ -181,14 +189,16 @@ remembered-keep-requires g t c =
     let same : b ≡ c.board-in-NoWin.result.now = sym (c.board-in-NoWin.ensures.board ∙ c.in_ok-other.ensures.same) in
     record {
       lawful = subst (IsPosition g.R.Rule.KIND) same c.requires.lawful;
-      denied = subst (λ (w : Grid). IsDenied g.R.Rule.KIND w c.args.moves (c.args.budget - c.in-NoWin.left)) same
-          (found-denied g.R.Rule.KIND b c.args.moves c.args.budget c.in-NoWin.left (sym c.in-NoWin.is ∙ c.in_ok-other.ensures.found));
+      denied = subst (λ (w : Grid). IsDenied g.R.Rule.KIND w c.args.limits.moves (c.args.limits.budget - c.in-NoWin.left)) same
+          (found-denied g.R.Rule.KIND b c.args.limits.moves c.args.limits.budget c.in-NoWin.left
+          (sym c.in-NoWin.is ∙ c.in_ok-other.ensures.found));
     }
 
 pub search_on-returns-then-rules_out-clause-found : goal.search_on-returns-then-rules_out-clause-found
 search_on-returns-then-rules_out-clause-found g t c =
     let b : Grid = g.V.Seen.position c.args.view.now in
-    ruled-out g.R.Rule.KIND b c.requires.lawful c.args.threat c.requires.threat c.args.moves c.args.budget c.requires.none c.requires.some
+    ruled-out g.R.Rule.KIND b c.requires.lawful c.args.threat c.requires.threat c.args.limits.moves c.args.limits.budget c.requires.none
+    c.requires.some
     c.requires.some_budget (c.rules_out.ensures.out c.if-rules_out.true)
 
 pub try_four_points-try_point-requires : goal.try_four_points-try_point-requires
@@ -224,15 +234,16 @@ try_four_points-returns-in_default g t c =
     let m : FourPoint = get_or c.args.four_points.now i none in
     let next : map (λ x. x.at) (drop i c.args.four_points.now) ≡ m.at ∷ map (λ x. x.at) (drop (i + 1) c.args.four_points.now) =
     drop-next c.args.four_points.now i none c.loop-four_point-test.true in
-    let found : c.in_ok-found.found ≡ found_trying g.R.Rule.KIND (c.args.moves - 1) b m.at c.loop-four_point.left =
-    c.in_ok-found.ensures.found ∙ ap (λ (w : Grid). found_trying g.R.Rule.KIND (c.args.moves - 1) w m.at c.loop-four_point.left)
+    let found : c.in_ok-found.found ≡ found_trying g.R.Rule.KIND (c.args.limits.moves - 1) b m.at c.loop-four_point.left =
+    c.in_ok-found.ensures.found ∙ ap (λ (w : Grid). found_trying g.R.Rule.KIND (c.args.limits.moves - 1) w m.at c.loop-four_point.left)
     c.loop-four_point.invariant.same in
     record {
-      found = sym (step-ends g.R.Rule.KIND (c.args.moves - 1) b c.loop-four_point.left m.at
+      found = sym (step-ends g.R.Rule.KIND (c.args.limits.moves - 1) b c.loop-four_point.left m.at
           (map (λ x. x.at) (drop i c.args.four_points.now))
           (map (λ x. x.at) (drop (i + 1) c.args.four_points.now)) next c.in_ok-found.found found c.in_default.not-NoWin)
           ∙ c.loop-four_point.invariant.rest
-          ∙ found-four_points g.R.Rule.KIND b c.requires.lawful c.args.four_points.now c.args.moves c.args.budget c.requires.four_points
+          ∙ found-four_points g.R.Rule.KIND b c.requires.lawful c.args.four_points.now c.args.limits.moves c.args.limits.budget
+          c.requires.four_points
           c.requires.none
           c.requires.some c.requires.some_budget;
       same = c.try_point.ensures.same ∙ c.loop-four_point.invariant.same;
@@ -246,16 +257,18 @@ try_four_points-loop-four_point-preserved g t c =
     let m : FourPoint = get_or c.args.four_points.now i none in
     let next : map (λ x. x.at) (drop i c.args.four_points.now) ≡ m.at ∷ map (λ x. x.at) (drop (i + 1) c.args.four_points.now) =
     drop-next c.args.four_points.now i none c.loop-four_point-test.true in
-    let rest_of : ℕ → Found = λ l. try_all g.R.Rule.KIND (c.args.moves - 1) b l (map (λ x. x.at) (drop (i + 1) c.args.four_points.now)) in
+    let rest_of : ℕ → Found = λ l. try_all g.R.Rule.KIND (c.args.limits.moves - 1) b l
+    (map (λ x. x.at) (drop (i + 1) c.args.four_points.now)) in
     elim c.if-takes.branch [
       | try_four_points-then-takes+in_ok-found+in-NoWin w ↦
-          let found : w.in_ok-found.found ≡ found_trying g.R.Rule.KIND (c.args.moves - 1) b m.at c.loop-four_point.left =
-          w.in_ok-found.ensures.found ∙ ap (λ (v : Grid). found_trying g.R.Rule.KIND (c.args.moves - 1) v m.at c.loop-four_point.left)
+          let found : w.in_ok-found.found ≡ found_trying g.R.Rule.KIND (c.args.limits.moves - 1) b m.at c.loop-four_point.left =
+          w.in_ok-found.ensures.found ∙ ap
+          (λ (v : Grid). found_trying g.R.Rule.KIND (c.args.limits.moves - 1) v m.at c.loop-four_point.left)
           c.loop-four_point.invariant.same in
           record {
             same = ap g.V.Seen.position w.view-is ∙ w.try_point.ensures.same ∙ c.loop-four_point.invariant.same;
             rest = ap rest_of w.left-is ∙ sym
-                (step-goes_on g.R.Rule.KIND (c.args.moves - 1) b c.loop-four_point.left m.at
+                (step-goes_on g.R.Rule.KIND (c.args.limits.moves - 1) b c.loop-four_point.left m.at
                 (map (λ x. x.at) (drop i c.args.four_points.now))
                 (map (λ x. x.at) (drop (i + 1) c.args.four_points.now)) next w.in_ok-found.found found w.in-NoWin.rest w.in-NoWin.is)
                 ∙ c.loop-four_point.invariant.rest;
@@ -264,9 +277,11 @@ try_four_points-loop-four_point-preserved g t c =
           record {
             same = ap g.V.Seen.position w.view-is ∙ c.loop-four_point.invariant.same;
             rest = ap rest_of w.left-is ∙ sym
-                (step_at g.R.Rule.KIND (c.args.moves - 1) b c.loop-four_point.left m.at (map (λ x. x.at) (drop i c.args.four_points.now))
+                (step_at g.R.Rule.KIND (c.args.limits.moves - 1) b c.loop-four_point.left m.at
+                (map (λ x. x.at) (drop i c.args.four_points.now))
                 (map (λ x. x.at) (drop (i + 1) c.args.four_points.now)) next (NoWin c.loop-four_point.left)
-                (not_taken g.R.Rule.KIND b c.requires.lawful c.args.threat c.requires.threat m.at (c.args.moves - 1) c.loop-four_point.left
+                (not_taken g.R.Rule.KIND b c.requires.lawful c.args.threat c.requires.threat m.at (c.args.limits.moves - 1)
+                c.loop-four_point.left
                 (sym c.takes.ensures.takes ∙ w.if-takes.false))) ∙ c.loop-four_point.invariant.rest;
           }
     ]
@@ -274,22 +289,24 @@ try_four_points-loop-four_point-preserved g t c =
 pub try_four_points-returns-clause-found : goal.try_four_points-returns-clause-found
 try_four_points-returns-clause-found g t c =
     let b : Grid = g.V.Seen.position c.args.view.now in
-    sym (try_all-none g.R.Rule.KIND (c.args.moves - 1) b c.loop-four_point.left)
-    ∙ ap (λ (ms : List FourPoint). try_all g.R.Rule.KIND (c.args.moves - 1) b c.loop-four_point.left (map (λ m. m.at) ms))
+    sym (try_all-none g.R.Rule.KIND (c.args.limits.moves - 1) b c.loop-four_point.left)
+    ∙ ap (λ (ms : List FourPoint). try_all g.R.Rule.KIND (c.args.limits.moves - 1) b c.loop-four_point.left (map (λ m. m.at) ms))
     (sym (drop-all c.args.four_points.now c.loop-four_point.four_point-index c.loop-four_point-test.false))
     ∙ c.loop-four_point.invariant.rest
-    ∙ found-four_points g.R.Rule.KIND b c.requires.lawful c.args.four_points.now c.args.moves c.args.budget c.requires.four_points
+    ∙ found-four_points g.R.Rule.KIND b c.requires.lawful c.args.four_points.now c.args.limits.moves c.args.limits.budget
+    c.requires.four_points
     c.requires.none
     c.requires.some c.requires.some_budget
 
 pub try_point-returns-in-GoesOn : goal.try_point-returns-in-GoesOn
 try_point-returns-in-GoesOn g t c =
     let b : Grid = g.V.Seen.position c.args.view.now in
-    let on : outcome g.R.Rule.KIND b c.args.p ≡ GoesOn = sym c.in-GoesOn.ensures.outcome in
-    let same : found_behind g.R.Rule.KIND c.args.moves (g.V.Seen.position c.no_five_outcome.new.view) c.args.p c.args.budget ≡ found_trying
-    g.R.Rule.KIND c.args.moves b c.args.p c.args.budget =
-    ap (λ (w : Grid). found_behind g.R.Rule.KIND c.args.moves w c.args.p c.args.budget) c.no_five_outcome.ensures.same
-    ∙ trying-goes g.R.Rule.KIND c.args.moves b c.args.p c.args.budget c.requires.some on in
+    let on : outcome g.R.Rule.KIND b c.args.four.at ≡ GoesOn = sym c.in-GoesOn.ensures.outcome in
+    let same : found_behind g.R.Rule.KIND c.args.limits.moves (g.V.Seen.position c.no_five_outcome.new.view) c.args.four.at
+    c.args.limits.budget ≡ found_trying
+    g.R.Rule.KIND c.args.limits.moves b c.args.four.at c.args.limits.budget =
+    ap (λ (w : Grid). found_behind g.R.Rule.KIND c.args.limits.moves w c.args.four.at c.args.limits.budget) c.no_five_outcome.ensures.same
+    ∙ trying-goes g.R.Rule.KIND c.args.limits.moves b c.args.four.at c.args.limits.budget c.requires.some on in
     record {
       found = subst (λ (f : Found). IfOk c.behind.result (λ found. found ≡ f)) same c.behind.ensures.found;
       same = c.behind.ensures.same ∙ c.no_five_outcome.ensures.same;
@@ -299,7 +316,7 @@ pub try_point-returns-in_default : goal.try_point-returns-in_default
 try_point-returns-in_default g t c =
     let b : Grid = g.V.Seen.position c.args.view.now in
     record {
-      found = trying-else g.R.Rule.KIND c.args.moves b c.args.p c.args.budget
+      found = trying-else g.R.Rule.KIND c.args.limits.moves b c.args.four.at c.args.limits.budget
           (λ on. c.in_default.not-GoesOn (c.no_five_outcome.ensures.outcome ∙ on));
       same = c.no_five_outcome.ensures.same;
     }

@@ -8,31 +8,31 @@ use Rattle.line_proof.specs.Replies.{AreAnswers, answered, going_on}
 use Rattle.line_proof.proofs.proof.+line.Given as goal
 
 abbrev pub decreases-prove : goal.decreases-prove
-decreases-prove g l = 9 * l.moves
+decreases-prove g l = 9 * l.line.moves
 
 abbrev pub decreases-prove_double : goal.decreases-prove_double
-decreases-prove_double g l = 9 * l.moves + 1
+decreases-prove_double g l = 9 * l.line.moves + 1
 
 abbrev pub decreases-prove_reply : goal.decreases-prove_reply
-decreases-prove_reply g l = 9 * l.moves + 2
+decreases-prove_reply g l = 9 * l.line.moves + 2
 
 abbrev pub decreases-prove_after : goal.decreases-prove_after
-decreases-prove_after g l = 9 * l.moves + 3
+decreases-prove_after g l = 9 * l.line.moves + 3
 
 abbrev pub decreases-answer_reply : goal.decreases-answer_reply
-decreases-answer_reply g l = 9 * l.moves + 4
+decreases-answer_reply g l = 9 * l.line.moves + 4
 
 abbrev pub decreases-answer_each : goal.decreases-answer_each
-decreases-answer_each g l = 9 * l.moves + 5
+decreases-answer_each g l = 9 * l.line.moves + 5
 
 abbrev pub decreases-prove_on : goal.decreases-prove_on
-decreases-prove_on g l = 9 * l.moves + 6
+decreases-prove_on g l = 9 * l.line.moves + 6
 
 abbrev pub decreases-prove_move : goal.decreases-prove_move
-decreases-prove_move g l = 9 * l.moves + 7
+decreases-prove_move g l = 9 * l.line.moves + 7
 
 abbrev pub decreases-prove_gain : goal.decreases-prove_gain
-decreases-prove_gain g l = 9 * l.moves + 8
+decreases-prove_gain g l = 9 * l.line.moves + 8
 
 -- the view is as before, and the hint is one; the answers found, and those that the points left need, are all, and so are the nodes; the
 -- points left lose where all points do
@@ -41,17 +41,19 @@ invariant-answer_each-loop-q g l = record {
   same : g.V.Seen.position l.view ≡ g.V.Seen.position l.fn.view;
   compiled : IsCompiled l.compiler;
   left : sum_by (λ q. if_goes_on (outcome g.R.Rule.KIND (g.V.Seen.position l.fn.view) q)
-      (line_tree g.R.Rule.KIND l.threats l.moves (after (g.V.Seen.position l.fn.view) q))) l.q-iterator ≤ behind_replies g.R.Rule.KIND
-      (line_tree g.R.Rule.KIND l.threats l.moves) (g.V.Seen.position l.fn.view);
+      (line_tree g.R.Rule.KIND l.line.threats.now l.line.moves (after (g.V.Seen.position l.fn.view) q))) l.q-iterator ≤ behind_replies
+      g.R.Rule.KIND
+      (line_tree g.R.Rule.KIND l.line.threats.now l.line.moves) (g.V.Seen.position l.fn.view);
   grows : GrowsBy l.fn.compiler l.compiler
-      (behind_replies g.R.Rule.KIND (line_tree g.R.Rule.KIND l.threats l.moves) (g.V.Seen.position l.fn.view) - sum_by
+      (behind_replies g.R.Rule.KIND (line_tree g.R.Rule.KIND l.line.threats.now l.line.moves) (g.V.Seen.position l.fn.view) - sum_by
       (λ q. if_goes_on (outcome g.R.Rule.KIND (g.V.Seen.position l.fn.view) q)
-      (line_tree g.R.Rule.KIND l.threats l.moves (after (g.V.Seen.position l.fn.view) q))) l.q-iterator);
-  hint : IfSome l.hint (IsDouble (g.V.Seen.position l.fn.view).width (g.V.Seen.position l.fn.view).height l.compiler);
-  answers : AreAnswers g.R.Rule.KIND l.moves l.compiler (g.V.Seen.position l.fn.view) l.answers;
+      (line_tree g.R.Rule.KIND l.line.threats.now l.line.moves (after (g.V.Seen.position l.fn.view) q))) l.q-iterator);
+  hint : IfSome l.hints.double (IsDouble (g.V.Seen.position l.fn.view).width (g.V.Seen.position l.fn.view).height l.compiler);
+  answers : AreAnswers g.R.Rule.KIND l.line.moves l.compiler (g.V.Seen.position l.fn.view) l.answers;
   rest : answered l.answers ++ going_on g.R.Rule.KIND (g.V.Seen.position l.fn.view) l.q-iterator ≡ going_on g.R.Rule.KIND
       (g.V.Seen.position l.fn.view) (points_of (g.V.Seen.position l.fn.view));
   lose : list_all (λ q. loses_or (outcome g.R.Rule.KIND (g.V.Seen.position l.fn.view) q)
-      (line_wins g.R.Rule.KIND l.threats l.moves (after (g.V.Seen.position l.fn.view) q))) l.q-iterator ≡ each_loses g.R.Rule.KIND
-      (g.V.Seen.position l.fn.view) (line_wins g.R.Rule.KIND l.threats l.moves);
+      (line_wins g.R.Rule.KIND l.line.threats.now l.line.moves (after (g.V.Seen.position l.fn.view) q))) l.q-iterator ≡ each_loses
+      g.R.Rule.KIND
+      (g.V.Seen.position l.fn.view) (line_wins g.R.Rule.KIND l.line.threats.now l.line.moves);
 }

@@ -30,4 +30,4 @@ judge-requires-clause-lawful g c = subst (λ (b : Grid). IsPosition g.R.Rule.KIN
 
 pub judge-requires-clause-each : goal.judge-requires-clause-each
 judge-requires-clause-each g c = λ h. subst (λ (b : Grid). EachGoesOn g.R.Rule.KIND b) (sym c.loop-q.invariant.0)
-    (c.each_goes_on-free.ensures.each h)
+    (c.each_goes_on.ensures.each h)

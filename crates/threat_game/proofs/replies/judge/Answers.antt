@@ -14,7 +14,8 @@ returns-in-Some-clause-judgement g c =
     let on : outcome g.R.Rule.KIND b c.args.q ≡ GoesOn =
     goes_on-is (outcome g.R.Rule.KIND b c.args.q) (sym c.goes_on_where.ensures.on ∙ c.if-not-goes_on_where.false) in
     child-is g.R.Rule.KIND c.args.moves b c.args.q on (after b c.args.q) (Five c.in-Some.five) 1 refl
-    (first-beside g.R.Rule.KIND b c.args.q c.requires.lawful on c.args.fives.now c.in-Some.five c.requires.fives c.in-Some.ensures.beside)
+    (first-beside g.R.Rule.KIND b c.args.q c.requires.lawful on c.args.known.fives.now c.in-Some.five c.requires.fives
+    c.in-Some.ensures.beside)
     (omega arith) c.requires.some_moves
 
 pub judge_quiet-requires-clause-no_five : goal.judge_quiet-requires-clause-no_five
@@ -33,11 +34,11 @@ judge_quiet-requires-clause-none g c =
     let on : outcome g.R.Rule.KIND b c.args.q ≡ GoesOn =
     goes_on-is (outcome g.R.Rule.KIND b c.args.q) (sym c.goes_on_where.ensures.on ∙ c.if-not-goes_on_where.false) in
     ap (λ (w : Grid). has_five g.R.Rule.KIND (after w c.args.q) (mover (after w c.args.q))) c.goes_on_where.ensures.same
-    ∙ none-beside g.R.Rule.KIND b c.args.q c.requires.lawful on c.args.fives.now c.requires.fives c.in-None.ensures.beside
+    ∙ none-beside g.R.Rule.KIND b c.args.q c.requires.lawful on c.args.known.fives.now c.requires.fives c.in-None.ensures.beside
 
 pub judge_quiet-requires-clause-doubles : goal.judge_quiet-requires-clause-doubles
 judge_quiet-requires-clause-doubles g c =
-    subst (λ (b : Grid). All (IsKept g.R.Rule.KIND b (other (mover b))) c.args.doubles.now) (sym c.goes_on_where.ensures.same)
+    subst (λ (b : Grid). All (IsKept g.R.Rule.KIND b (other (mover b))) c.args.known.doubles.now) (sym c.goes_on_where.ensures.same)
     c.requires.doubles
 
 pub judge_quiet-requires-clause-copy : goal.judge_quiet-requires-clause-copy
