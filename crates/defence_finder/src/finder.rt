@@ -47,7 +47,7 @@ struct Question {
 }
 
 /// What is known of a point as a move.
-#[derive(Clone, Copy, Debug, PartialEq, Eq)]
+#[derive(Clone, Copy)]
 enum Verdict {
     /// It is no move, or a foul.
     NoReply,

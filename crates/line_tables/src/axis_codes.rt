@@ -16,7 +16,7 @@ use std::alloc::{AllocError, Global};
 use stone_board::{Axis, Board, Point, Side, Way, goes_on, place_after, steps_left, stride};
 
 /// What becomes of a point: a stone comes to it, or goes from it.
-#[derive(Clone, Copy, Debug, PartialEq, Eq)]
+#[derive(Clone, Copy)]
 pub(crate) enum Change {
     Put,
     Lift,
@@ -30,7 +30,7 @@ struct Stone {
 }
 
 /// The codes of one point on one axis, as Black and as White see its neighbours.
-#[derive(Clone, Copy, Debug, PartialEq, Eq)]
+#[derive(Clone, Copy)]
 pub(crate) struct Codes {
     pub(crate) black: u16,
     pub(crate) white: u16,

@@ -36,7 +36,7 @@ const LOOKS_BEFORE: u32 = 1_024;
 const ANY_MOVES: u32 = 0;
 
 /// What a look at a position came to.
-#[derive(Clone, Copy, Debug, PartialEq, Eq)]
+#[derive(Clone, Copy)]
 pub(crate) enum Look {
     /// The attacker, which is to move, tries the moves that stand there.
     Tried(Span),

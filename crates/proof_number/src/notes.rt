@@ -12,7 +12,7 @@ use strategy_compiler::WrittenWin;
 
 /// What is known of a node: the move that leads to it, how many moves the attacker has left there, and the win that was
 /// compiled for it, if it is a proved node of the attacker. Where none was compiled, `moves` is 0.
-#[derive(Clone, Copy, Debug, PartialEq, Eq)]
+#[derive(Clone, Copy)]
 pub(crate) struct Note {
     pub(crate) at: Point,
     pub(crate) left: u8,
@@ -60,7 +60,7 @@ impl Note {
 }
 
 /// What is remembered of a position of the attacker within some moves: its win, or that there is none.
-#[derive(Clone, Copy, Debug, PartialEq, Eq)]
+#[derive(Clone, Copy)]
 pub(crate) enum Settled {
     Won(WrittenWin),
     Lost,

@@ -44,7 +44,7 @@ use threat_game::{
 };
 
 /// What a step of the search did.
-#[derive(Clone, Copy, Debug, PartialEq, Eq)]
+#[derive(Clone, Copy)]
 pub(crate) enum Step {
     /// The leaf was settled or has children.
     Done,

@@ -10,7 +10,7 @@ ghost use Rattle.proof_number.specs.Looks.{IsAdded, part_of};
 const MOST_KEPT: usize = 1_000_000;
 
 /// Where a list stands among those that are kept.
-#[derive(Clone, Copy, Debug, PartialEq, Eq)]
+#[derive(Clone, Copy)]
 pub(crate) struct Span {
     pub(crate) first: u32,
     pub(crate) count: u32,

@@ -20,7 +20,7 @@ use stone_board::{Board, Point, Side};
 use text_lines::{push_line, push_spaced_point};
 
 /// A point where Black has a foul.
-#[derive(Clone, Copy, Debug, PartialEq, Eq)]
+#[derive(Clone, Copy)]
 pub(crate) struct FoulPoint {
     pub at: Point,
     pub foul: Foul,

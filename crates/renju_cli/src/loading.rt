@@ -46,7 +46,7 @@ pub(crate) enum Fitted {
 }
 
 /// What the text of a FILE that is to be held may be.
-#[derive(Clone, Copy, Debug, PartialEq, Eq)]
+#[derive(Clone, Copy)]
 pub(crate) enum Holdable {
     Table,
     TableOrBook,

@@ -24,7 +24,7 @@ use strategy_checker::Held;
 const MAX_TURNS: u32 = 225;
 
 /// How a game went: the moves of the brain in it, and whether the brain won it.
-#[derive(Clone, Copy, Debug, PartialEq, Eq)]
+#[derive(Clone, Copy)]
 pub(crate) struct GameResult {
     pub moves: u32,
     pub won: bool,

@@ -45,7 +45,7 @@ pub enum Attacks {
 }
 
 /// What is to be done with a move.
-#[derive(Clone, Copy, Debug, PartialEq, Eq)]
+#[derive(Clone, Copy)]
 enum Attempt {
     /// It has to be tried.
     Tried,

@@ -49,7 +49,7 @@ pub enum Judged {
 }
 
 /// What is known of a point as a reply.
-#[derive(Clone, Copy, Debug, PartialEq, Eq)]
+#[derive(Clone, Copy)]
 enum Judgement {
     /// It does not go on.
     NoReply,
