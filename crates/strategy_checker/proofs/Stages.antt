@@ -1,5 +1,5 @@
 -- An open node: what is left of its replies, and what comes of it. And the nodes that wait for one another.
-use Rattle.std.proofs.Common.{◌≡◌, ℕ, ◌+◌, ◌<◌, List, [], ◌∷◌, reverse, refl, sym, ap, subst, ◌∙◌, arith, false}
+use Rattle.std.proofs.Common.{◌≡◌, ℕ, ◌+◌, ◌<◌, List, [], ◌∷◌, ◌++◌, reverse, refl, sym, ap, subst, ◌∙◌, arith, false}
 use Rattle.std.specs.Prelude.{Option, Some, None, Result, Ok, Err, slice_get}
 use Rattle.std.proofs.Common.{inl, inr}
 use Rattle.std.proofs.lemmas.List.{reverse-append}
@@ -223,20 +223,35 @@ module _ (rule : RuleKind) (t : List Node) (root : ℕ) (first : Grid) (all : �
       }
 
   -- the node that was entered is open
-  pub handed-open : (os : List Stage) (now : Walk) (c : Grid) (o : Stage) → Handed rule t root first all os now c (Ok (Some o))
+  pub handed-open : (os : List Stage) (now : Walk) (c : Grid) (o : Stage) (r : Result (Option Stage) Stop) (e : Option Stage) → r ≡ Ok e
+      → e ≡ Some o → Handed rule t root first all os now c r
       → (n : Node) × (IsStage rule t n c o (left_at n c o) now.left × IsReady rule t c now
       × Under rule t root first all os o.node (lift c n.attack) o.before)
-  handed-open os now c o handed =
+  handed-open os now c o r e is some was =
+      let ok = subst (λ (x : Result (Option Stage) Stop). Handed rule t root first all os now c x) is was in
+      let handed : Handed rule t root first all os now c (Ok (Some o)) =
+      subst (λ (x : Option Stage). Handed rule t root first all os now c (Ok x)) some ok in
       let n = handed.entered.0 in
       let is = handed.entered.1 in
       (n, (is.0, is.4, rw (is.1, is.2, is.3) handed.under))
 
+  -- the last one that waits is taken off
+  handed-last : (old os : List Stage) (now : Walk) (c : Grid) (o : Stage) (r : Result (Option Stage) Stop) → old ≡ os ++ o ∷ []
+      → Handed rule t root first all (reverse old) now c r → Handed rule t root first all (o ∷ reverse os) now c r
+  handed-last old os now c o r took was =
+      let items : reverse old ≡ o ∷ reverse os = ap reverse took ∙ reverse-append os (o ∷ []) in
+      subst (λ (ss : List Stage). Handed rule t root first all ss now c r) items was
+
   -- the node that was entered is settled, and the last one that waits is open again once its reply is taken back
-  pub handed-settled : (os : List Stage) (now : Walk) (c : Grid) (o : Stage) → Handed rule t root first all (o ∷ os) now c (Ok None)
+  pub handed-settled : (old os : List Stage) (now : Walk) (c : Grid) (o : Stage) (r : Result (Option Stage) Stop) (e : Option Stage)
+      → old ≡ os ++ o ∷ [] → r ≡ Ok e → e ≡ None → Handed rule t root first all (reverse old) now c r
       → (n : Node) × ((b : Grid) × (IsStage rule t n b o (left_at n b o) now.left × IsReady rule t b now
-      × Under rule t root first all os o.node (lift b n.attack) o.before × (c ≡ after b o.meeting.reply)
-      × (outcome rule b o.meeting.reply ≡ GoesOn)))
-  handed-settled os now c o handed =
+      × Under rule t root first all (reverse os) o.node (lift b n.attack) o.before × (c ≡ after b o.meeting.reply)
+      × (outcome rule b o.meeting.reply ≡ GoesOn) × (lift c o.meeting.reply ≡ b)))
+  handed-settled old os now c o r e took is none was =
+      let ok = subst (λ (x : Result (Option Stage) Stop). Handed rule t root first all (reverse old) now c x) is was in
+      let handed : Handed rule t root first all (o ∷ reverse os) now c (Ok None) = handed-last old os now c o (Ok None) took
+      (subst (λ (x : Option Stage). Handed rule t root first all (reverse old) now c (Ok x)) none ok) in
       let n = handed.under.0 in
       let b = handed.under.1.0 in
       let waits = handed.under.1.1.0 in
@@ -252,16 +267,21 @@ module _ (rule : RuleKind) (t : List Node) (root : ℕ) (first : Grid) (all : �
             handed.under.1.1.2,
             handed.entered.1 ∙ there,
             waits.on,
+            lift_back rule b c o.meeting.reply waits.lawful waits.on (handed.entered.1 ∙ there),
           ),
         ),
       )
 
   -- the walk has stopped at the node that was entered, for which the last one waits
-  pub handed-stopped : (os : List Stage) (now : Walk) (c : Grid) (o : Stage) (stop : Stop)
-      → Handed rule t root first all (o ∷ os) now c (Err stop)
+  pub handed-stopped : (old os : List Stage) (now : Walk) (c : Grid) (o : Stage) (r : Result (Option Stage) Stop) (stop : Stop)
+      → old ≡ os ++ o ∷ [] → r ≡ Err stop → Handed rule t root first all (reverse old) now c r
       → (n : Node) × ((b : Grid) × ((i : ℕ) × ((start : ℕ) × (Waits rule t n b o i start × (c ≡ after b o.meeting.reply)
-      × Stops rule t i c start now stop × Under rule t root first all os o.node (lift b n.attack) o.before))))
-  handed-stopped os now c o stop handed =
+      × Stops rule t i c start now stop × Under rule t root first all (reverse os) o.node (lift b n.attack) o.before
+      × (lift c o.meeting.reply ≡ b)))))
+  handed-stopped old os now c o r stop took is was =
+      let handed : Handed rule t root first all (o ∷ reverse os) now c (Err stop) = handed-last old os now c o (Err stop) took
+      (subst (λ (x : Result (Option Stage) Stop). Handed rule t root first all (reverse old) now c x) is was) in
+      let waits = handed.under.1.1.0 in
       let there = handed.under.1.1.1 in (
         handed.under.0,
         (
@@ -271,10 +291,11 @@ module _ (rule : RuleKind) (t : List Node) (root : ℕ) (first : Grid) (all : �
             (
               handed.start,
               (
-                handed.under.1.1.0,
+                waits,
                 handed.entered.1 ∙ there,
                 subst (λ (w : Grid). Stops rule t handed.i w handed.start now stop) (sym handed.entered.1) handed.entered.0,
                 handed.under.1.1.2,
+                lift_back rule handed.under.1.0 c o.meeting.reply waits.lawful waits.on (handed.entered.1 ∙ there),
               ),
             ),
           ),
