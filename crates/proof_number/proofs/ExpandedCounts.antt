@@ -271,13 +271,7 @@ module _ (rule : RuleKind) (s : Search) (t : Tree) (c : List Node) (leaf : ℕ) 
             (win_of (note_at s.notes.items first))) (sym left) is.win));
       }
 
-  written-now : AreWritten (record {
-    rule = rule;
-    start = s.root;
-    tree = record { links = u.links; numbers = u.numbers };
-    moves = map (λ (n : Note). n.at) s.notes.items ++ map (λ (n : Note). n.at) ms;
-    left = map (λ (n : Note). n.left) s.notes.items ++ map (λ (n : Note). n.left) ms;
-  }) v.notes.items (c ++ nodes) (IsOnWayUp u.links leaf)
+  written-now : AreWritten Now v.notes.items (c ++ nodes) (IsOnWayUp u.links leaf)
   written-now = record {
     true_wins = λ i l positive. elim (split-node i l) [
       | inl old ↦
@@ -492,13 +486,7 @@ module _ (rule : RuleKind) (s : Search) (t : Tree) (c : List Node) (leaf : ℕ) 
         (map (λ (n : Note). n.at) ms) (map (λ (n : Note). n.left) ms) (length more) some points lefts refl long e.tree e.others e.children
         tried h.leaf_open each-child 0 (let some_nodes = h.searching.tree.linked.some in some_nodes)
 
-    counted-now : IsCounted (record {
-      rule = rule;
-      start = s.root;
-      tree = record { links = u.links; numbers = u.numbers };
-      moves = map (λ (n : Note). n.at) s.notes.items ++ map (λ (n : Note). n.at) ms;
-      left = map (λ (n : Note). n.left) s.notes.items ++ map (λ (n : Note). n.left) ms;
-    }) s.budget v.attacked v.defended
+    counted-now : IsCounted Now s.budget v.attacked v.defended
     counted-now = record {
       attacks =
           let b = behind-grown (game_of rule s t) h.searching.tree leaf h.in_tree h.childless h.searching.game u.links u.numbers more
@@ -524,14 +512,7 @@ module _ (rule : RuleKind) (s : Search) (t : Tree) (c : List Node) (leaf : ℕ) 
         (record s { board = v.board; notes = v.notes; settled = v.settled; attacked = v.attacked; defended = v.defended }) u (c ++ nodes)
         (IsOnWayUp u.links leaf)
     searching-now =
-        let to : noted_tree rule s.root u v.notes.items
-        ≡ (record {
-          rule = rule;
-          start = s.root;
-          tree = record { links = u.links; numbers = u.numbers };
-          moves = map (λ (n : Note). n.at) s.notes.items ++ map (λ (n : Note). n.at) ms;
-          left = map (λ (n : Note). n.left) s.notes.items ++ map (λ (n : Note). n.left) ms;
-        }) = places u in
+        let to : noted_tree rule s.root u v.notes.items ≡ Now = places u in
         record {
           tree = e.tree;
           game = subst IsGameTree (sym to)

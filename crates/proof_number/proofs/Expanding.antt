@@ -46,6 +46,16 @@ module _ (g : GameTree) (ok : IsTree g.tree) (leaf : ℕ) (inside : leaf < lengt
     (unsettled : is_settled (numbers_at g.tree.numbers leaf) ≡ false)
     (each : (j : ℕ) → j < count → IsNewChild g.rule (link_at g.tree.links leaf).kind (left_at g.left leaf) (board_at g leaf)
     (move_at ps j) (left_at ns j) (numbers_at more j)) where
+  -- the game once the leaf has its children
+  abbrev pub Grown : GameTree
+  Grown = record {
+    rule = g.rule;
+    start = g.start;
+    tree = record { links = links; numbers = numbers };
+    moves = g.moves ++ ps;
+    left = g.left ++ ns;
+  }
+
   pub old-parent : (j : ℕ) → j < length g.tree.links → (link_at links j).parent ≡ (link_at g.tree.links j).parent
   old-parent j low = elim (cases_eq j leaf) [
     | inl e ↦ ap (λ (k : ℕ). (link_at links k).parent) e ∙ ap (λ (l : Link). l.parent) long.here
@@ -131,14 +141,7 @@ module _ (g : GameTree) (ok : IsTree g.tree) (leaf : ℕ) (inside : leaf < lengt
 
   -- a node that is disproved stays so
   pub disproved-grown : is_settled (numbers_at g.tree.numbers 0) ≡ false → leaf ≡ most_proving g.tree → (n : ℕ) (b : Grid)
-      → IsDisproved g n b → IsDisproved
-      (record {
-        rule = g.rule;
-        start = g.start;
-        tree = record { links = links; numbers = numbers };
-        moves = g.moves ++ ps;
-        left = g.left ++ ns;
-      }) n b
+      → IsDisproved g n b → IsDisproved Grown n b
   disproved-grown root_open leaf_is n b is =
       let low = is.inside in
       record {
@@ -151,23 +154,7 @@ module _ (g : GameTree) (ok : IsTree g.tree) (leaf : ℕ) (inside : leaf < lengt
         board_is = old-board is.node low ∙ is.board_is;
       }
 
-  abbrev Grown : GameTree
-  Grown = record {
-    rule = g.rule;
-    start = g.start;
-    tree = record { links = links; numbers = numbers };
-    moves = g.moves ++ ps;
-    left = g.left ++ ns;
-  }
-
-  pub game-grown : is_settled (numbers_at g.tree.numbers 0) ≡ false → leaf ≡ most_proving g.tree → IsGameTree
-      (record {
-        rule = g.rule;
-        start = g.start;
-        tree = record { links = links; numbers = numbers };
-        moves = g.moves ++ ps;
-        left = g.left ++ ns;
-      })
+  pub game-grown : is_settled (numbers_at g.tree.numbers 0) ≡ false → leaf ≡ most_proving g.tree → IsGameTree Grown
   game-grown root_open leaf_is = record {
     moves = length-append g.moves ps ∙ (let a = game.moves in let b = long.sized in omega (arith, a, b, points));
     left = length-append g.left ns ∙ (let a = game.left in let b = long.sized in omega (arith, a, b, lefts));
@@ -313,13 +300,7 @@ module _ (g : GameTree) (ok : IsTree g.tree) (leaf : ℕ) (inside : leaf < lengt
   child-counts f j = refl
 
   behind-old : (f : Kind → RuleKind → ℕ → Grid → ℕ) (i : ℕ) → i < length g.tree.links → i ≢ leaf
-      → behind_at f (record {
-        rule = g.rule;
-        start = g.start;
-        tree = record { links = links; numbers = numbers };
-        moves = g.moves ++ ps;
-        left = g.left ++ ns;
-      }) i ≡ behind_at f g i
+      → behind_at f Grown i ≡ behind_at f g i
   behind-old f i low other = by_count (cases_eq (link_at g.tree.links i).count 0) where
     same : link_at links i ≡ link_at g.tree.links i
     same = long.others i low other
@@ -332,13 +313,7 @@ module _ (g : GameTree) (ok : IsTree g.tree) (leaf : ℕ) (inside : leaf < lengt
         ∙ ap (f (link_at g.tree.links i).kind g.rule (left_at g.left i)) (old-board i low)
 
     by_count : ((link_at g.tree.links i).count ≡ 0) ⊎ ((link_at g.tree.links i).count ≡ 0 → ⊥)
-        → behind_at f (record {
-          rule = g.rule;
-          start = g.start;
-          tree = record { links = links; numbers = numbers };
-          moves = g.moves ++ ps;
-          left = g.left ++ ns;
-        }) i ≡ behind_at f g i
+        → behind_at f Grown i ≡ behind_at f g i
     by_count (inl none) =
         ap (λ (l : Link). cond (nat_eq l.count 0 && not (is_settled (numbers_at numbers i)))
         (f (link_at links i).kind g.rule (left_at (g.left ++ ns) i) (board_of links (g.moves ++ ps) g.start i)) 0) same
@@ -359,24 +334,12 @@ module _ (g : GameTree) (ok : IsTree g.tree) (leaf : ℕ) (inside : leaf < lengt
   leaf-inner = ne_eqb (link_at links leaf).count 0 (λ e. has-children leaf refl e)
 
   behind-leaf : (f : Kind → RuleKind → ℕ → Grid → ℕ)
-      → behind_at f (record {
-        rule = g.rule;
-        start = g.start;
-        tree = record { links = links; numbers = numbers };
-        moves = g.moves ++ ps;
-        left = g.left ++ ns;
-      }) leaf ≡ 0
+      → behind_at f Grown leaf ≡ 0
   behind-leaf f = ap (λ r. cond (r && not (is_settled (numbers_at numbers leaf)))
       (f (link_at links leaf).kind g.rule (left_at (g.left ++ ns) leaf) (board_of links (g.moves ++ ps) g.start leaf)) 0) leaf-inner
 
   behind-new : (f : Kind → RuleKind → ℕ → Grid → ℕ) (j : ℕ) → j < count
-      → behind_at f (record {
-        rule = g.rule;
-        start = g.start;
-        tree = record { links = links; numbers = numbers };
-        moves = g.moves ++ ps;
-        left = g.left ++ ns;
-      }) (length g.tree.links + j) ≡ child-behind f j
+      → behind_at f Grown (length g.tree.links + j) ≡ child-behind f j
   unfolding child-behind
   behind-new f j low =
       let m : ℕ = length g.tree.links + j in
@@ -396,22 +359,9 @@ module _ (g : GameTree) (ok : IsTree g.tree) (leaf : ℕ) (inside : leaf < lengt
 
   -- the leaf counts no longer, and its children do
   pub behind-grown : (f : Kind → RuleKind → ℕ → Grid → ℕ)
-      → behind_leaves f (record {
-        rule = g.rule;
-        start = g.start;
-        tree = record { links = links; numbers = numbers };
-        moves = g.moves ++ ps;
-        left = g.left ++ ns;
-      }) + behind_at f g leaf ≤ behind_leaves f g + sum_below count (child-behind f)
+      → behind_leaves f Grown + behind_at f g leaf ≤ behind_leaves f g + sum_below count (child-behind f)
   behind-grown f =
-      let after_it : GameTree =
-      record {
-        rule = g.rule;
-        start = g.start;
-        tree = record { links = links; numbers = numbers };
-        moves = g.moves ++ ps;
-        left = g.left ++ ns;
-      } in
+      let after_it : GameTree = Grown in
       let parts : behind_leaves f after_it ≡ sum_below (length g.tree.links) (behind_at f after_it) + sum_below count
       (λ j. behind_at f after_it (length g.tree.links + j)) =
       ap (λ (n : ℕ). sum_below n (behind_at f after_it)) long.sized ∙ sum-more (length g.tree.links) count (behind_at f after_it) in

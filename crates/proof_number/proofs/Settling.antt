@@ -33,7 +33,8 @@ module _ (g : GameTree) (ok : IsTree g.tree) (numbers : List Numbers) (leaf : �
     (inside : leaf < length g.tree.links) (childless : (link_at g.tree.links leaf).count ≡ 0)
     (unsettled : is_settled (numbers_at g.tree.numbers leaf) ≡ false)
     (here : numbers_at numbers leaf ≡ settled_numbers p) (others : OthersStay g.tree.links leaf g.tree.numbers numbers) where
-  abbrev After : GameTree
+  -- the game once the leaf is settled
+  abbrev pub After : GameTree
   After = record g { tree = record { links = g.tree.links; numbers = numbers } }
 
   other-leaf : (j : ℕ) → (link_at g.tree.links j).count ≡ 0 → j ≢ leaf → numbers_at numbers j ≡ numbers_at g.tree.numbers j
@@ -44,14 +45,7 @@ module _ (g : GameTree) (ok : IsTree g.tree) (numbers : List Numbers) (leaf : �
 
   -- a node that is disproved stays so
   pub disproved-settled : is_settled (numbers_at g.tree.numbers 0) ≡ false → leaf ≡ most_proving g.tree → (n : ℕ) (b : Grid)
-      → IsDisproved g n b
-      → IsDisproved (record {
-        rule = g.rule;
-        start = g.start;
-        tree = record { links = g.tree.links; numbers = numbers };
-        moves = g.moves;
-        left = g.left;
-      }) n b
+      → IsDisproved g n b → IsDisproved After n b
   disproved-settled root_open leaf_is n b is = record {
     node = is.node;
     inside = is.inside;
@@ -68,14 +62,7 @@ module _ (g : GameTree) (ok : IsTree g.tree) (numbers : List Numbers) (leaf : �
 
   pub game-settled : is_settled (numbers_at g.tree.numbers 0) ≡ false → leaf ≡ most_proving g.tree → IsGameTree g
       → TellsTruly (settled_numbers p) (WinsAt (link_at g.tree.links leaf).kind g.rule (left_at g.left leaf) (board_at g leaf))
-      → (p ≡ false → IsLostAt (link_at g.tree.links leaf).kind g (left_at g.left leaf) (board_at g leaf))
-      → IsGameTree (record {
-        rule = g.rule;
-        start = g.start;
-        tree = record { links = g.tree.links; numbers = numbers };
-        moves = g.moves;
-        left = g.left;
-      })
+      → (p ≡ false → IsLostAt (link_at g.tree.links leaf).kind g (left_at g.left leaf) (board_at g leaf)) → IsGameTree After
   game-settled root_open leaf_is game truth why = record {
     moves = game.moves;
     left = game.left;
@@ -113,13 +100,7 @@ module _ (g : GameTree) (ok : IsTree g.tree) (numbers : List Numbers) (leaf : �
       → ((i : ℕ) → i ≢ leaf → note_at more i ≡ note_at notes i)
       → (0 < (note_at more leaf).moves → IsNotedWin g.rule (left_at g.left leaf) (board_at g leaf) c (win_of (note_at more leaf)))
       → (p ≡ true → ((link_at g.tree.links leaf).kind ≡ Attack) × (0 < (note_at more leaf).moves))
-      → AreWritten (record {
-        rule = g.rule;
-        start = g.start;
-        tree = record { links = g.tree.links; numbers = numbers };
-        moves = g.moves;
-        left = g.left;
-      }) more c (IsOnWayUp g.tree.links leaf)
+      → AreWritten After more c (IsOnWayUp g.tree.links leaf)
   written-settled notes more c written same own has = record {
     true_wins = λ i low some. elim (cases_eq i leaf) [
       | inl e ↦ subst (λ (k : ℕ). IsNotedWin g.rule (left_at g.left k) (board_at g k) c (win_of (note_at more k))) (sym e)
@@ -169,22 +150,10 @@ module _ (g : GameTree) (ok : IsTree g.tree) (numbers : List Numbers) (leaf : �
 
   -- what is counted behind the leaf counts no longer
   behind-other : (f : Kind → RuleKind → ℕ → Grid → ℕ) (i : ℕ) → i ≢ leaf
-      → behind_at f (record {
-        rule = g.rule;
-        start = g.start;
-        tree = record { links = g.tree.links; numbers = numbers };
-        moves = g.moves;
-        left = g.left;
-      }) i ≡ behind_at f g i
+      → behind_at f After i ≡ behind_at f g i
   behind-other f i other = by_count (cases_eq (link_at g.tree.links i).count 0) where
     by_count : ((link_at g.tree.links i).count ≡ 0) ⊎ ((link_at g.tree.links i).count ≡ 0 → ⊥)
-        → behind_at f (record {
-          rule = g.rule;
-          start = g.start;
-          tree = record { links = g.tree.links; numbers = numbers };
-          moves = g.moves;
-          left = g.left;
-        }) i ≡ behind_at f g i
+        → behind_at f After i ≡ behind_at f g i
     by_count (inl none) = ap (λ (n : Numbers). cond (nat_eq (link_at g.tree.links i).count 0 && not (is_settled n))
         (f (link_at g.tree.links i).kind g.rule (left_at g.left i) (board_at g i)) 0) (other-leaf i none other)
     by_count (inr some) =
@@ -195,13 +164,7 @@ module _ (g : GameTree) (ok : IsTree g.tree) (numbers : List Numbers) (leaf : �
         (f (link_at g.tree.links i).kind g.rule (left_at g.left i) (board_at g i)) 0) shut)
 
   behind-here : (f : Kind → RuleKind → ℕ → Grid → ℕ)
-      → behind_at f (record {
-        rule = g.rule;
-        start = g.start;
-        tree = record { links = g.tree.links; numbers = numbers };
-        moves = g.moves;
-        left = g.left;
-      }) leaf ≡ 0
+      → behind_at f After leaf ≡ 0
   behind-here f =
       ap (λ r. cond (r && not (is_settled (numbers_at numbers leaf)))
       (f (link_at g.tree.links leaf).kind g.rule (left_at g.left leaf) (board_at g leaf)) 0)
@@ -217,22 +180,10 @@ module _ (g : GameTree) (ok : IsTree g.tree) (numbers : List Numbers) (leaf : �
       ∙ ap (λ r. cond (not r) (f (link_at g.tree.links leaf).kind g.rule (left_at g.left leaf) (board_at g leaf)) 0) unsettled
 
   pub behind-settled : (f : Kind → RuleKind → ℕ → Grid → ℕ)
-      → behind_leaves f (record {
-        rule = g.rule;
-        start = g.start;
-        tree = record { links = g.tree.links; numbers = numbers };
-        moves = g.moves;
-        left = g.left;
-      }) + f (link_at g.tree.links leaf).kind g.rule (left_at g.left leaf) (board_at g leaf) ≤ behind_leaves f g
+      → behind_leaves f After + f (link_at g.tree.links leaf).kind g.rule (left_at g.left leaf) (board_at g leaf) ≤ behind_leaves f g
   behind-settled f =
       sum-less (length g.tree.links)
-      (behind_at f (record {
-        rule = g.rule;
-        start = g.start;
-        tree = record { links = g.tree.links; numbers = numbers };
-        moves = g.moves;
-        left = g.left;
-      })) (behind_at f g) leaf
+      (behind_at f After) (behind_at f g) leaf
       (f (link_at g.tree.links leaf).kind g.rule (left_at g.left leaf) (board_at g leaf)) inside
       (λ j low other. let e = behind-other f j other in omega (arith, e))
       (let a = behind-here f in let b = behind-before f in omega (arith, a, b))
@@ -269,13 +220,7 @@ module _ (g : GameTree) (ok : IsTree g.tree) (numbers : List Numbers) (leaf : �
   pub counted-settled : (budget attacked defended more : ℕ) → IsCounted g budget attacked defended → attacked ≤ more → more ≤ budget
       → more ≤ attacked + attacks_behind (link_at g.tree.links leaf).kind g.rule (left_at g.left leaf) (board_at g leaf)
       → ((kind : Kind) → leaf_sum kind g.tree.links numbers ≤ leaf_sum kind g.tree.links g.tree.numbers)
-      → IsCounted (record {
-        rule = g.rule;
-        start = g.start;
-        tree = record { links = g.tree.links; numbers = numbers };
-        moves = g.moves;
-        left = g.left;
-      }) budget more defended
+      → IsCounted After budget more defended
   counted-settled budget attacked defended more counted grows fits behind sums = record {
     attacks = let a = counted.attacks in let b = behind-settled attacks_behind in omega (arith, a, b, behind);
     defences = let a = counted.defences in let b = behind-settled defences_behind in omega (arith, a, b);
