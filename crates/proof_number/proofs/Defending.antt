@@ -42,6 +42,7 @@ use Rattle.threat_game.proofs.TreeLaws.{whole-by}
 use Rattle.threat_game.proofs.AttackLaws.{escape-saves}
 use Rattle.proof_number.specs.declared.notes.Note.{Note}
 use Rattle.proof_number.specs.declared.search.Search.{Search}
+use Rattle.proof_number.specs.Searches.{HasNoRoom}
 use Rattle.proof_number.proofs.Common.{AreSettled, IsSettledChild, child_at, child_note, child_numbers, no_child, no_note, note_at, win_of}
 use Rattle.proof_number.proofs.Common.{open_numbers, AreMet, CanGrow, GameTree, HasTried, TellsTruly, WinsAt, among, board_at, left_at}
 use Rattle.proof_number.proofs.Common.{IsTrueMemo, Grows, HasGrown, HasSpent, IsAtLeaf, IsExpandedAt, IsNotedWin, IsSettledAt, StandsAt}
@@ -461,7 +462,7 @@ module _ (rule : RuleKind) (s : Search) (t : Tree) (c : List Node) (leaf : ℕ) 
     -- where the compiler is full, more positions are counted than it has room for
     pub replies-full : {E : Type 0} → s.attacked + children.count ≤ s.budget
         → (E → MAX_NODES < length c + sum_by (λ (x : Child). nodes_for x.judged) children.all.items) → E
-        → (MAX_NODES < s.before + s.budget) × (MAX_NODES < s.before + threat_tree rule s.depth s.root)
+        → HasNoRoom rule s
     replies-full fits refused e =
         let over = refused e in
         let nodes = nodes-few in

@@ -11,8 +11,9 @@ use Rattle.proof_number.specs.declared.notes.Note.{Note}
 use Rattle.proof_number.specs.declared.search.Search.{Search}
 use Rattle.proof_number.specs.declared.search.Step.{Step}
 use Rattle.proof_number.specs.declared.search.Step.TheVariants.{Done, Spent}
+use Rattle.proof_number.specs.Searches.{HasNoRoom}
 use Rattle.proof_number.proofs.Common.{no_note, GameTree, IsGameTree, board_at, left_at, Grows, HasGrown, HasSpent, HasStayed, IsSameAim}
-use Rattle.proof_number.proofs.Common.{IsSearching, KeepsTree, OnStep, Searches, StandsAt, game_of}
+use Rattle.proof_number.proofs.Common.{IsSearching, OnStep, Searches, StandsAt, game_of}
 use Rattle.proof_number.proofs.Recording.{board-searches}
 
 module _ (rule : RuleKind) (s : Search) (t : Tree) (c : List Node) (searches : Searches rule s t c (λ i. ⊥)) where
@@ -59,8 +60,10 @@ module _ (rule : RuleKind) (moved v : Search) (t u : Tree) (d : List Node) (leaf
   pub step-done : x ≡ Done → Grows rule moved v t u d leaf
   step-done e = on-done x (Grows rule moved v t u d leaf) (HasSpent rule moved v t u) (HasStayed moved v t u) e h
 
-  pub step-spent : x ≡ Spent → HasSpent rule moved v t u
-  step-spent e = on-spent x (Grows rule moved v t u d leaf) (HasSpent rule moved v t u) (HasStayed moved v t u) e h
+  pub step-stays : x ≡ Spent → HasStayed moved v t u
+  step-stays e =
+      let spent = on-spent x (Grows rule moved v t u d leaf) (HasSpent rule moved v t u) (HasStayed moved v t u) e h in
+      record { same = spent.same; keeps = spent.keeps }
 
 -- ---- what stays
 
@@ -81,13 +84,13 @@ aim-then s u v first second = record {
 }
 
 -- the step leaves the tree as it was
-module _ (rule : RuleKind) (s moved v : Search) (t u : Tree) (rest : moved ≡ record s { board = moved.board }) (same : u ≡ t)
-    (keeps : KeepsTree moved v) where
+module _ (rule : RuleKind) (s moved v : Search) (t u : Tree) (rest : moved ≡ record s { board = moved.board })
+    (stays : HasStayed moved v t u) where
   stayed-same : game_of rule v u ≡ game_of rule s t
-  stayed-same = ap (game_of rule v) same ∙ keeps.places rule t ∙ ap (λ (w : Search). game_of rule w t) rest
+  stayed-same = ap (game_of rule v) stays.same ∙ stays.keeps.places rule t ∙ ap (λ (w : Search). game_of rule w t) rest
 
   pub stayed-tree : IsTree t → IsTree u
-  stayed-tree = subst IsTree (sym same)
+  stayed-tree = subst IsTree (sym stays.same)
 
   pub stayed-game : IsGameTree (game_of rule s t) → IsGameTree (game_of rule v u)
   stayed-game = subst IsGameTree (sym stayed-same)
@@ -96,32 +99,32 @@ module _ (rule : RuleKind) (s moved v : Search) (t u : Tree) (rest : moved ≡ r
   stayed-place leaf = ap (λ (g : GameTree). board_at g leaf) (sym stayed-same)
 
   pub stayed-board : v.board ≡ moved.board
-  stayed-board = ap (λ (w : Search). w.board) keeps.rest
+  stayed-board = ap (λ (w : Search). w.board) stays.keeps.rest
 
   pub stayed-root : v.root ≡ s.root
-  stayed-root = ap (λ (w : Search). w.root) keeps.rest ∙ ap (λ (w : Search). w.root) rest
+  stayed-root = ap (λ (w : Search). w.root) stays.keeps.rest ∙ ap (λ (w : Search). w.root) rest
 
   pub stayed-aim : (w : Search) → w ≡ record v { board = w.board } → IsSameAim s w
   stayed-aim w back = record {
-    depth = ap (λ (x : Search). x.depth) back ∙ ap (λ (x : Search). x.depth) keeps.rest ∙ ap (λ (x : Search). x.depth) rest;
-    budget = ap (λ (x : Search). x.budget) back ∙ ap (λ (x : Search). x.budget) keeps.rest ∙ ap (λ (x : Search). x.budget) rest;
-    before = ap (λ (x : Search). x.before) back ∙ ap (λ (x : Search). x.before) keeps.rest ∙ ap (λ (x : Search). x.before) rest;
-    root = ap (λ (x : Search). x.root) back ∙ ap (λ (x : Search). x.root) keeps.rest ∙ ap (λ (x : Search). x.root) rest;
+    depth = ap (λ (x : Search). x.depth) back ∙ ap (λ (x : Search). x.depth) stays.keeps.rest ∙ ap (λ (x : Search). x.depth) rest;
+    budget = ap (λ (x : Search). x.budget) back ∙ ap (λ (x : Search). x.budget) stays.keeps.rest ∙ ap (λ (x : Search). x.budget) rest;
+    before = ap (λ (x : Search). x.before) back ∙ ap (λ (x : Search). x.before) stays.keeps.rest ∙ ap (λ (x : Search). x.before) rest;
+    root = ap (λ (x : Search). x.root) back ∙ ap (λ (x : Search). x.root) stays.keeps.rest ∙ ap (λ (x : Search). x.root) rest;
   }
 
 -- ---- the leaf is settled or has children
 
-module _ (rule : RuleKind) (s v : Search) (t u : Tree) (d : List Node) (leaf : ℕ) (grows : Grows rule s v t u d leaf) where
+module _ (rule : RuleKind) (s v : Search) (t u : Tree) (d : List Node) (leaf : ℕ) (x : Step)
+    (h : OnStep (Ok x) (Grows rule s v t u d leaf) (HasSpent rule s v t u) (HasStayed s v t u)) (is : x ≡ Done) where
   pub grown-parts : HasGrown rule s v t u d leaf
   unfolding Grows
-  grown-parts = grows
+  grown-parts = step-done rule s v t u d leaf x h is
 
   pub grown-searches : Searches rule v u d (IsOnWayUp u.links leaf)
   unfolding Searches
   grown-searches = grown-parts.searching
 
-  grown-full : {E : Type 0} → (E → MAX_NODES < v.before + v.attacked) → E
-      → (MAX_NODES < s.before + s.budget) × (MAX_NODES < s.before + threat_tree rule s.depth s.root)
+  grown-full : {E : Type 0} → (E → MAX_NODES < v.before + v.attacked) → E → HasNoRoom rule s
   grown-full refused e =
       let over = refused e in
       let h = grown-parts.searching in
@@ -151,8 +154,5 @@ module _ (rule : RuleKind) (s v : Search) (t u : Tree) (d : List Node) (leaf : �
     grown-place = sym (grown-parts.place ∙ ap (λ (w : Search). board_at (game_of rule w t) leaf) rest)
 
     -- where the compiler is full on the way back, more positions are counted than it has room for
-    pub step-full : {E : Type 0} → (E → MAX_NODES < v.before + v.attacked) → E
-        → (MAX_NODES < before.before + before.budget) × (MAX_NODES < before.before + threat_tree rule before.depth before.root)
-    step-full refused e = subst
-        (λ (w : Search). (MAX_NODES < w.before + w.budget) × (MAX_NODES < w.before + threat_tree rule w.depth w.root)) rest
-        (grown-full refused e)
+    pub step-full : {E : Type 0} → (E → MAX_NODES < v.before + v.attacked) → E → HasNoRoom rule before
+    step-full refused e = subst (λ (w : Search). HasNoRoom rule w) rest (grown-full refused e)

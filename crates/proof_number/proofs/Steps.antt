@@ -28,6 +28,7 @@ use Rattle.proof_number.specs.declared.notes.Note.{Note}
 use Rattle.proof_number.specs.declared.notes.Settled.{Settled}
 use Rattle.proof_number.specs.declared.notes.Settled.TheVariants.{Lost}
 use Rattle.proof_number.specs.declared.search.Search.{Search}
+use Rattle.proof_number.specs.Searches.{HasNoRoom}
 use Rattle.proof_number.proofs.Common.{no_note, note_at, CanGrow, WinsAt, board_at, left_at, IsTrueOf, IsTrueMemo, Searches, Grows}
 use Rattle.proof_number.proofs.Common.{HasGrown, HasSpent, HasStayed, KeepsTree, OnStep, IsAtLeaf, IsNotedWin, IsSettledAt, StandsAt}
 use Rattle.proof_number.proofs.Common.{game_of, noted_won, GameTree, attacks_behind, behind_at, is_attack, unwritten, IsLostAt}
@@ -317,14 +318,14 @@ module _ (rule : RuleKind) (s : Search) (t : Tree) (c : List Node) (leaf : ℕ) 
     -- where the compiler is full, more positions are counted than it has room for
     pub full-there : (added : ℕ) → s.attacked + added ≤ s.budget → 1 + added ≤ threat_tree rule (note_at s.notes.items leaf).left view
         → MAX_NODES < length c + 1 + added
-        → (MAX_NODES < s.before + s.budget) × (MAX_NODES < s.before + threat_tree rule s.depth s.root)
+        → HasNoRoom rule s
     full-there added fits few over = let a = behind-fits in let b =
         node-fits in (omega (arith, b, fits, over), omega (arith, a, b, few, over))
 
     -- the same where the refusal is that of a win by a double point
     pub double-full : {E : Type 0} (w : Grid) (d : DoublePoint) (nodes : ℕ) → w ≡ view → nodes ≡ answer_nodes rule view d
         → IsDoubleWin rule view d → s.attacked + nodes ≤ s.budget → (E → MAX_NODES < length c + (1 + answer_nodes rule w d))
-        → E → (MAX_NODES < s.before + s.budget) × (MAX_NODES < s.before + threat_tree rule s.depth s.root)
+        → E → HasNoRoom rule s
     double-full w d nodes same are wins fits refused e =
         let few = double-fits d wins in
         let over = refused e in
@@ -333,7 +334,7 @@ module _ (rule : RuleKind) (s : Search) (t : Tree) (c : List Node) (leaf : ℕ) 
 
     -- and where it is that of a last move
     pub last-full : {E : Type 0} → (E → MAX_NODES < length c + 1) → E
-        → (MAX_NODES < s.before + s.budget) × (MAX_NODES < s.before + threat_tree rule s.depth s.root)
+        → HasNoRoom rule s
     last-full refused e =
         let over = refused e in
         let fits = here.searching.counted.attacked_fits in

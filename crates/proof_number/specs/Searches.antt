@@ -8,6 +8,7 @@ use Rattle.game_rules.specs.declared.Outcome.TheVariants.{GoesOn}
 use Rattle.game_rules.specs.declared.Point.{Point}
 use Rattle.game_rules.specs.declared.RuleKind.{RuleKind}
 use Rattle.strategy_graph.specs.declared.Node.{Node}
+use Rattle.strategy_graph.specs.declared.TheConstants.{MAX_NODES}
 use Rattle.strategy_compiler.specs.Nodes.{IsCompiled}
 use Rattle.strategy_compiler.specs.Wins.{IsWrittenWin}
 use Rattle.proof_tree.specs.Combining.{is_settled, settled_numbers}
@@ -196,6 +197,10 @@ abbrev pub OnStep : Result Step SearchError → Type 0 → Type 0 → Type 0 →
 OnStep (Ok Done) D S E = D
 OnStep (Ok Spent) D S E = S
 OnStep (Err e) D S E = E
+
+-- neither the budget nor the game of threats leaves the compiler room for the nodes that it may get
+abbrev pub HasNoRoom : RuleKind → Search → Type 0
+HasNoRoom rule s = (MAX_NODES < s.before + s.budget) × (MAX_NODES < s.before + threat_tree rule s.depth s.root)
 
 -- the leaf of the tree is settled, and only the numbers above it changed
 pub record IsSettledAt (t u : Tree) (leaf : ℕ) (proved : Bool) : Type 0 where

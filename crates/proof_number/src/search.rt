@@ -26,7 +26,7 @@ ghost use Rattle.threat_game.specs.Replies.{IsChild, nodes_for};
 ghost use Rattle.proof_number.specs.Children.{AreSettled, child_note, child_numbers};
 ghost use Rattle.proof_number.specs.Notes.{note_at};
 ghost use Rattle.proof_number.specs.GameTrees.{board_at, left_at};
-ghost use Rattle.proof_number.specs.Searches.{Searches, IsSameAim, StandsAt, Grows, HasSpent, HasStayed, OnStep, IsSettledAt, IsExpandedAt, IsNew, KeepsTree, closed_nodes, game_of, noted_won};
+ghost use Rattle.proof_number.specs.Searches.{Searches, IsSameAim, StandsAt, Grows, HasNoRoom, HasSpent, HasStayed, OnStep, IsSettledAt, IsExpandedAt, IsNew, KeepsTree, closed_nodes, game_of, noted_won};
 
 use crate::REMEMBERED;
 use crate::looks::Looks;
@@ -116,7 +116,7 @@ impl Search {
         ensures longer { length tree.old.links ≤ length tree.new.links }
         ensures kept { (more : List AnyNode) × (compiler.new ≡ compiler.old ++ more) }
         ensures nothing { OnStep result ℕ (compiler.new ≡ compiler.old) ℕ }
-        ensures full { IsErrOf result SearchError.Full → (MAX_NODES < self.old.before + self.old.budget) × (MAX_NODES < self.old.before + threat_tree R.KIND self.old.depth self.old.root) }
+        ensures full { IsErrOf result SearchError.Full → HasNoRoom R.KIND self.old }
         ensures full_now { IsErrOf result SearchError.Full → length compiler.new ≡ MAX_NODES }
     {
         let leaf = tree.most_proving();
@@ -155,7 +155,7 @@ impl Search {
         ensures same { V.position view.new ≡ V.position view.old }
         ensures kept { (more : List AnyNode) × (compiler.new ≡ compiler.old ++ more) }
         ensures nothing { OnStep result ℕ (compiler.new ≡ compiler.old) ℕ }
-        ensures full { IsErrOf result SearchError.Full → (MAX_NODES < self.old.before + self.old.budget) × (MAX_NODES < self.old.before + threat_tree R.KIND self.old.depth self.old.root) }
+        ensures full { IsErrOf result SearchError.Full → HasNoRoom R.KIND self.old }
         ensures full_now { IsErrOf result SearchError.Full → length compiler.new ≡ MAX_NODES }
     {
         match tree.link(leaf).kind {
@@ -194,7 +194,7 @@ impl Search {
         ensures same { V.position view.new ≡ V.position view.old }
         ensures kept { (more : List AnyNode) × (compiler.new ≡ compiler.old ++ more) }
         ensures nothing { OnStep result ℕ (compiler.new ≡ compiler.old) ℕ }
-        ensures full { IsErrOf result SearchError.Full → (MAX_NODES < self.old.before + self.old.budget) × (MAX_NODES < self.old.before + threat_tree R.KIND self.old.depth self.old.root) }
+        ensures full { IsErrOf result SearchError.Full → HasNoRoom R.KIND self.old }
         ensures full_now { IsErrOf result SearchError.Full → length compiler.new ≡ MAX_NODES }
     {
         match self.recall::<R, V>(view, leaf) {
@@ -237,7 +237,7 @@ impl Search {
         ensures same { V.position view.new ≡ V.position view.old }
         ensures kept { (more : List AnyNode) × (compiler.new ≡ compiler.old ++ more) }
         ensures nothing { OnStep result ℕ (compiler.new ≡ compiler.old) ℕ }
-        ensures full { IsErrOf result SearchError.Full → (MAX_NODES < self.old.before + self.old.budget) × (MAX_NODES < self.old.before + threat_tree R.KIND self.old.depth self.old.root) }
+        ensures full { IsErrOf result SearchError.Full → HasNoRoom R.KIND self.old }
         ensures full_now { IsErrOf result SearchError.Full → length compiler.new ≡ MAX_NODES }
     {
         match looks.find_attacks::<V>(view, &mut self.board)? {
@@ -266,7 +266,7 @@ impl Search {
             (HasSpent R.KIND self.old self.new tree.old tree.new) (HasStayed self.old self.new tree.old tree.new) }
         ensures kept { (more : List AnyNode) × (compiler.new ≡ compiler.old ++ more) }
         ensures nothing { OnStep result ℕ (compiler.new ≡ compiler.old) ℕ }
-        ensures full { IsErrOf result SearchError.Full → (MAX_NODES < self.old.before + self.old.budget) × (MAX_NODES < self.old.before + threat_tree R.KIND self.old.depth self.old.root) }
+        ensures full { IsErrOf result SearchError.Full → HasNoRoom R.KIND self.old }
         ensures full_now { IsErrOf result SearchError.Full → length compiler.new ≡ MAX_NODES }
     {
         let win = compile_last(compiler, p)?;
@@ -294,7 +294,7 @@ impl Search {
         ensures same { V.position view.new ≡ V.position view.old }
         ensures kept { (more : List AnyNode) × (compiler.new ≡ compiler.old ++ more) }
         ensures nothing { OnStep result ℕ (compiler.new ≡ compiler.old) ℕ }
-        ensures full { IsErrOf result SearchError.Full → (MAX_NODES < self.old.before + self.old.budget) × (MAX_NODES < self.old.before + threat_tree R.KIND self.old.depth self.old.root) }
+        ensures full { IsErrOf result SearchError.Full → HasNoRoom R.KIND self.old }
         ensures full_now { IsErrOf result SearchError.Full → length compiler.new ≡ MAX_NODES }
     {
         let count = self.attacked + answers_of::<R, V>(view, double);
@@ -388,7 +388,7 @@ impl Search {
         ensures same { V.position view.new ≡ V.position view.old }
         ensures kept { (more : List AnyNode) × (compiler.new ≡ compiler.old ++ more) }
         ensures nothing { OnStep result ℕ (compiler.new ≡ compiler.old) ℕ }
-        ensures full { IsErrOf result SearchError.Full → (MAX_NODES < self.old.before + self.old.budget) × (MAX_NODES < self.old.before + threat_tree R.KIND self.old.depth self.old.root) }
+        ensures full { IsErrOf result SearchError.Full → HasNoRoom R.KIND self.old }
         ensures full_now { IsErrOf result SearchError.Full → length compiler.new ≡ MAX_NODES }
     {
         let left = self.notes[leaf as usize].left;
@@ -416,7 +416,7 @@ impl Search {
         ensures same { V.position view.new ≡ V.position view.old }
         ensures kept { (more : List AnyNode) × (compiler.new ≡ compiler.old ++ more) }
         ensures nothing { OnStep result ℕ (compiler.new ≡ compiler.old) ℕ }
-        ensures full { IsErrOf result SearchError.Full → (MAX_NODES < self.old.before + self.old.budget) × (MAX_NODES < self.old.before + threat_tree R.KIND self.old.depth self.old.root) }
+        ensures full { IsErrOf result SearchError.Full → HasNoRoom R.KIND self.old }
         ensures full_now { IsErrOf result SearchError.Full → length compiler.new ≡ MAX_NODES }
     {
         let left = self.notes[leaf as usize].left;
