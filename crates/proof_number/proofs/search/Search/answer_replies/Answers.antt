@@ -1,21 +1,35 @@
 use Rattle.std.proofs.Common.{rules, ◌≡◌, ◌∙◌, ◌+◌, ◌<◌, ◌≤◌, ℕ, false, sym, ap, subst, arith, List, length, IfNone, IsErrOf, Some, None}
-use Rattle.std.proofs.Common.{sum_by}
+use Rattle.std.proofs.Common.{get_or, Option, sum_by}
 use Rattle.std.proofs.lemmas.List.{get_or_default}
 use Rattle.game_rules.specs.Grid.{Grid}
+use Rattle.game_rules.specs.declared.RuleKind.{RuleKind}
+use Rattle.proof_tree.specs.Trees.{Tree}
 use Rattle.proof_tree.proofs.SumLaws.{fresh-numbers}
+use Rattle.strategy_graph.specs.declared.Node.{Node}
 use Rattle.strategy_graph.specs.declared.TheConstants.{MAX_NODES}
 use Rattle.strategy_compiler.specs.declared.error.SearchError.TheVariants.{Full}
 use Rattle.proof_number.specs.declared.notes.Note.{Note}
 use Rattle.threat_game.specs.declared.replies.Child.{Child}
+use Rattle.threat_game.specs.declared.replies.Children.{Children}
 use Rattle.proof_number.specs.declared.search.Search.{Search}
 use Rattle.strategy_compiler.specs.Growth.{GrowsBy}
 use Rattle.proof_number.specs.Notes.{no_note, note_at}
+use Rattle.proof_number.specs.Searches.{StandsAt}
 use Rattle.threat_game.specs.Replies.{AreChildren, AreReplies, HasEscape, nodes_for}
 use Rattle.proof_number.proofs.Steps.{leaf-board, leaf-is, leaf-noted, root-open, settled-at, attacked-few}
 use Rattle.proof_number.proofs.Defending.{all-fresh, defend-moves, defend-no_five, defend-reply, each-is, each-same, escape-grows, few-new}
 use Rattle.proof_number.proofs.Defending.{replies-few, replies-full, replies-grow, replies-spent, settled-same, some-new}
 use Rattle.proof_number.proofs.ExpandedCounts.{budget-few, short-there, sums-there}
 use Rattle.proof_number.proofs.search.Search.answer_replies.Goals as goal
+
+-- what the replies are judged as, within the moves that are left at the leaf
+judged : (rule : RuleKind) (s : Search) (t : Tree) (d : List Node) (leaf : ℕ) (view : Grid) → StandsAt rule s t d leaf view
+    → (n : Note) (left : ℕ) (r o : Option Children) → n ≡ get_or s.notes.items leaf n → left ≡ n.left → r ≡ o
+    → AreReplies rule left view r → AreReplies rule (note_at s.notes.items leaf).left view o
+judged rule s t d leaf view at_leaf n left r o read from is replies =
+    let noted = leaf-noted rule s t d leaf view at_leaf in
+    let note : n ≡ note_at s.notes.items leaf = read ∙ get_or_default s.notes.items leaf n no_note noted in
+    subst (λ (k : ℕ). AreReplies rule k view o) (from ∙ ap (λ (x : Note). x.left) note) (subst (AreReplies rule left view) is replies)
 
 pub index-requires : goal.index-requires
 index-requires g c = let low = leaf-noted g.R.Rule.KIND c.args.self.now c.args.tree.now c.args.compiler.now c.args.leaf
@@ -39,14 +53,6 @@ settle-requires g c = record {
       (g.V.Seen.position c.args.view.now) c.requires.at_leaf;
 }
 
-pub expand-requires-clause-open : goal.expand-requires-clause-open
-expand-requires-clause-open g c = root-open g.R.Rule.KIND c.args.self.now c.args.tree.now c.args.compiler.now c.args.leaf
-    (g.V.Seen.position c.args.view.now) c.requires.at_leaf
-
-pub expand-requires-clause-leaf : goal.expand-requires-clause-leaf
-expand-requires-clause-leaf g c = leaf-is g.R.Rule.KIND c.args.self.now c.args.tree.now c.args.compiler.now c.args.leaf
-    (g.V.Seen.position c.args.view.now) c.requires.at_leaf
-
 pub judge_replies-requires-clause-some_moves : goal.judge_replies-requires-clause-some_moves
 judge_replies-requires-clause-some_moves g c =
     let noted = leaf-noted g.R.Rule.KIND c.args.self.now c.args.tree.now c.args.compiler.now c.args.leaf (g.V.Seen.position c.args.view.now)
@@ -60,17 +66,10 @@ judge_replies-requires-clause-some_moves g c =
 
 pub overflow_add-count : goal.overflow_add-count
 overflow_add-count g c =
-    let noted = leaf-noted g.R.Rule.KIND c.args.self.now c.args.tree.now c.args.compiler.now c.args.leaf (g.V.Seen.position c.args.view.now)
-    c.requires.at_leaf in
-    let note : c.index.result.now ≡ note_at c.args.self.now.notes.items c.args.leaf =
-    c.index.ensures ∙ get_or_default c.args.self.now.notes.items c.args.leaf c.index.result.now no_note noted in
-    let left_is = c.from.ensures ∙ ap (λ (n : Note). n.left) note in
-    let answers : AreReplies g.R.Rule.KIND c.from.result (g.V.Seen.position c.args.view.now) (Some c.in-Some.children) =
-    subst (AreReplies g.R.Rule.KIND c.from.result (g.V.Seen.position c.args.view.now)) c.in-Some.is
-    c.in_ok-judge_replies.ensures.replies in
     let are : AreChildren g.R.Rule.KIND (note_at c.args.self.now.notes.items c.args.leaf).left (g.V.Seen.position c.args.view.now)
-    c.in-Some.children = subst (λ (n : ℕ). AreChildren g.R.Rule.KIND n (g.V.Seen.position c.args.view.now) c.in-Some.children) left_is
-    answers in
+    c.in-Some.children = judged g.R.Rule.KIND c.args.self.now c.args.tree.now c.args.compiler.now c.args.leaf
+    (g.V.Seen.position c.args.view.now) c.requires.at_leaf c.index.result.now c.from.result _ (Some c.in-Some.children) c.index.ensures
+    c.from.ensures c.in-Some.is c.in_ok-judge_replies.ensures.replies in
     let a = attacked-few g.R.Rule.KIND c.args.self.now c.args.tree.now c.args.compiler.now c.args.leaf (g.V.Seen.position c.args.view.now)
     c.requires.at_leaf in
     let few = replies-few g.R.Rule.KIND c.args.self.now c.args.tree.now c.args.compiler.now c.args.leaf (g.V.Seen.position c.args.view.now)
@@ -84,11 +83,10 @@ returns-in-None-clause-step g c =
     let note : c.index.result.now ≡ note_at c.args.self.now.notes.items c.args.leaf =
     c.index.ensures ∙ get_or_default c.args.self.now.notes.items c.args.leaf c.index.result.now no_note noted in
     let left_is = c.from.ensures ∙ ap (λ (n : Note). n.left) note in
-    let answers : AreReplies g.R.Rule.KIND c.from.result (g.V.Seen.position c.args.view.now) None =
-    subst (AreReplies g.R.Rule.KIND c.from.result (g.V.Seen.position c.args.view.now)) c.in-None.is
-    c.in_ok-judge_replies.ensures.replies in
     let escape : HasEscape g.R.Rule.KIND (note_at c.args.self.now.notes.items c.args.leaf).left (g.V.Seen.position c.args.view.now) =
-    subst (λ (n : ℕ). HasEscape g.R.Rule.KIND n (g.V.Seen.position c.args.view.now)) left_is answers in
+    judged g.R.Rule.KIND c.args.self.now c.args.tree.now c.args.compiler.now c.args.leaf
+    (g.V.Seen.position c.args.view.now) c.requires.at_leaf c.index.result.now c.from.result _ None c.index.ensures c.from.ensures
+    c.in-None.is c.in_ok-judge_replies.ensures.replies in
     let early : c.from.result ≤ 2 = subst (λ o. IfNone o (c.from.result ≤ 2)) c.in-None.is c.in_ok-judge_replies.ensures.early in
     let is = leaf-is g.R.Rule.KIND c.args.self.now c.args.tree.now c.args.compiler.now c.args.leaf (g.V.Seen.position c.args.view.now)
     c.requires.at_leaf in
@@ -100,17 +98,10 @@ returns-in-None-clause-step g c =
 
 pub returns-then-count-self-clause-step : goal.returns-then-count-self-clause-step
 returns-then-count-self-clause-step g c =
-    let noted = leaf-noted g.R.Rule.KIND c.args.self.now c.args.tree.now c.args.compiler.now c.args.leaf (g.V.Seen.position c.args.view.now)
-    c.requires.at_leaf in
-    let note : c.index.result.now ≡ note_at c.args.self.now.notes.items c.args.leaf =
-    c.index.ensures ∙ get_or_default c.args.self.now.notes.items c.args.leaf c.index.result.now no_note noted in
-    let left_is = c.from.ensures ∙ ap (λ (n : Note). n.left) note in
-    let answers : AreReplies g.R.Rule.KIND c.from.result (g.V.Seen.position c.args.view.now) (Some c.in-Some.children) =
-    subst (AreReplies g.R.Rule.KIND c.from.result (g.V.Seen.position c.args.view.now)) c.in-Some.is
-    c.in_ok-judge_replies.ensures.replies in
     let are : AreChildren g.R.Rule.KIND (note_at c.args.self.now.notes.items c.args.leaf).left (g.V.Seen.position c.args.view.now)
-    c.in-Some.children = subst (λ (n : ℕ). AreChildren g.R.Rule.KIND n (g.V.Seen.position c.args.view.now) c.in-Some.children) left_is
-    answers in
+    c.in-Some.children = judged g.R.Rule.KIND c.args.self.now c.args.tree.now c.args.compiler.now c.args.leaf
+    (g.V.Seen.position c.args.view.now) c.requires.at_leaf c.index.result.now c.from.result _ (Some c.in-Some.children) c.index.ensures
+    c.from.ensures c.in-Some.is c.in_ok-judge_replies.ensures.replies in
     let over = c.if-count-self.true in
     replies-spent g.R.Rule.KIND c.args.self.now c.args.tree.now c.args.compiler.now c.args.leaf (g.V.Seen.position c.args.view.now)
     c.requires.at_leaf c.requires.defend c.in-Some.children are (omega (arith, over)) c.judge_replies.new.board
@@ -118,17 +109,10 @@ returns-then-count-self-clause-step g c =
 
 pub returns-in_err-settled-in-Some-clause-full : goal.returns-in_err-settled-in-Some-clause-full
 returns-in_err-settled-in-Some-clause-full g c =
-    let noted = leaf-noted g.R.Rule.KIND c.args.self.now c.args.tree.now c.args.compiler.now c.args.leaf (g.V.Seen.position c.args.view.now)
-    c.requires.at_leaf in
-    let note : c.index.result.now ≡ note_at c.args.self.now.notes.items c.args.leaf =
-    c.index.ensures ∙ get_or_default c.args.self.now.notes.items c.args.leaf c.index.result.now no_note noted in
-    let left_is = c.from.ensures ∙ ap (λ (n : Note). n.left) note in
-    let answers : AreReplies g.R.Rule.KIND c.from.result (g.V.Seen.position c.args.view.now) (Some c.in-Some.children) =
-    subst (AreReplies g.R.Rule.KIND c.from.result (g.V.Seen.position c.args.view.now)) c.in-Some.is
-    c.in_ok-judge_replies.ensures.replies in
     let are : AreChildren g.R.Rule.KIND (note_at c.args.self.now.notes.items c.args.leaf).left (g.V.Seen.position c.args.view.now)
-    c.in-Some.children = subst (λ (n : ℕ). AreChildren g.R.Rule.KIND n (g.V.Seen.position c.args.view.now) c.in-Some.children) left_is
-    answers in
+    c.in-Some.children = judged g.R.Rule.KIND c.args.self.now c.args.tree.now c.args.compiler.now c.args.leaf
+    (g.V.Seen.position c.args.view.now) c.requires.at_leaf c.index.result.now c.from.result _ (Some c.in-Some.children) c.index.ensures
+    c.from.ensures c.in-Some.is c.in_ok-judge_replies.ensures.replies in
     let within = c.if-count-self.false in
     let refused = subst (λ (xs : List Child). IsErrOf c.settle_children.result Full
     → MAX_NODES < length c.args.compiler.now + sum_by (λ child. nodes_for child.judged) xs) c.as_slice.ensures.value
@@ -137,70 +121,16 @@ returns-in_err-settled-in-Some-clause-full g c =
     (g.V.Seen.position c.args.view.now) c.requires.at_leaf c.requires.defend c.in-Some.children are (omega (arith, within)) refused in
     search rules
 
-pub expand-requires-clause-each : goal.expand-requires-clause-each
-expand-requires-clause-each g c =
+pub expand-requires : goal.expand-requires
+expand-requires g c =
     let noted = leaf-noted g.R.Rule.KIND c.args.self.now c.args.tree.now c.args.compiler.now c.args.leaf (g.V.Seen.position c.args.view.now)
     c.requires.at_leaf in
     let note : c.index.result.now ≡ note_at c.args.self.now.notes.items c.args.leaf =
     c.index.ensures ∙ get_or_default c.args.self.now.notes.items c.args.leaf c.index.result.now no_note noted in
-    let left_is = c.from.ensures ∙ ap (λ (n : Note). n.left) note in
-    let answers : AreReplies g.R.Rule.KIND c.from.result (g.V.Seen.position c.args.view.now) (Some c.in-Some.children) =
-    subst (AreReplies g.R.Rule.KIND c.from.result (g.V.Seen.position c.args.view.now)) c.in-Some.is
-    c.in_ok-judge_replies.ensures.replies in
     let are : AreChildren g.R.Rule.KIND (note_at c.args.self.now.notes.items c.args.leaf).left (g.V.Seen.position c.args.view.now)
-    c.in-Some.children = subst (λ (n : ℕ). AreChildren g.R.Rule.KIND n (g.V.Seen.position c.args.view.now) c.in-Some.children) left_is
-    answers in
-    let settled = settled-same g.R.Rule.KIND c.index.result.now.left (note_at c.args.self.now.notes.items c.args.leaf).left
-    (g.V.Seen.position c.judge_replies.new.view) (g.V.Seen.position c.args.view.now) c.settle_children.new.compiler
-    c.as_slice.result.now c.in-Some.children.all.items
-    c.in_ok-settled-in-Some.settled.numbers.items c.as_slice-in-Some.result.now c.in_ok-settled-in-Some.settled.notes.items
-    c.as_slice-in-Some-2.result.now
-    (ap (λ (n : Note). n.left) note) c.judge_replies.ensures.same c.as_slice.ensures.value c.as_slice-in-Some.ensures.value
-    c.as_slice-in-Some-2.ensures.value c.in_ok-settled-in-Some.ensures.settled in
-    let within = c.if-count-self.false in
-    fresh-numbers c.as_slice-in-Some.result.now
-    (all-fresh g.R.Rule.KIND c.args.self.now c.args.tree.now c.args.compiler.now c.args.leaf (g.V.Seen.position c.args.view.now)
-    c.requires.at_leaf c.requires.defend c.in-Some.children are c.settle_children.new.compiler c.as_slice-in-Some.result.now
-    c.as_slice-in-Some-2.result.now settled)
-
-pub expand-requires-clause-some : goal.expand-requires-clause-some
-expand-requires-clause-some g c =
-    let noted = leaf-noted g.R.Rule.KIND c.args.self.now c.args.tree.now c.args.compiler.now c.args.leaf (g.V.Seen.position c.args.view.now)
-    c.requires.at_leaf in
-    let note : c.index.result.now ≡ note_at c.args.self.now.notes.items c.args.leaf =
-    c.index.ensures ∙ get_or_default c.args.self.now.notes.items c.args.leaf c.index.result.now no_note noted in
-    let left_is = c.from.ensures ∙ ap (λ (n : Note). n.left) note in
-    let answers : AreReplies g.R.Rule.KIND c.from.result (g.V.Seen.position c.args.view.now) (Some c.in-Some.children) =
-    subst (AreReplies g.R.Rule.KIND c.from.result (g.V.Seen.position c.args.view.now)) c.in-Some.is
-    c.in_ok-judge_replies.ensures.replies in
-    let are : AreChildren g.R.Rule.KIND (note_at c.args.self.now.notes.items c.args.leaf).left (g.V.Seen.position c.args.view.now)
-    c.in-Some.children = subst (λ (n : ℕ). AreChildren g.R.Rule.KIND n (g.V.Seen.position c.args.view.now) c.in-Some.children) left_is
-    answers in
-    let settled = settled-same g.R.Rule.KIND c.index.result.now.left (note_at c.args.self.now.notes.items c.args.leaf).left
-    (g.V.Seen.position c.judge_replies.new.view) (g.V.Seen.position c.args.view.now) c.settle_children.new.compiler
-    c.as_slice.result.now c.in-Some.children.all.items
-    c.in_ok-settled-in-Some.settled.numbers.items c.as_slice-in-Some.result.now c.in_ok-settled-in-Some.settled.notes.items
-    c.as_slice-in-Some-2.result.now
-    (ap (λ (n : Note). n.left) note) c.judge_replies.ensures.same c.as_slice.ensures.value c.as_slice-in-Some.ensures.value
-    c.as_slice-in-Some-2.ensures.value c.in_ok-settled-in-Some.ensures.settled in
-    let within = c.if-count-self.false in
-    some-new g.R.Rule.KIND c.args.self.now c.args.tree.now c.args.compiler.now c.args.leaf (g.V.Seen.position c.args.view.now)
-    c.requires.at_leaf c.requires.defend c.in-Some.children are c.settle_children.new.compiler c.as_slice-in-Some.result.now
-    c.as_slice-in-Some-2.result.now settled
-
-pub expand-requires-clause-short : goal.expand-requires-clause-short
-expand-requires-clause-short g c =
-    let noted = leaf-noted g.R.Rule.KIND c.args.self.now c.args.tree.now c.args.compiler.now c.args.leaf (g.V.Seen.position c.args.view.now)
-    c.requires.at_leaf in
-    let note : c.index.result.now ≡ note_at c.args.self.now.notes.items c.args.leaf =
-    c.index.ensures ∙ get_or_default c.args.self.now.notes.items c.args.leaf c.index.result.now no_note noted in
-    let left_is = c.from.ensures ∙ ap (λ (n : Note). n.left) note in
-    let answers : AreReplies g.R.Rule.KIND c.from.result (g.V.Seen.position c.args.view.now) (Some c.in-Some.children) =
-    subst (AreReplies g.R.Rule.KIND c.from.result (g.V.Seen.position c.args.view.now)) c.in-Some.is
-    c.in_ok-judge_replies.ensures.replies in
-    let are : AreChildren g.R.Rule.KIND (note_at c.args.self.now.notes.items c.args.leaf).left (g.V.Seen.position c.args.view.now)
-    c.in-Some.children = subst (λ (n : ℕ). AreChildren g.R.Rule.KIND n (g.V.Seen.position c.args.view.now) c.in-Some.children) left_is
-    answers in
+    c.in-Some.children = judged g.R.Rule.KIND c.args.self.now c.args.tree.now c.args.compiler.now c.args.leaf
+    (g.V.Seen.position c.args.view.now) c.requires.at_leaf c.index.result.now c.from.result _ (Some c.in-Some.children) c.index.ensures
+    c.from.ensures c.in-Some.is c.in_ok-judge_replies.ensures.replies in
     let settled = settled-same g.R.Rule.KIND c.index.result.now.left (note_at c.args.self.now.notes.items c.args.leaf).left
     (g.V.Seen.position c.judge_replies.new.view) (g.V.Seen.position c.args.view.now) c.settle_children.new.compiler
     c.as_slice.result.now c.in-Some.children.all.items
@@ -214,46 +144,24 @@ expand-requires-clause-short g c =
     let all = few-new g.R.Rule.KIND c.args.self.now c.args.tree.now c.args.compiler.now c.args.leaf (g.V.Seen.position c.args.view.now)
     c.requires.at_leaf c.requires.defend c.in-Some.children are c.settle_children.new.compiler c.as_slice-in-Some.result.now
     c.as_slice-in-Some-2.result.now settled (omega (arith, within)) in
-    short-there g.R.Rule.KIND c.args.self.now c.args.tree.now c.args.compiler.now c.args.leaf (g.V.Seen.position c.args.view.now)
-    c.requires.at_leaf c.as_slice-in-Some.result.now
-    (some-new g.R.Rule.KIND c.args.self.now c.args.tree.now c.args.compiler.now c.args.leaf (g.V.Seen.position c.args.view.now)
+    let some = some-new g.R.Rule.KIND c.args.self.now c.args.tree.now c.args.compiler.now c.args.leaf (g.V.Seen.position c.args.view.now)
     c.requires.at_leaf c.requires.defend c.in-Some.children are c.settle_children.new.compiler c.as_slice-in-Some.result.now
-    c.as_slice-in-Some-2.result.now settled) (omega (arith, all, few))
-
-pub expand-requires-clause-sums : goal.expand-requires-clause-sums
-expand-requires-clause-sums g c =
-    let noted = leaf-noted g.R.Rule.KIND c.args.self.now c.args.tree.now c.args.compiler.now c.args.leaf (g.V.Seen.position c.args.view.now)
-    c.requires.at_leaf in
-    let note : c.index.result.now ≡ note_at c.args.self.now.notes.items c.args.leaf =
-    c.index.ensures ∙ get_or_default c.args.self.now.notes.items c.args.leaf c.index.result.now no_note noted in
-    let left_is = c.from.ensures ∙ ap (λ (n : Note). n.left) note in
-    let answers : AreReplies g.R.Rule.KIND c.from.result (g.V.Seen.position c.args.view.now) (Some c.in-Some.children) =
-    subst (AreReplies g.R.Rule.KIND c.from.result (g.V.Seen.position c.args.view.now)) c.in-Some.is
-    c.in_ok-judge_replies.ensures.replies in
-    let are : AreChildren g.R.Rule.KIND (note_at c.args.self.now.notes.items c.args.leaf).left (g.V.Seen.position c.args.view.now)
-    c.in-Some.children = subst (λ (n : ℕ). AreChildren g.R.Rule.KIND n (g.V.Seen.position c.args.view.now) c.in-Some.children) left_is
-    answers in
-    let settled = settled-same g.R.Rule.KIND c.index.result.now.left (note_at c.args.self.now.notes.items c.args.leaf).left
-    (g.V.Seen.position c.judge_replies.new.view) (g.V.Seen.position c.args.view.now) c.settle_children.new.compiler
-    c.as_slice.result.now c.in-Some.children.all.items
-    c.in_ok-settled-in-Some.settled.numbers.items c.as_slice-in-Some.result.now c.in_ok-settled-in-Some.settled.notes.items
-    c.as_slice-in-Some-2.result.now
-    (ap (λ (n : Note). n.left) note) c.judge_replies.ensures.same c.as_slice.ensures.value c.as_slice-in-Some.ensures.value
-    c.as_slice-in-Some-2.ensures.value c.in_ok-settled-in-Some.ensures.settled in
-    let within = c.if-count-self.false in
-    let few = budget-few g.R.Rule.KIND c.args.self.now c.args.tree.now c.args.compiler.now c.args.leaf (g.V.Seen.position c.args.view.now)
-    c.requires.at_leaf in
-    let all = few-new g.R.Rule.KIND c.args.self.now c.args.tree.now c.args.compiler.now c.args.leaf (g.V.Seen.position c.args.view.now)
+    c.as_slice-in-Some-2.result.now settled in
+    let fresh = all-fresh g.R.Rule.KIND c.args.self.now c.args.tree.now c.args.compiler.now c.args.leaf (g.V.Seen.position c.args.view.now)
     c.requires.at_leaf c.requires.defend c.in-Some.children are c.settle_children.new.compiler c.as_slice-in-Some.result.now
-    c.as_slice-in-Some-2.result.now settled (omega (arith, within)) in
-    sums-there g.R.Rule.KIND c.args.self.now c.args.tree.now c.args.compiler.now c.args.leaf (g.V.Seen.position c.args.view.now)
-    c.requires.at_leaf c.as_slice-in-Some.result.now
-    (some-new g.R.Rule.KIND c.args.self.now c.args.tree.now c.args.compiler.now c.args.leaf (g.V.Seen.position c.args.view.now)
-    c.requires.at_leaf c.requires.defend c.in-Some.children are c.settle_children.new.compiler c.as_slice-in-Some.result.now
-    c.as_slice-in-Some-2.result.now settled) (omega (arith, all, few))
-    (all-fresh g.R.Rule.KIND c.args.self.now c.args.tree.now c.args.compiler.now c.args.leaf (g.V.Seen.position c.args.view.now)
-    c.requires.at_leaf c.requires.defend c.in-Some.children are c.settle_children.new.compiler c.as_slice-in-Some.result.now
-    c.as_slice-in-Some-2.result.now settled)
+    c.as_slice-in-Some-2.result.now settled in
+    record {
+      «open» = root-open g.R.Rule.KIND c.args.self.now c.args.tree.now c.args.compiler.now c.args.leaf
+          (g.V.Seen.position c.args.view.now) c.requires.at_leaf;
+      leaf = leaf-is g.R.Rule.KIND c.args.self.now c.args.tree.now c.args.compiler.now c.args.leaf
+          (g.V.Seen.position c.args.view.now) c.requires.at_leaf;
+      some = some;
+      each = fresh-numbers c.as_slice-in-Some.result.now fresh;
+      short = short-there g.R.Rule.KIND c.args.self.now c.args.tree.now c.args.compiler.now c.args.leaf
+          (g.V.Seen.position c.args.view.now) c.requires.at_leaf c.as_slice-in-Some.result.now some (omega (arith, all, few));
+      sums = sums-there g.R.Rule.KIND c.args.self.now c.args.tree.now c.args.compiler.now c.args.leaf
+          (g.V.Seen.position c.args.view.now) c.requires.at_leaf c.as_slice-in-Some.result.now some (omega (arith, all, few)) fresh;
+    }
 
 pub returns-in_ok-expand-in-Some-clause-step : goal.returns-in_ok-expand-in-Some-clause-step
 returns-in_ok-expand-in-Some-clause-step g c =
@@ -261,13 +169,10 @@ returns-in_ok-expand-in-Some-clause-step g c =
     c.requires.at_leaf in
     let note : c.index.result.now ≡ note_at c.args.self.now.notes.items c.args.leaf =
     c.index.ensures ∙ get_or_default c.args.self.now.notes.items c.args.leaf c.index.result.now no_note noted in
-    let left_is = c.from.ensures ∙ ap (λ (n : Note). n.left) note in
-    let answers : AreReplies g.R.Rule.KIND c.from.result (g.V.Seen.position c.args.view.now) (Some c.in-Some.children) =
-    subst (AreReplies g.R.Rule.KIND c.from.result (g.V.Seen.position c.args.view.now)) c.in-Some.is
-    c.in_ok-judge_replies.ensures.replies in
     let are : AreChildren g.R.Rule.KIND (note_at c.args.self.now.notes.items c.args.leaf).left (g.V.Seen.position c.args.view.now)
-    c.in-Some.children = subst (λ (n : ℕ). AreChildren g.R.Rule.KIND n (g.V.Seen.position c.args.view.now) c.in-Some.children) left_is
-    answers in
+    c.in-Some.children = judged g.R.Rule.KIND c.args.self.now c.args.tree.now c.args.compiler.now c.args.leaf
+    (g.V.Seen.position c.args.view.now) c.requires.at_leaf c.index.result.now c.from.result _ (Some c.in-Some.children) c.index.ensures
+    c.from.ensures c.in-Some.is c.in_ok-judge_replies.ensures.replies in
     let settled = settled-same g.R.Rule.KIND c.index.result.now.left (note_at c.args.self.now.notes.items c.args.leaf).left
     (g.V.Seen.position c.judge_replies.new.view) (g.V.Seen.position c.args.view.now) c.settle_children.new.compiler
     c.as_slice.result.now c.in-Some.children.all.items
@@ -297,13 +202,10 @@ settle_children-requires g c =
     c.requires.at_leaf in
     let note : c.index.result.now ≡ note_at c.args.self.now.notes.items c.args.leaf =
     c.index.ensures ∙ get_or_default c.args.self.now.notes.items c.args.leaf c.index.result.now no_note noted in
-    let left_is = c.from.ensures ∙ ap (λ (n : Note). n.left) note in
-    let answers : AreReplies g.R.Rule.KIND c.from.result (g.V.Seen.position c.args.view.now) (Some c.in-Some.children) =
-    subst (AreReplies g.R.Rule.KIND c.from.result (g.V.Seen.position c.args.view.now)) c.in-Some.is
-    c.in_ok-judge_replies.ensures.replies in
     let are : AreChildren g.R.Rule.KIND (note_at c.args.self.now.notes.items c.args.leaf).left (g.V.Seen.position c.args.view.now)
-    c.in-Some.children = subst (λ (n : ℕ). AreChildren g.R.Rule.KIND n (g.V.Seen.position c.args.view.now) c.in-Some.children) left_is
-    answers in
+    c.in-Some.children = judged g.R.Rule.KIND c.args.self.now c.args.tree.now c.args.compiler.now c.args.leaf
+    (g.V.Seen.position c.args.view.now) c.requires.at_leaf c.index.result.now c.from.result _ (Some c.in-Some.children) c.index.ensures
+    c.from.ensures c.in-Some.is c.in_ok-judge_replies.ensures.replies in
     record {
       each = each-same g.R.Rule.KIND c.index.result.now.left (note_at c.args.self.now.notes.items c.args.leaf).left
           (g.V.Seen.position c.judge_replies.new.view) (g.V.Seen.position c.args.view.now)

@@ -39,27 +39,23 @@ kids-notes-requires g c =
     let all = ap length c.as_slice.ensures.value in
     record { fits = omega (arith, fits, first, count, all) }
 
-pub compile_answers-requires-clause-some : goal.compile_answers-requires-clause-some
-compile_answers-requires-clause-some g c =
+pub compile_answers-requires : goal.compile_answers-requires
+compile_answers-requires g c =
     let items : List Note = c.args.self.now.notes.items in
     let are : c.kids-notes.result.now ≡ take (link_at c.args.tree.now.links c.first_proved-proved.result).count
     (drop (link_at c.args.tree.now.links c.first_proved-proved.result).first items) =
     c.kids-notes.ensures.kids ∙ ap (λ (ns : List Note). take c.link-link.result.count (drop c.link-link.result.first ns))
     c.as_slice.ensures.value ∙ ap (λ (l : Link). take l.count (drop l.first items)) c.link-link.ensures.link in
-    compile-kids g.R.Rule.KIND c.args.self.now c.args.tree.now c.args.compiler.now c.args.node c.requires.searching c.requires.in_tree
-    c.requires.attack c.requires.proved c.requires.unwritten c.first_proved-proved.result c.first_proved-proved.ensures.child
-    c.first_proved-proved.ensures.proved c.kids-notes.result.now are
-
-pub compile_answers-requires-clause-below : goal.compile_answers-requires-clause-below
-compile_answers-requires-clause-below g c =
-    let items : List Note = c.args.self.now.notes.items in
-    let are : c.kids-notes.result.now ≡ take (link_at c.args.tree.now.links c.first_proved-proved.result).count
-    (drop (link_at c.args.tree.now.links c.first_proved-proved.result).first items) =
-    c.kids-notes.ensures.kids ∙ ap (λ (ns : List Note). take c.link-link.result.count (drop c.link-link.result.first ns))
-    c.as_slice.ensures.value ∙ ap (λ (l : Link). take l.count (drop l.first items)) c.link-link.ensures.link in
-    compile-below g.R.Rule.KIND c.args.self.now c.args.tree.now c.args.compiler.now c.args.node c.requires.searching c.requires.in_tree
-    c.requires.attack c.requires.proved c.requires.unwritten c.first_proved-proved.result c.first_proved-proved.ensures.child
-    c.first_proved-proved.ensures.proved c.kids-notes.result.now are
+    record {
+      some = compile-kids g.R.Rule.KIND c.args.self.now c.args.tree.now c.args.compiler.now c.args.node c.requires.searching
+          c.requires.in_tree c.requires.attack c.requires.proved c.requires.unwritten c.first_proved-proved.result
+          c.first_proved-proved.ensures.child
+          c.first_proved-proved.ensures.proved c.kids-notes.result.now are;
+      below = compile-below g.R.Rule.KIND c.args.self.now c.args.tree.now c.args.compiler.now c.args.node c.requires.searching
+          c.requires.in_tree c.requires.attack c.requires.proved c.requires.unwritten c.first_proved-proved.result
+          c.first_proved-proved.ensures.child
+          c.first_proved-proved.ensures.proved c.kids-notes.result.now are;
+    }
 
 pub returns-in-Err-clause-keeps : goal.returns-in-Err-clause-keeps
 returns-in-Err-clause-keeps g c = keeps-all c.args.self.now
@@ -97,8 +93,8 @@ note_win-requires-clause-few g c =
     c.first_proved-proved.ensures.proved c.kids-notes.result.now are c.compile_answers.new.compiler c.index.result.now.at move
     c.in-Ok.win c.in-Ok.ensures.writes c.in-Ok.ensures.wins c.in-Ok.ensures.moves
 
-pub returns-in-Ok-clause-win : goal.returns-in-Ok-clause-win
-returns-in-Ok-clause-win g c =
+pub returns-in-Ok : goal.returns-in-Ok
+returns-in-Ok g c =
     let items : List Note = c.args.self.now.notes.items in
     let are : c.kids-notes.result.now ≡ take (link_at c.args.tree.now.links c.first_proved-proved.result).count
     (drop (link_at c.args.tree.now.links c.first_proved-proved.result).first items) =
@@ -109,60 +105,29 @@ returns-in-Ok-clause-win g c =
     c.first_proved-proved.ensures.child c.first_proved-proved.ensures.proved in
     let move : (note_at items c.first_proved-proved.result).at ≡ c.index.result.now.at =
     ap (λ (n : Note). n.at) (get_or_default items c.first_proved-proved.result no_note c.index.result.now low ∙ sym c.index.ensures) in
-    compile-won g.R.Rule.KIND c.args.self.now c.args.tree.now c.args.compiler.now c.args.node c.requires.searching c.requires.in_tree
-    c.requires.attack c.requires.proved c.requires.unwritten c.first_proved-proved.result c.first_proved-proved.ensures.child
-    c.first_proved-proved.ensures.proved c.kids-notes.result.now are c.compile_answers.new.compiler c.index.result.now.at move
-    c.in-Ok.win c.in-Ok.ensures.writes c.in-Ok.ensures.wins c.in-Ok.ensures.moves
-
-pub returns-in-Ok-clause-searching : goal.returns-in-Ok-clause-searching
-returns-in-Ok-clause-searching g c =
-    let items : List Note = c.args.self.now.notes.items in
-    let are : c.kids-notes.result.now ≡ take (link_at c.args.tree.now.links c.first_proved-proved.result).count
-    (drop (link_at c.args.tree.now.links c.first_proved-proved.result).first items) =
-    c.kids-notes.ensures.kids ∙ ap (λ (ns : List Note). take c.link-link.result.count (drop c.link-link.result.first ns))
-    c.as_slice.ensures.value ∙ ap (λ (l : Link). take l.count (drop l.first items)) c.link-link.ensures.link in
-    let low = compile-noted g.R.Rule.KIND c.args.self.now c.args.tree.now c.args.compiler.now c.args.node c.requires.searching
-    c.requires.in_tree c.requires.attack c.requires.proved c.requires.unwritten c.first_proved-proved.result
-    c.first_proved-proved.ensures.child c.first_proved-proved.ensures.proved in
-    let move : (note_at items c.first_proved-proved.result).at ≡ c.index.result.now.at =
-    ap (λ (n : Note). n.at) (get_or_default items c.first_proved-proved.result no_note c.index.result.now low ∙ sym c.index.ensures) in
-    compile-searches g.R.Rule.KIND c.args.self.now c.args.tree.now c.args.compiler.now c.args.node c.requires.searching c.requires.in_tree
-    c.requires.attack c.requires.proved c.requires.unwritten c.first_proved-proved.result c.first_proved-proved.ensures.child
-    c.first_proved-proved.ensures.proved c.kids-notes.result.now are c.compile_answers.new.compiler c.index.result.now.at move
-    c.in-Ok.win c.in-Ok.ensures.writes c.in-Ok.ensures.wins c.in-Ok.ensures.moves c.note_win.new.self c.note_win.ensures.rest
-    c.note_win.ensures.notes
-
-pub returns-in-Ok-clause-keeps : goal.returns-in-Ok-clause-keeps
-returns-in-Ok-clause-keeps g c =
-    let items : List Note = c.args.self.now.notes.items in
-    let are : c.kids-notes.result.now ≡ take (link_at c.args.tree.now.links c.first_proved-proved.result).count
-    (drop (link_at c.args.tree.now.links c.first_proved-proved.result).first items) =
-    c.kids-notes.ensures.kids ∙ ap (λ (ns : List Note). take c.link-link.result.count (drop c.link-link.result.first ns))
-    c.as_slice.ensures.value ∙ ap (λ (l : Link). take l.count (drop l.first items)) c.link-link.ensures.link in
-    let low = compile-noted g.R.Rule.KIND c.args.self.now c.args.tree.now c.args.compiler.now c.args.node c.requires.searching
-    c.requires.in_tree c.requires.attack c.requires.proved c.requires.unwritten c.first_proved-proved.result
-    c.first_proved-proved.ensures.child c.first_proved-proved.ensures.proved in
-    let move : (note_at items c.first_proved-proved.result).at ≡ c.index.result.now.at =
-    ap (λ (n : Note). n.at) (get_or_default items c.first_proved-proved.result no_note c.index.result.now low ∙ sym c.index.ensures) in
-    compile-keeps g.R.Rule.KIND c.args.self.now c.args.tree.now c.args.compiler.now c.args.node c.requires.searching c.requires.in_tree
-    c.requires.attack c.requires.proved c.requires.unwritten c.first_proved-proved.result c.first_proved-proved.ensures.child
-    c.first_proved-proved.ensures.proved c.kids-notes.result.now are c.compile_answers.new.compiler c.index.result.now.at move
-    c.in-Ok.win c.in-Ok.ensures.writes c.in-Ok.ensures.wins c.in-Ok.ensures.moves c.note_win.new.self c.note_win.ensures.rest
-    c.note_win.ensures.notes
-
-pub returns-in-Ok-clause-kept : goal.returns-in-Ok-clause-kept
-returns-in-Ok-clause-kept g c =
-    let items : List Note = c.args.self.now.notes.items in
-    let are : c.kids-notes.result.now ≡ take (link_at c.args.tree.now.links c.first_proved-proved.result).count
-    (drop (link_at c.args.tree.now.links c.first_proved-proved.result).first items) =
-    c.kids-notes.ensures.kids ∙ ap (λ (ns : List Note). take c.link-link.result.count (drop c.link-link.result.first ns))
-    c.as_slice.ensures.value ∙ ap (λ (l : Link). take l.count (drop l.first items)) c.link-link.ensures.link in
-    let low = compile-noted g.R.Rule.KIND c.args.self.now c.args.tree.now c.args.compiler.now c.args.node c.requires.searching
-    c.requires.in_tree c.requires.attack c.requires.proved c.requires.unwritten c.first_proved-proved.result
-    c.first_proved-proved.ensures.child c.first_proved-proved.ensures.proved in
-    let move : (note_at items c.first_proved-proved.result).at ≡ c.index.result.now.at =
-    ap (λ (n : Note). n.at) (get_or_default items c.first_proved-proved.result no_note c.index.result.now low ∙ sym c.index.ensures) in
-    compile-kept g.R.Rule.KIND c.args.self.now c.args.tree.now c.args.compiler.now c.args.node c.requires.searching c.requires.in_tree
-    c.requires.attack c.requires.proved c.requires.unwritten c.first_proved-proved.result c.first_proved-proved.ensures.child
-    c.first_proved-proved.ensures.proved c.kids-notes.result.now are c.compile_answers.new.compiler c.index.result.now.at move
-    c.in-Ok.win c.in-Ok.ensures.writes c.in-Ok.ensures.wins c.in-Ok.ensures.moves
+    record {
+      win = compile-won g.R.Rule.KIND c.args.self.now c.args.tree.now c.args.compiler.now c.args.node c.requires.searching
+          c.requires.in_tree c.requires.attack c.requires.proved c.requires.unwritten c.first_proved-proved.result
+          c.first_proved-proved.ensures.child
+          c.first_proved-proved.ensures.proved c.kids-notes.result.now are c.compile_answers.new.compiler c.index.result.now.at move
+          c.in-Ok.win c.in-Ok.ensures.writes c.in-Ok.ensures.wins c.in-Ok.ensures.moves;
+      searching = compile-searches g.R.Rule.KIND c.args.self.now c.args.tree.now c.args.compiler.now c.args.node c.requires.searching
+          c.requires.in_tree c.requires.attack c.requires.proved c.requires.unwritten c.first_proved-proved.result
+          c.first_proved-proved.ensures.child
+          c.first_proved-proved.ensures.proved c.kids-notes.result.now are c.compile_answers.new.compiler c.index.result.now.at move
+          c.in-Ok.win c.in-Ok.ensures.writes c.in-Ok.ensures.wins c.in-Ok.ensures.moves c.note_win.new.self c.note_win.ensures.rest
+          c.note_win.ensures.notes;
+      keeps = compile-keeps g.R.Rule.KIND c.args.self.now c.args.tree.now c.args.compiler.now c.args.node c.requires.searching
+          c.requires.in_tree c.requires.attack c.requires.proved c.requires.unwritten c.first_proved-proved.result
+          c.first_proved-proved.ensures.child
+          c.first_proved-proved.ensures.proved c.kids-notes.result.now are c.compile_answers.new.compiler c.index.result.now.at move
+          c.in-Ok.win c.in-Ok.ensures.writes c.in-Ok.ensures.wins c.in-Ok.ensures.moves c.note_win.new.self c.note_win.ensures.rest
+          c.note_win.ensures.notes;
+      kept = compile-kept g.R.Rule.KIND c.args.self.now c.args.tree.now c.args.compiler.now c.args.node c.requires.searching
+          c.requires.in_tree c.requires.attack c.requires.proved c.requires.unwritten c.first_proved-proved.result
+          c.first_proved-proved.ensures.child
+          c.first_proved-proved.ensures.proved c.kids-notes.result.now are c.compile_answers.new.compiler c.index.result.now.at move
+          c.in-Ok.win c.in-Ok.ensures.writes c.in-Ok.ensures.wins c.in-Ok.ensures.moves;
+      full = λ e. absurd (cc);
+      full_now = λ e. absurd (cc);
+    }
