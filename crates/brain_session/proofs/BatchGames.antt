@@ -39,12 +39,6 @@ fit-stones None board stones fit same = rw same
     (record { on_board = λ k d less. absurd (omega arith); distinct = λ i j d less more. absurd (omega arith) })
 fit-stones (Some b) board stones fit same = rw same (record { on_board = fit.on_board; distinct = fit.distinct })
 
-pub waits-first : (stones : List BatchStone) (width height : ℕ)
-    → StonesFit (empty_board width height) (record { stones = stones; bad = false }) → Waits stones 0 (empty_board width height)
-waits-first stones width height fit = record {
-  empty = λ k d from less. empty-empty width height (get_or stones k d).at (fit.on_board k d less);
-}
-
 pub waits-next : (stones : List BatchStone) (i : ℕ) (start board next : Grid) (side : Side) (d : BatchStone)
     → StonesFit start (record { stones = stones; bad = false }) → Waits stones i board → i < length stones
     → next ≡ put board side (get_or stones i d).at → Waits stones (i + 1) next

@@ -1,8 +1,7 @@
 -- What is known of the moves so far, and one more.
 use Rattle.std.proofs.Common.{◌≡◌, ℕ, ◌+◌, ◌-◌, ◌*◌, ◌≤◌, Bool, true, false, cond, refl, sym, ap, subst, ◌∙◌, arith}
-use Rattle.std.proofs.Common.{List, [], ◌∷◌, ◌++◌, map, append_assoc, Some, None, find, Result, Ok, Err}
+use Rattle.std.proofs.Common.{List, [], ◌∷◌, ◌++◌, map, append_assoc, Some, find, Result, Ok, Err}
 use Rattle.std.specs.List.{filter, sum_by, AllByRecursion}
-use Rattle.std.proofs.lemmas.List.{append-nil}
 use Rattle.std.proofs.lemmas.List.Sums.{sum_by-cons}
 use Rattle.game_rules.proofs.Common.{Grid, outcome, points_of}
 use Rattle.game_rules.specs.declared.Outcome.TheVariants.{GoesOn}
@@ -20,7 +19,7 @@ use Rattle.strategy_compiler.proofs.Growing.{grows-more, grows-not, grows-then, 
 use Rattle.strategy_compiler.proofs.Replies.{beaten-grown}
 use Rattle.strategy_compiler.proofs.Standing.{compiled-lower}
 use Rattle.defence_finder.specs.Defences.{is_defence, is_beaten, is_spent, defences_of, beaten_of, first_spent}
-use Rattle.defence_finder.specs.Answers.{AreBeaten, most_nodes, nodes_after}
+use Rattle.defence_finder.specs.Answers.{most_nodes, nodes_after}
 use Rattle.defence_finder.specs.Finding.{AreFound, IsSettled, IsVerdict}
 use Rattle.defence_finder.specs.declared.finder.Verdict.{Verdict}
 use Rattle.defence_finder.specs.declared.finder.Verdict.TheVariants.{NoReply, Holds, Beaten, Spent}
@@ -192,12 +191,3 @@ module _ (rule : RuleKind) (n budget : ℕ) (b : Grid) (a t : List Node) (good :
     (done : left ≡ []) (walk : IsWalk rule n budget b a t good bad left) where
   found-all : AreFound rule n budget b t good bad []
   found-all = subst (λ (ps : List Point). AreFound rule n budget b t good bad ps) done walk.found
-
-  pub all-good : good ≡ defences_of rule n b
-  all-good = sym (append-nil good) ∙ found-all.good_are
-
-  pub all-beaten : AreBeaten rule n b t bad
-  all-beaten = record { points = sym (append-nil (map (λ r. r.at) bad)) ∙ found-all.bad_are; each = found-all.each }
-
-  pub never-spent : None ≡ first_spent rule n budget b
-  never-spent = found-all.enough

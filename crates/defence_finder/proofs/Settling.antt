@@ -3,11 +3,11 @@ use Rattle.std.proofs.Common.{◌≡◌, ◌↔◌, inl, inr, ℕ, suc, ◌-◌,
 use Rattle.std.proofs.Common.{◌∙◌, arith, List, [], ◌∷◌, Some, Option, IfSome, find, nat_lt, slice_get}
 use Rattle.std.proofs.lemmas.Bool.{cases_lt, le-ltb}
 use borrow.Author.Tests.{lt-ltb}
-use Rattle.game_rules.proofs.Common.{Grid, IsPosition, points_of, is_same_point, five, mover, other, outcome, after, goes_on, saves}
+use Rattle.game_rules.proofs.Common.{Grid, IsPosition, points_of, is_same_point, five, mover, other, outcome, after, goes_on}
 use Rattle.game_rules.proofs.Common.{has_five, five_points, wins_by_fours}
 use Rattle.game_rules.specs.declared.RuleKind.{RuleKind}
 use Rattle.game_rules.specs.declared.Outcome.{Outcome}
-use Rattle.game_rules.specs.declared.Outcome.TheVariants.{Refused, Wins, Fouls, Draws, GoesOn}
+use Rattle.game_rules.specs.declared.Outcome.TheVariants.{GoesOn}
 use Rattle.game_rules.specs.declared.Point.{Point}
 use Rattle.game_rules.proofs.Fives.{least_five, first-left, second-left}
 use Rattle.game_rules.proofs.Games.{WinsUnder-more, WinsUnder-test, five-wins}
@@ -29,22 +29,6 @@ use Rattle.defence_finder.specs.Defences.{holds_or, is_spent}
 use Rattle.defence_finder.specs.Finding.{IsSettled}
 
 module _ (rule : RuleKind) (n budget : ℕ) (b : Grid) (q : Point) where
-  -- a move that does not go on
-  pub settled-still : (o : Outcome) → outcome rule b q ≡ o → goes_on o ≡ false → IsSettled rule n budget b q (saves o) false
-  settled-still o e still = record {
-    enough = ap (λ (o : Outcome). goes_on o && nat_lt budget (four_cost rule n (after b q))) e
-        ∙ ap (λ (r : Bool). r && nat_lt budget (four_cost rule n (after b q))) still;
-    defence_is = ap (λ (o : Outcome). holds_or o (not (wins_by_fours rule n (after b q)))) e ∙ by_outcome o still;
-    beaten_is = ap (λ (o : Outcome). goes_on o && not (holds_or o (not (wins_by_fours rule n (after b q))))) e
-        ∙ ap (λ (r : Bool). r && not (holds_or o (not (wins_by_fours rule n (after b q))))) still;
-  } where
-    by_outcome : (o : Outcome) → goes_on o ≡ false → holds_or o (not (wins_by_fours rule n (after b q))) ≡ saves o
-    by_outcome GoesOn h = cc
-    by_outcome Refused h = refl
-    by_outcome Wins h = refl
-    by_outcome (Fouls f) h = refl
-    by_outcome Draws h = refl
-
   module _ (on : outcome rule b q ≡ GoesOn) where
     -- one that goes on, where the budget suffices after it
     pub settled-on : (w : Bool) → wins_by_fours rule n (after b q) ≡ w → four_cost rule n (after b q) ≤ budget

@@ -17,7 +17,6 @@ use Rattle.game_rules.specs.declared.Side.TheVariants.{Black, White}
 use Rattle.game_rules.specs.declared.Cell.TheVariants.{Empty, Black as BlackStone, White as WhiteStone}
 use Rattle.game_rules.specs.declared.Axis.TheVariants.{Row, Column, Down, Up}
 use Rattle.std.proofs.lemmas.Bool.Decides.{nat_tests}
-use Rattle.std.proofs.Math.Nat.{mul_comm}
 use Rattle.std.proofs.lemmas.List.{set_comm}
 use borrow.Author.Tests.{ltb-true, leb-true}
 
@@ -234,13 +233,6 @@ cells_fit b ok =
 
 pub grid_eq : (a b : Grid) → a.width ≡ b.width → a.height ≡ b.height → a.cells ≡ b.cells → a ≡ b
 grid_eq a b w h c = λ i. record { width = w i; height = h i; cells = c i }
-
--- a point below the board has its place past the last cell
-pub place-below : (b : Grid) (p : Point) → IsBoard b → b.height ≤ p.y → length b.cells ≤ place_of b p
-place-below b p ok below =
-    let rows : b.width * b.height ≤ b.width * p.y = mul-le b.width b.height b.width p.y (omega arith) below in
-    let turned : b.width * p.y ≡ p.y * b.width = mul_comm b.width p.y in
-    rw ok.filled (omega arith)
 
 pub kept_empty_by : (b : Grid) (r q : Point) (t : Bool) → is_empty b r ≡ t → cond t (Some r) None ≡ Some q → (r ≡ q) × (is_empty b r ≡ true)
 kept_empty_by b r q true e h = (let same : Some r ≡ Some q = h in cc, e)

@@ -7,7 +7,7 @@ use Rattle.std.proofs.lemmas.Bool.{false_from_ne_true, both_ways}
 use Rattle.std.proofs.lemmas.Bool.Decides.{nat_tests}
 use Rattle.std.proofs.lemmas.List.Sums.{length-filter, sum_by-le-sum_by}
 use Rattle.game_rules.proofs.Common.{Grid, IsBoard, is_on, is_empty, is_stone_of, stone_of, put, along, points_of, points_within, holds}
-use Rattle.game_rules.proofs.Common.{same_line, is_aligned, stones_ahead, stones_behind, line_bound, stone_at, wins_on, five, go}
+use Rattle.game_rules.proofs.Common.{same_line, is_aligned, stones_ahead, stones_behind, line_bound, stone_at, wins_on, five}
 use Rattle.game_rules.proofs.Common.{stones_towards, other, has_five, five_points}
 use Rattle.game_rules.specs.declared.RuleKind.{RuleKind}
 use Rattle.game_rules.specs.declared.Side.{Side}
@@ -35,10 +35,6 @@ line_here d p q a c here = by_axis d (along-OnLine d p a c q here) where
   by_axis Column h = let x = h.0 in grind (arith, nat_tests)
   by_axis Down h = let x = h.0 in let y = h.1 in grind (arith, nat_tests)
   by_axis Up h = let x = h.0 in let y = h.1 in grind (arith, nat_tests)
-
-pub line_go : (w : Way) (d : Axis) (p q : Point) (x y : ℕ) → go w d p x y ≡ Some q → same_line d p q ≡ true
-line_go Ahead d p q x y here = line_here d p q x y here
-line_go Behind d p q x y here = line_here d p q y x here
 
 -- two points on a line with a third are on one line
 pub line_join : (d : Axis) (w p q : Point) → same_line d w p ≡ true → same_line d w q ≡ true → same_line d p q ≡ true

@@ -8,7 +8,7 @@ use Rattle.std.proofs.lemmas.Bool.Decides.{nat_tests}
 use Rattle.std.proofs.lemmas.List.Sums.{sum_by-set}
 use Rattle.game_rules.proofs.Common.{Grid, IsBoard, is_on, is_empty, is_stone_of, stone_of, holds, cell_at, place_of, put, lift, along}
 use Rattle.game_rules.proofs.Common.{stones_of, empties_of, stone_at, stones_ahead, stones_behind, run_of, line_bound, row_wins, wins_on}
-use Rattle.game_rules.proofs.Common.{five, IsPosition, IsUnwon, NamesMover, outcome, outcome_by, foul_of, mover, other, after}
+use Rattle.game_rules.proofs.Common.{five, IsPosition, NamesMover, outcome, outcome_by, foul_of, mover, other, after}
 use Rattle.game_rules.specs.declared.Foul.{Foul}
 use Rattle.game_rules.specs.declared.Side.{Side}
 use Rattle.game_rules.specs.declared.Cell.{Cell}
@@ -375,45 +375,6 @@ IsBoard-lift b p ok = record {
   height_fits = ok.height_fits;
   filled = length-set b.cells (place_of b p) Empty ∙ ok.filled;
 }
-
-module _ (b : Grid) (p : Point) (ok : IsBoard b) (turns : NamesMover b) (mine : holds b (other (mover b)) p ≡ true) where
-  lifted_on : is_on b p ≡ true
-  lifted_on = and_left (is_on b p) _ mine
-
-  lifted_counts : (t s : Side) → other (mover b) ≡ s → stones_of b t ≡ stones_of (lift b p) t + cond (is_stone_of t (stone_of s)) 1 0
-  lifted_counts t s e =
-      let again : put (lift b p) s p ≡ b = put-lift b s p (ap (λ (u : Side). holds b u p) (sym e) ∙ mine) in
-      ap (λ (c : Grid). stones_of c t) (sym again) ∙ stones_of-put (lift b p) s t p (IsBoard-lift b p ok) (lift-empty b p ok lifted_on)
-
-  -- the side that moved last is to move again
-  pub turns-lift : NamesMover (lift b p)
-  turns-lift = elim (mover_by (nat_eq (stones_of b Black) (stones_of b White)) _ _ refl turns) [
-    | inl h ↦
-        let e : other (mover b) ≡ White = ap (λ r. other (cond r Black White)) h.0 in
-        let black = lifted_counts Black White e in
-        let white = lifted_counts White White e in
-        let both = h.1 in
-        inr (omega (arith, black, white, both))
-    | inr h ↦
-        let e : other (mover b) ≡ Black = ap (λ r. other (cond r Black White)) h.0 in
-        let black = lifted_counts Black Black e in
-        let white = lifted_counts White Black e in
-        let both = h.1 in
-        inl (omega (arith, black, white, both))
-  ]
-
--- what is left where the last stone is taken back is lawful, if no run of it wins
-pub IsPosition-lift : (rule : RuleKind) (b : Grid) (p : Point) → IsPosition rule b → holds b (other (mover b)) p ≡ true
-    → IsUnwon rule (lift b p) → IsPosition rule (lift b p)
-IsPosition-lift rule b p lawful mine unwon =
-    let on : is_on b p ≡ true = and_left (is_on b p) _ mine in
-    let more = empties_of-put (lift b p) (other (mover b)) p (IsBoard-lift b p lawful.board) (lift-empty b p lawful.board on) in
-    record {
-      board = IsBoard-lift b p lawful.board;
-      turns = turns-lift b p lawful.board lawful.turns mine;
-      unwon = unwon;
-      open_points = omega (arith, more);
-    }
 
 -- a board has a point for each move
 pub points-many : (rule : RuleKind) (b : Grid) → IsPosition rule b → (m : ℕ) → 1 ≤ b.width * b.height * suc m

@@ -1,9 +1,8 @@
 -- Lines seen from a point in one of two ways: what holds ahead holds behind.
 use Rattle.std.proofs.Common.{◌≡◌, ◌≢◌, inl, inr, ℕ, ◌+◌, ◌-◌, ◌≤◌, true, refl, sym, ap, ◌∙◌, arith}
 use Rattle.std.specs.Prelude.{Option, Some, None}
-use Rattle.std.specs.List.{prefix_len, range_with_len}
 use Rattle.std.proofs.lemmas.Bool.{cases_lt, both_ways}
-use Rattle.game_rules.proofs.Common.{Grid, IsBoard, is_on, holds, put, stone_at, run_of, line_bound, towards, go, opposite, stones_towards}
+use Rattle.game_rules.proofs.Common.{Grid, IsBoard, is_on, holds, put, stone_at, run_of, go, opposite, stones_towards}
 use Rattle.game_rules.specs.declared.Side.{Side}
 use Rattle.game_rules.specs.declared.Axis.{Axis}
 use Rattle.game_rules.specs.declared.Way.{Way}
@@ -84,12 +83,6 @@ module _ (b : Grid) (s : Side) (d : Axis) (p : Point) (on : is_on b p ≡ true) 
   pub least_back : (w : Way) (m : ℕ) → ((j : ℕ) → 1 ≤ j → j ≤ m → stone_at b s (go w d p 0 j) ≡ true)
       → m ≤ stones_towards (opposite w) b s d p
   least_back w m all = least (opposite w) m (λ j low high. ap (stone_at b s) (go-opposite w d p j 0) ∙ all j low high)
-
--- the row next to a point in one way, as the prefix of its places that hold stones
-pub stones_towards-prefix : (way : Way) (b : Grid) (s : Side) (d : Axis) (p : Point)
-    → prefix_len (λ j. stone_at b s (towards way d p j)) (range_with_len 1 (line_bound b)) ≡ stones_towards way b s d p
-stones_towards-prefix Ahead b s d p = refl
-stones_towards-prefix Behind b s d p = refl
 
 -- ---- a stone, and what stands in its two ways
 

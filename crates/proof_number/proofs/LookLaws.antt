@@ -2,7 +2,6 @@
 use Rattle.std.proofs.Common.{◌≡◌, ℕ, ◌+◌, ◌<◌, ◌≤◌, List, ◌++◌, take, drop, length, refl, sym, ap, subst, ◌∙◌, arith}
 use Rattle.std.proofs.Common.{Option, Some, None, IfSome}
 use Rattle.std.proofs.lemmas.List.{drop-append-le, length-append, length-drop, take-append-le}
-use Rattle.std.proofs.Math.Seq.{drop-append_seam, take-length}
 use Rattle.game_rules.specs.Grid.{Grid}
 use Rattle.game_rules.specs.declared.RuleKind.{RuleKind}
 use Rattle.game_rules.specs.declared.Point.{Point}
@@ -12,9 +11,7 @@ use Rattle.position_table.specs.Remembering.{Remembered, IsTrueTable, value_unde
 use Rattle.position_table.proofs.Remembering.{true-found, true-weaker}
 use Rattle.threat_game.specs.declared.attacks.Attacks.TheVariants.{Moves}
 use Rattle.threat_game.specs.declared.replies.Child.{Child}
-use Rattle.threat_game.specs.declared.replies.Children.{Children}
 use Rattle.threat_game.specs.Attacks.{AreAttacks}
-use Rattle.threat_game.specs.Replies.{AreChildren}
 use Rattle.proof_number.specs.declared.spans.Span.{Span}
 use Rattle.proof_number.specs.declared.looks.Look.{Look}
 use Rattle.proof_number.specs.declared.looks.Look.TheVariants.{Tried, Denied, Escape, Replies}
@@ -36,34 +33,7 @@ module _ {T : Type 0} (all more : List T) (span : Span) where
       let d = length-append all more in
       record { within = omega (arith, within, d); holds = subst says (sym (part-kept is.within)) is.holds }
 
--- a list stands where it was added
-pub part-added : {T : Type 0} (before list after : List T) (span : Span) (says : List T → Type 0) → IsAdded before list after span
-    → says list → IsPart after says span
-part-added before list after span says added holds = record {
-  within = (let a = ap length added.all in let b = length-append before list in let first = added.first in let count = added.count in
-      omega (arith, a, b, first, count));
-  holds = subst says (sym part) holds;
-} where
-  part : part_of span after ≡ list
-  part =
-      ap (λ (n : ℕ). take n (drop span.first after)) added.count
-      ∙ ap (λ (n : ℕ). take (length list) (drop n after)) added.first
-      ∙ ap (λ xs. take (length list) (drop (length before) xs)) added.all
-      ∙ ap (take (length list)) (drop-append_seam before list) ∙ take-length list
-
 -- ---- looks
-
--- children are the same wherever they stand
-pub children-all : (rule : RuleKind) (n : ℕ) (c : Grid) (children : Children) → AreChildren rule n c children
-    → AreChildrenOf rule n c children.count children.all.items
-children-all rule n c children are other items count = record {
-  judged = are.judged;
-  are = are.are;
-  kept = items ∙ are.kept;
-  some = subst (λ (xs : List Child). 0 < length xs) (sym items) are.some;
-  count_is = rw (items, count) are.count_is;
-  few = (let f = are.few in omega (arith, f, count));
-}
 
 module _ (rule : RuleKind) (moves : List Point) (children : List Child) where
   moves-longer : (more : List Point) (b : Grid) (n : ℕ) (look : Look) → IsTrueLook rule moves children b n look

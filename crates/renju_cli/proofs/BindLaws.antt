@@ -103,9 +103,6 @@ pub record BoundUpTo (shelf : Option Files) (names : List (List ℕ)) (book : Bo
   pub bindable : AreBindable shelf names files
   pub bound : IsBound files book
 
-pub up-to-none : (shelf : Option Files) (book : Book) → IsBound [] book → BoundUpTo shelf [] book
-up-to-none shelf book bound = record { files = []; bindable = tt; bound = bound }
-
 module _ (shelf : Option Files) (names : List (List ℕ)) (old : Book) (h : BoundUpTo shelf names old) where
   pub up-to-count : length old.entries ≡ length names
   up-to-count = entries-count old.table h.files old.entries h.bound.entries ∙ bindable-count shelf names h.files h.bindable

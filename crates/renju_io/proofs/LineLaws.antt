@@ -100,10 +100,6 @@ lines-front byte front more none =
       | inr short ↦ ap (λ front. lines (front ++ more)) (sym (take_all (MAX_LINE_BYTES + 1) (byte ∷ front) (omega arith)))
     ]
 
--- nothing is told of bytes that stay as they are
-pub Tells-same : (bytes : List ℕ) → Tells bytes [] bytes
-Tells-same bytes = record { whatever = λ more. refl }
-
 -- of bytes in which no line ends the front may stand for all
 pub Tells-front : (front : List ℕ) → HasNoLineFeed front → Tells front [] (take (MAX_LINE_BYTES + 1) front)
 Tells-front [] none = record { whatever = λ more. refl }

@@ -156,14 +156,3 @@ module _ (rule : RuleKind) (b : Grid) (lawful : IsPosition rule b) (p : Point) (
       (one-left rule b (mover b) p lawful.board empty w h
       (λ same. let yes : is_same_point p w ≡ true = ap (is_same_point p) (sym same) ∙ is_same_point-itself p in let no : false ≡ true =
       sym differ ∙ yes in cc))
-
-  -- where the defender has no five point, it has none after a stone of the attacker
-  pub none-stays : has_five rule b (other (mover b)) ≡ false → has_five rule (after b p) (other (mover b)) ≡ false
-  none-stays h = has_five-none rule (after b p) (other (mover b))
-      (none-left rule b (mover b) p lawful.board empty (none-short rule b (other (mover b)) h))
-
--- where the defender has one five point, it has none once that is taken
-pub one-gone : (rule : RuleKind) (b : Grid) (w : Point) → IsPosition rule b → in_short (five_points rule b (other (mover b))) ≡ OnePoint w
-    → has_five rule (after b w) (other (mover b)) ≡ false
-one-gone rule b w lawful h = has_five-none rule (after b w) (other (mover b))
-    (one-taken rule b (mover b) w lawful.board (one-empty rule b (other (mover b)) w h) w h refl)

@@ -9,7 +9,7 @@ use Rattle.game_rules.specs.declared.Axis.{Axis}
 use Rattle.game_rules.specs.declared.Axis.TheVariants.{Row, Column, Down, Up}
 use Rattle.game_rules.specs.declared.Point.{Point}
 use Rattle.game_rules.proofs.Boards.{Apart, and_left, same_or_apart, not-apart, empty_holds, holds-put_same, holds-put_other, is_empty-on}
-use Rattle.game_rules.proofs.Boards.{stone_of-other, on_x, on_y}
+use Rattle.game_rules.proofs.Boards.{stone_of-other}
 use Rattle.std.proofs.lemmas.Bool.{cases_lt}
 use Rattle.game_rules.proofs.Lines.{OnLine, along-OnLine}
 use Rattle.game_rules.proofs.Positions.{holds-other}
@@ -35,25 +35,6 @@ place_low Row p near = omega arith
 place_low Column p near = omega arith
 place_low Down p near = omega arith
 place_low Up p near = omega arith
-
--- ---- the lines of a board
-
-abbrev pub LiesIn : Axis → Point → ℕ → ℕ → Type 0
-LiesIn d p first past = (first ≤ line_of d p) × (line_of d p < past)
-
-module _ (b : Grid) (p : Point) (ok : IsBoard b) (on : is_on b p ≡ true) where
-  pub row_lies : LiesIn Row p 0 b.height
-  row_lies = let y = on_y b p on in (omega arith, omega (arith, y))
-
-  pub column_lies : LiesIn Column p 0 b.width
-  column_lies = let x = on_x b p on in (omega arith, omega (arith, x))
-
-  pub down_lies : LiesIn Down p (32 - b.height) (31 + b.width)
-  down_lies = let x = on_x b p on in let y = on_y b p on in let high = ok.height_fits in
-      (omega (arith, x, y, high), omega (arith, x, y, high))
-
-  pub up_lies : LiesIn Up p 0 (b.width + b.height - 1)
-  up_lies = let x = on_x b p on in let y = on_y b p on in (omega arith, omega (arith, x, y))
 
 -- ---- a line's bits
 

@@ -144,16 +144,6 @@ module _ (b : Grid) (p : Point) (on : is_on b p ≡ true) where
     by_point None h = refl
     by_point (Some q) h = no_stone s q (is_on b q) refl (past w d q h)
 
-  pub left_bounded : (w : Way) (d : Axis) → left w d < b.width + b.height
-  left_bounded Ahead Row = let v = x_low in let u = y_low in omega arith
-  left_bounded Ahead Column = let v = x_low in let u = y_low in omega arith
-  left_bounded Ahead Down = let v = x_low in let u = y_low in omega arith
-  left_bounded Ahead Up = let v = x_low in let u = y_low in omega arith
-  left_bounded Behind Row = let v = x_low in let u = y_low in omega arith
-  left_bounded Behind Column = let v = x_low in let u = y_low in omega arith
-  left_bounded Behind Down = let v = x_low in let u = y_low in omega arith
-  left_bounded Behind Up = let v = x_low in let u = y_low in omega arith
-
 -- ---- a step of the walk, as the code takes it
 
 walked_by : (r t : Bool) (start s u place n : ℕ) → r ≡ t → s ≡ u → Walked t start (n * u) place → Walked r start (n * s) place
@@ -167,9 +157,6 @@ module _ (b : Grid) (p : Point) (ok : IsBoard b) (on : is_on b p ≡ true) (w : 
   walked : Walked r (place_of b p) ((k + 1) * s) (place_of b step_here.0)
   walked = walked_by r (goes_on w d) (place_of b p) s (stride d b.width) (place_of b step_here.0) (k + 1) way far
       (place_walk b p step_here.0 (k + 1) (let wide = ok.wide in omega arith) w d step_here.1)
-
-  pub walk_back : r ≡ false → (k + 1) * s ≤ place_of b p
-  walk_back h = Walked-back r (place_of b p) ((k + 1) * s) (place_of b step_here.0) walked h
 
   module _ (place : ℕ) (here : place ≡ place_after r (place_of b p) ((k + 1) * s)) where
     place_is : place ≡ place_of b step_here.0

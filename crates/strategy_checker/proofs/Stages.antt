@@ -3,7 +3,7 @@ use Rattle.std.proofs.Common.{◌≡◌, ℕ, ◌+◌, ◌<◌, List, [], ◌∷
 use Rattle.std.specs.Prelude.{Option, Some, None, Result, Ok, Err, slice_get}
 use Rattle.std.proofs.Common.{inl, inr}
 use Rattle.std.proofs.lemmas.List.{reverse-append}
-use Rattle.std.proofs.lemmas.List.Elements.{All-cons, All-nil}
+use Rattle.std.proofs.lemmas.List.Elements.{All-cons}
 use Rattle.game_rules.specs.Grid.{Grid, lift}
 use Rattle.game_rules.specs.Play.{IsPosition, after, outcome}
 use Rattle.game_rules.specs.declared.Point.{Point}
@@ -127,12 +127,6 @@ module _ (rule : RuleKind) (t : List Node) (n : Node) (c : Grid) (o : Stage) whe
   stage-stops qs mid late new (Fault why) Memory is h noted = tt
   stage-stops qs mid late new Spent last is h noted = let before = is.counted in rw noted (omega (arith, before, h))
   stage-stops qs mid late new Memory last is h noted = rw noted tt
-
-  -- at the end of its replies it is accepted, with so many arrivals
-  pub stage-done : (left : ℕ) → IsStage rule t n c o [] left
-      → Accepted rule t o.node (lift c n.attack) × (left + arrivals rule t o.node (lift c n.attack) ≡ o.before)
-  stage-done left is = let counted = is.counted in
-      (is.met (All-nil (Meets rule (answers_of n) (Accepted rule t) c)), omega (arith, counted))
 
   module _ (i start : ℕ) (waits : Waits rule t n c o i start) where
     behind : arrivals_at rule (answers_of n) (arrivals rule t) c o.meeting.reply ≡ arrivals rule t i (after c o.meeting.reply)

@@ -1,5 +1,5 @@
 -- A move played and taken back, arrivals that are taken, and faults.
-use Rattle.std.proofs.Common.{◌≡◌, ℕ, zero, suc, ◌+◌, ◌≤◌, false, drop, List, [], ◌∷◌, ◌++◌, reverse, refl, sym, ap, subst, ◌∙◌, arith}
+use Rattle.std.proofs.Common.{◌≡◌, ℕ, zero, suc, ◌+◌, ◌≤◌, false, drop, List, [], ◌∷◌, ◌++◌, refl, sym, ap, subst, ◌∙◌, arith}
 use Rattle.std.specs.Prelude.{Some, slice_get, Result, Ok, Err}
 use Rattle.game_rules.specs.Grid.{Grid, is_empty, empties_of}
 use Rattle.game_rules.specs.Play.{IsPosition, outcome, after, mover}
@@ -45,26 +45,6 @@ fault-stops rule t A n L p why old new Spent none here noted = absurd noted
 fault-stops rule t A n L p why old new Memory none here noted = tt
 
 -- ---- steps
-
--- a step behind k arrivals, said in other words
-pub walked-then : (rule : RuleKind) (t : List Node) (B C : Type 0) (k m n : ℕ) (L M : List Point → Why → Type 0) (old mid new : Walk)
-    (r : Result (Unit {0}) Stop)
-    → old.left ≡ mid.left + k → n ≡ k + m → (B → C) → ((line : List Point) (why : Why) → L line why → M line why)
-    → Walked rule t B m L mid new r → Walked rule t C n M old new r
-walked-then rule t B C k m n L M old mid new (Ok done) before all f leads walked =
-    let counted = walked.1.counted in
-    (f walked.0, record { counted = omega (arith, counted, before, all); no_line = walked.1.no_line; memo = walked.1.memo })
-walked-then rule t B C k m n L M old mid new (Err (Fault why)) before all f leads h = leads (reverse new.line) why h
-walked-then rule t B C k m n L M old mid new (Err Spent) before all f leads h = omega (arith, h, before, all)
-walked-then rule t B C k m n L M old mid new (Err Memory) before all f leads h = tt
-
--- a stop behind k arrivals, where more are behind it
-pub walked-stops : (rule : RuleKind) (t : List Node) (B C : Type 0) (k m n : ℕ) (L : List Point → Why → Type 0) (old mid new : Walk)
-    (stop : Stop)
-    → old.left ≡ mid.left + k → k + m ≤ n → Walked rule t B m L mid new (Err stop) → Walked rule t C n L old new (Err stop)
-walked-stops rule t B C k m n L old mid new (Fault why) before most h = h
-walked-stops rule t B C k m n L old mid new Spent before most h = omega (arith, h, before, most)
-walked-stops rule t B C k m n L old mid new Memory before most h = tt
 
 -- arrivals that are taken
 pub taken : (rule : RuleKind) (t : List Node) (A : Type 0) (n : ℕ) (L : List Point → Why → Type 0) (old new : Walk)

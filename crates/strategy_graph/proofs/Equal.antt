@@ -49,10 +49,6 @@ node_itself n =
       (same_replies_decides n.replies n.replies).1 refl,
     ) ((rest-eq n.rest n.rest).1 refl)
 
--- `==` of nodes tells whether they are equal
-pub node-eq : (m n : Node) → Decides (node_ghosts.eq m n) (m ≡ n)
-node-eq m n = (node_from m n, λ e. subst (λ (v : Node). node_ghosts.eq m v ≡ true) e (node_itself m))
-
 pub lt_of_le : (ks : List Node) → length ks ≤ MAX_NODES → (length ks ≡ MAX_NODES → ⊥) → length ks < MAX_NODES
 lt_of_le ks l e = omega arith
 

@@ -1,6 +1,6 @@
 -- Nodes at their places in a table, and in one that grows. The nodes that answers name, and the greatest of their depths.
 use Rattle.std.proofs.Common.{◌≡◌, ℕ, zero, suc, ◌<◌, List, [], ◌∷◌, ◌++◌, length, arith, refl, Some, slice_get, ◌+◌, max, Bool, true}
-use Rattle.std.proofs.Common.{false, ◌&&◌, map, get_or, drop, drop-cons, add-one, sym, ap, ◌∙◌, subst, nat_lt, None, All}
+use Rattle.std.proofs.Common.{false, ◌&&◌, map, get_or, sym, ap, ◌∙◌, subst, nat_lt, None, All}
 use Rattle.std.specs.List.{list_all}
 use Rattle.std.proofs.lemmas.Option.{same_Some}
 use Rattle.std.proofs.lemmas.List.Folds.{list_all-append, list_all-map}
@@ -67,10 +67,6 @@ greatest_listed d rs = greatest (map d (map (λ r. r.next) rs))
 pub greatest-parts : (d : ℕ → ℕ) (a : Answers) → greatest (map d (named a)) ≡ max (greatest (map d (rest_nodes a.rest)))
     (greatest_listed d a.replies)
 greatest-parts d a = let both = greatest-append d (map (λ r. r.next) a.replies) (rest_nodes a.rest) in omega (arith, both)
-
-pub greatest_listed-drop : (d : ℕ → ℕ) (rs : List Reply) (i : ℕ) (z : Reply) → i < length rs
-    → greatest_listed d (drop i rs) ≡ max (d (get_or rs i z).next) (greatest_listed d (drop (i + 1) rs))
-greatest_listed-drop d rs i z l = rw (add-one, drop-cons rs i z) refl
 
 pub greatest_rest-none : (d : ℕ → ℕ) (r : Rest) → rest_node r ≡ None → greatest (map d (rest_nodes r)) ≡ 0
 greatest_rest-none d (To j) e = cc

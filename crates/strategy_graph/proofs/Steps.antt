@@ -3,7 +3,7 @@
 use Rattle.std.proofs.Common.{◌≡◌, ℕ, suc, ◌+◌, ◌≤◌, Bool, true, false, cond, List, [], ◌∷◌, ◌++◌, refl, sym, ap, subst, ◌∙◌, arith, Option}
 use Rattle.std.specs.Option.{option_map_or}
 use Rattle.std.specs.Prelude.{IsSomeAnd}
-use Rattle.std.proofs.Common.{Some, None, slice_get, All}
+use Rattle.std.proofs.Common.{Some, slice_get, All}
 use Rattle.game_rules.proofs.Common.{Grid, is_on, points_of, is_same_point, outcome, after, WinsOr, LosesOr, if_goes_on}
 use Rattle.game_rules.specs.declared.RuleKind.{RuleKind}
 use Rattle.game_rules.specs.declared.Foul.{Foul}
@@ -17,7 +17,7 @@ use Rattle.strategy_graph.specs.declared.Node.{Node}
 use Rattle.strategy_graph.specs.declared.Why.{Why}
 use Rattle.strategy_graph.proofs.Common.{Answers, answers_of, answer, is_winning, NamesLower, Meets, AcceptedNode}
 use Rattle.strategy_graph.proofs.Common.{Accepted, arrivals_at, arrivals_after, arrivals_behind}
-use Rattle.strategy_graph.proofs.Common.{arrivals_within, arrivals, attack_fault, reply_fault, Leads, LeadsStart}
+use Rattle.strategy_graph.proofs.Common.{arrivals_within, arrivals, attack_fault, Leads, LeadsStart}
 use Rattle.strategy_graph.proofs.Fuel.{accepted-step, arrivals-step}
 
 -- an arrival count is at least 1
@@ -49,15 +49,6 @@ module _ (rule : RuleKind) (t : List Node) (lower : NamesLower t) (i : ℕ) (b :
       (subst (λ (u : Outcome). WinsOr u
       ((is_winning n.rest ≡ false) × ((q : Point) → Meets rule (answers_of n) (Accepted rule t) (after b n.attack) q))) (sym o)
       (r, met))
-
-  pub replies-met : outcome rule b n.attack ≡ GoesOn → Accepted rule t i b → (q : Point)
-      → Meets rule (answers_of n) (Accepted rule t) (after b n.attack) q
-  replies-met o h =
-      let inside : (is_winning n.rest ≡ false) × ((q : Point) → Meets rule (answers_of n) (Accepted rule t) (after b n.attack) q) =
-      subst (λ (u : Outcome). WinsOr u
-      ((is_winning n.rest ≡ false) × ((q : Point) → Meets rule (answers_of n) (Accepted rule t) (after b n.attack) q))) o
-      (subst (λ (X : Type 0). X) accepted-at h) in
-      inside.1
 
   -- the arrivals where the attack goes on, and where it does not
   pub arrivals-by-replies : outcome rule b n.attack ≡ GoesOn → is_winning n.rest ≡ false
@@ -94,22 +85,10 @@ module _ (rule : RuleKind) (t : List Node) (a : Answers) (c : Grid) (q : Point) 
       → Meets rule a (Accepted rule t) c q
   met-answer j e w h = met-by GoesOn (Some j) e w h
 
-  -- where a reply that goes on is met, its answer is accepted
-  pub answer-accepted : (j : ℕ) → outcome rule c q ≡ GoesOn → answer a q ≡ Some j → Meets rule a (Accepted rule t) c q
-      → Accepted rule t j (after c q)
-  answer-accepted j e w h =
-      subst (λ (o : Option ℕ). IsSomeAnd o (λ j. Accepted rule t j (after c q))) w
-      (subst (λ (u : Outcome). LosesOr u (IsSomeAnd (answer a q) (λ j. Accepted rule t j (after c q)))) e h)
-
   -- the arrivals behind a reply
   pub arrivals-answer : (j : ℕ) → outcome rule c q ≡ GoesOn → answer a q ≡ Some j
       → arrivals_at rule a (arrivals rule t) c q ≡ arrivals rule t j (after c q)
   arrivals-answer j e w = rw (e, w) refl
-
-  pub arrivals-no_answer : answer a q ≡ None → arrivals_at rule a (arrivals rule t) c q ≡ 0
-  arrivals-no_answer w =
-      ap (λ (o : Option ℕ). if_goes_on (outcome rule c q) (option_map_or (λ j. arrivals rule t j (after c q)) o 0)) w
-      ∙ if_goes_on-none (outcome rule c q)
 
   pub arrivals-stops : (u : Outcome) → outcome rule c q ≡ u → (u ≡ GoesOn → ⊥) → arrivals_at rule a (arrivals rule t) c q ≡ 0
   arrivals-stops u e stops = ap (λ (v : Outcome). if_goes_on v (option_map_or (λ j. arrivals rule t j (after c q)) (answer a q) 0)) e
@@ -140,11 +119,6 @@ pub leads-reply : (rule : RuleKind) (t : List Node) (i : ℕ) (b : Grid) (n : No
     → LeadsStart rule t (answers_of n) (after b n.attack) (q ∷ line) why → Leads rule t i b (n.attack ∷ q ∷ line) why
 unfolding Leads
 leads-reply rule t i b n q line why at o r h = rw at (refl, o, r, h)
-
--- a reply with a fault
-pub leads-fault : (rule : RuleKind) (t : List Node) (a : Answers) (c : Grid) (q : Point) (why : Why)
-    → reply_fault (outcome rule c q) (answer a q) ≡ Some why → LeadsStart rule t a c (q ∷ []) why
-leads-fault rule t a c q why h = h
 
 -- a reply that goes on to where its answer leads to a fault
 pub leads-answer : (rule : RuleKind) (t : List Node) (a : Answers) (c : Grid) (q : Point) (j : ℕ) (line : List Point) (why : Why)

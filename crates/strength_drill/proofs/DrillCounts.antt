@@ -20,10 +20,7 @@ use Rattle.strategy_graph.proofs.Following.{accepted-in_table}
 use Rattle.strategy_compiler.specs.Walks.{IsTableOf, last}
 use Rattle.strategy_compiler.proofs.Unique.{one-table}
 use Rattle.strategy_checker.specs.HeldRoots.{HeldTable, IsHeldRoot, IsHeld}
-use Rattle.strategy_checker.specs.declared.held.HeldError.{HeldError}
-use Rattle.strategy_checker.specs.declared.held.HeldError.TheVariants.{Refused, Spent, Memory}
 use Rattle.strategy_checker.specs.declared.held.HeldRoot.{HeldRoot}
-use Rattle.strategy_checker.specs.HeldErrors.{IfRootRefused, IfRootSpent}
 use Rattle.four_search.specs.FourGame.{four_cost, least_moves}
 use Rattle.four_search.specs.Plans.{four_plan}
 use Rattle.four_search.proofs.Written.{least-none, least-wins, plan-written}
@@ -396,19 +393,6 @@ module _ (rule : RuleKind) (b c : Grid) (t u : List Node) (k : ℕ) (board : c �
       let here : IsHeldNode rule t (last t) b = subst (λ (x : Grid). IsHeldNode rule t (last t) x) board
       (subst (λ (v : List Node). IsHeldNode rule v (last t) c) table (subst (λ (i : ℕ). IsHeldNode rule u i c) root held)) in
       record { accepted = here.0; within = here.1 }
-
-  held-back : IsHoldable rule b t → IsHeldNode rule u (k - 1) c
-  held-back can =
-      let here : IsHeldNode rule t (last t) b = (can.accepted, can.within) in
-      subst (λ (i : ℕ). IsHeldNode rule u i c) (sym root)
-      (subst (λ (v : List Node). IsHeldNode rule v (last t) c) (sym table)
-      (subst (λ (x : Grid). IsHeldNode rule t (last t) x) (sym board) here))
-
-  pub not-holdable : (error : HeldError) → error ≢ Memory → IfRootRefused (λ line why. ¬ Accepted rule u (k - 1) c) error
-      → IfRootSpent (BRAIN_WORK < arrivals rule u (k - 1) c) error → ¬ IsHoldable rule b t
-  not-holdable (Refused line why) other refused spent = λ can. refused (held-back can).0
-  not-holdable Spent other refused spent = λ can. let few = (held-back can).1 in omega (arith, few, spent)
-  not-holdable Memory other refused spent = absurd (other refl)
 
 -- what comes of a table that is held, by the game that is played by it
 pub plays-as : (rule : RuleKind) (b : Grid) (t : List Node) (s : ℕ) (c : Counts) (u moves : ℕ) (won : Bool) (h : HeldTable)

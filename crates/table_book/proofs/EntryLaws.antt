@@ -125,10 +125,3 @@ entry_text e bytes r1 r2 rest e1 e2 e3 =
 pub entries_lines-push : (es : List Entry) (e : Entry) → flat_map entry_lines (es ++ e ∷ []) ≡ flat_map entry_lines es ++ entry_lines e
 entries_lines-push es e = flat_map-append entry_lines es (e ∷ [])
     ∙ ap (λ (l : List (List ℕ)). flat_map entry_lines es ++ l) (append-nil (entry_lines e))
-
-pub entries_text-push : (es : List Entry) (e : Entry) (bytes rest after : List ℕ) → bytes ≡ text_of (flat_map entry_lines es) ++ rest
-    → rest ≡ text_of (entry_lines e) ++ after → bytes ≡ text_of (flat_map entry_lines (es ++ e ∷ [])) ++ after
-entries_text-push es e bytes rest after so_far next =
-    so_far ∙ ap (λ (l : List ℕ). text_of (flat_map entry_lines es) ++ l) next
-    ∙ sym (text_of-append (flat_map entry_lines es) (entry_lines e) after)
-    ∙ ap (λ (l : List (List ℕ)). text_of l ++ after) (sym (entries_lines-push es e))

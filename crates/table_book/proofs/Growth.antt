@@ -1,16 +1,14 @@
 -- The text of a book, which grows by one section after another.
-use Rattle.std.proofs.Common.{◌≡◌, ℕ, ◌+◌, sym, ap, ◌∙◌, List, [], ◌∷◌, ◌++◌, append_assoc, take, map, length, Some, slice_get}
+use Rattle.std.proofs.Common.{◌≡◌, ℕ, ◌+◌, sym, ap, ◌∙◌, List, [], ◌∷◌, ◌++◌, append_assoc, map, length}
 use Rattle.std.specs.List.{flat_map}
-use Rattle.std.proofs.lemmas.List.{take_more, flat_map_more}
+use Rattle.std.proofs.lemmas.List.{flat_map_more}
 use Rattle.std.proofs.lemmas.List.Concat.{flat_map-append}
-use Rattle.std.proofs.lemmas.Option.{slice_get_within, get_or_from_slice_get}
 use Rattle.text_lines.specs.Lines.{ended, text_of}
 use Rattle.position_files.specs.Positions.{board_lines}
 use Rattle.position_files.specs.Tables.{node_line}
 use Rattle.table_book.specs.declared.Book.{Book}
 use Rattle.table_book.specs.declared.Entry.{Entry}
 use Rattle.table_book.specs.Books.{book_lines, book_text, entries_line, entry_lines, first_line, move_count_line, nodes_line, root_line}
-use Rattle.table_book.proofs.EntryLaws.{entries_lines-push}
 
 -- the lines of an entry
 pub entry_grown : (e : Entry) (old t1 t2 t3 : List ℕ) → t1 ≡ old ++ text_of (board_lines e.kind e.board)
@@ -22,19 +20,6 @@ entry_grown e old t1 t2 t3 e1 e2 e3 =
     ∙ flat_map_more ended old (board_lines e.kind e.board) (move_count_line e.moves) in
     e3 ∙ ap (λ (l : List ℕ). l ++ ended (root_line e.root)) two
     ∙ flat_map_more ended old (board_lines e.kind e.board ++ move_count_line e.moves ∷ []) (root_line e.root)
-
--- one more entry
-pub entries_grown : (old before after : List ℕ) (es : List Entry) (i : ℕ) (e : Entry)
-    → before ≡ old ++ text_of (flat_map entry_lines (take i es)) → slice_get es i ≡ Some e → after ≡ before ++ text_of (entry_lines e)
-    → after ≡ old ++ text_of (flat_map entry_lines (take (i + 1) es))
-entries_grown old before after es i e so_far at is =
-    let more : take (i + 1) es ≡ take i es ++ e ∷ [] =
-    take_more es i e (slice_get_within es i e at) ∙ ap (λ (x : Entry). take i es ++ x ∷ []) (get_or_from_slice_get es i e e at) in
-    is ∙ ap (λ (l : List ℕ). l ++ text_of (entry_lines e)) so_far
-    ∙ append_assoc old (text_of (flat_map entry_lines (take i es))) (text_of (entry_lines e))
-    ∙ ap (λ (l : List ℕ). old ++ l) (sym (flat_map-append ended (flat_map entry_lines (take i es)) (entry_lines e)))
-    ∙ ap (λ (ls : List (List ℕ)). old ++ text_of ls) (sym (entries_lines-push (take i es) e))
-    ∙ ap (λ (l : List Entry). old ++ text_of (flat_map entry_lines l)) (sym more)
 
 sections : (a b d : List ℕ) (m f : List ℕ) → (((ended a ++ ended b) ++ m) ++ ended d) ++ f ≡ ended a ++ (ended b ++ (m ++ (ended d ++ f)))
 sections a b d m f = simp append_assoc

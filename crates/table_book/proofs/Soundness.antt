@@ -4,7 +4,6 @@ use Rattle.std.specs.List.{AllByRecursion}
 use Rattle.foul_judge.proofs.Lawfulness.{none_from_lawful}
 use borrow.Author.Tests.{lt-ltb}
 use Rattle.strategy_graph.specs.Roots.{root_below}
-use Rattle.strategy_graph.specs.declared.Node.{Node}
 use Rattle.strategy_graph.specs.declared.roots.Root.{Root}
 use Rattle.strategy_graph.specs.declared.roots.Root.TheVariants.{Attack, Defend}
 use Rattle.table_book.specs.declared.Book.{Book}
@@ -12,7 +11,7 @@ use Rattle.table_book.specs.declared.Entry.{Entry}
 use Rattle.table_book.specs.declared.error.BookError.{BookError}
 use Rattle.table_book.specs.declared.error.BookError.TheVariants.{BadLine, Unlawful, WrongMoves, Memory}
 use Rattle.table_book.specs.Books.{IsSound, IsTextOfBook, IsWellFormed, EntryRootFits}
-use Rattle.table_book.specs.Faults.{IsBookFault, IsEarliest, IsEntryFault, IsMiscountedAt, IsUnlawfulAt, IsUnsound}
+use Rattle.table_book.specs.Faults.{IsBookFault, IsEarliest, IsMiscountedAt, IsUnlawfulAt, IsUnsound}
 use Rattle.table_book.specs.ReadBack.{BooksReadBack}
 use Rattle.game_rules.proofs.Tests.{all_get}
 use Rattle.table_book.proofs.BookLaws.{one_book}
@@ -32,15 +31,6 @@ earliest_at P es i n e next at before =
       entry = subst (λ m. slice_get es m ≡ Some e) place at;
       before = subst (λ m. AllByRecursion P (take m es)) place before;
     }
-
-pub unsound_at : (t : List Node) (es : List Entry) (i number : ℕ) (e : Entry) → number ≡ i + 1 → slice_get es i ≡ Some e
-    → AllByRecursion (IsSound t) (take i es) → (error : BookError) → IsEntryFault t e number error → IsUnsound t es error
-unsound_at t es i number e next at before (BadLine n) h = h
-unsound_at t es i number e next at before (Unlawful n why) h =
-    record { entry = e; earliest = earliest_at (IsSound t) es i n e (h.0 ∙ next) at before; unlawful = h.1 }
-unsound_at t es i number e next at before (WrongMoves n written counted) h =
-    record { entry = e; earliest = earliest_at (IsSound t) es i n e (h.0 ∙ next) at before; miscounted = h.1 }
-unsound_at t es i number e next at before Memory h = tt
 
 -- what is said of the entries of a book is said of its text
 pub unsound_fault : (book : Book) (bytes : List ℕ) → IsTextOfBook book bytes → (error : BookError) → IsUnsound book.table book.entries error

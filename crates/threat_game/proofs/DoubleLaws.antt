@@ -174,16 +174,6 @@ module _ (rule : RuleKind) (b : Grid) (d : DoublePoint) (lawful : IsPosition rul
     on_board = (five-on d.first wins.both.first, (five-on d.second wins.both.second, points-on b));
   }
 
--- two nodes at most answer them
-pub nodes-three : (first : Point) (replies : List Point) → double_nodes first replies ≤ 3
-nodes-three first replies = by_tests (list_any (λ q. is_same_point q first) replies)
-    (list_any (λ q. not (is_same_point q first)) replies) where
-      by_tests : (r s : Bool) → 1 + cond r 1 0 + cond s 1 0 ≤ 3
-      by_tests true true = omega arith
-      by_tests true false = omega arith
-      by_tests false true = omega arith
-      by_tests false false = omega arith
-
 -- ---- five points in short, and threats
 
 pub some-five : (rule : RuleKind) (b : Grid) (s : Side) → is_some_point (in_short (five_points rule b s)) ≡ has_five rule b s

@@ -1,9 +1,9 @@
 -- One reply stands for others: what is kept of all that is judged, and the win that is compiled for the one.
 use Rattle.std.proofs.Common.{◌≡◌, ℕ, ◌+◌, ◌≤◌, ◌<◌, Bool, true, false, cond, ◌&&◌, ◌||◌, not, refl, sym, ap, subst, ◌∙◌, arith, List, []}
-use Rattle.std.proofs.Common.{◌∷◌, ◌++◌, map, length, get_or, All, Option, Some, None, IfSome, nat_eq, take}
+use Rattle.std.proofs.Common.{◌∷◌, ◌++◌, map, length, All, Option, Some, None, IfSome, nat_eq}
 use Rattle.std.specs.List.{find, filter, list_any, sum_by, AllByRecursion}
 use Rattle.std.proofs.lemmas.Bool.{and_parts, eqb-true}
-use Rattle.std.proofs.lemmas.List.Elements.{All-filter, All-from_recursion, recursion_from_All, filter_more}
+use Rattle.std.proofs.lemmas.List.Elements.{All-filter, All-from_recursion, recursion_from_All}
 use Rattle.std.proofs.lemmas.List.Filters.{sum_by-filter_both}
 use Rattle.std.proofs.lemmas.List.Sums.{sum_by-cons}
 use Rattle.game_rules.specs.declared.RuleKind.{RuleKind}
@@ -115,22 +115,6 @@ kept-some xs some = by_first (find stands xs) where
 pub found-if : (P : Child → Type 0) (xs : List Child) → All P xs → (first : Option Child) → first ≡ find stands xs → IfSome first P
 found-if P xs all None e = tt
 found-if P xs all (Some s) e = found-all P s xs (recursion_from_All P xs all) (sym e)
-
--- ---- one child after another
-
-put_first-more : (first : Option Child) (xs ys : List Child) → put_first first (xs ++ ys) ≡ put_first first xs ++ ys
-put_first-more None xs ys = refl
-put_first-more (Some s) xs ys = refl
-
--- what is kept of one more: the child, where it is not met, and else nothing
-pub kept-more : (first : Option Child) (xs : List Child) (k : ℕ) (d : Child) → k < length xs → (r : Bool)
-    → is_met first (get_or xs k d).judged ≡ r
-    → put_first first (filter (λ x. not (is_met first x.judged)) (take (k + 1) xs))
-    ≡ put_first first (filter (λ x. not (is_met first x.judged)) (take k xs)) ++ cond (not r) (get_or xs k d ∷ []) []
-kept-more first xs k d low r e =
-    ap (put_first first) (filter_more (λ x. not (is_met first x.judged)) xs k d low)
-    ∙ put_first-more first (filter (λ x. not (is_met first x.judged)) (take k xs)) _
-    ∙ ap (λ b. put_first first (filter (λ x. not (is_met first x.judged)) (take k xs)) ++ cond (not b) (get_or xs k d ∷ []) []) e
 
 -- ---- a reply that is not kept is met by the first
 

@@ -49,17 +49,6 @@ no_one-fouls : (r : Bool) → ◌≡◌ {A = Option Foul} (cond r None None) Non
 no_one-fouls true = refl
 no_one-fouls false = refl
 
--- as the code tells it
-pub quiet-by : (b : Grid) (q : Point) → is_empty b q ≡ true → (r c d u : ℕ) → r ≡ stones_in_reach b Black Row q
-    → c ≡ stones_in_reach b Black Column q → d ≡ stones_in_reach b Black Down q → u ≡ stones_in_reach b Black Up q
-    → r < 2 → c < 2 → d < 2 → u < 2 → IsQuiet b q
-quiet-by b q empty r c d u row column down up fr fc fd fu = record { empty = empty; few = few } where
-  few : (d : Axis) → stones_in_reach b Black d q < 2
-  few Row = omega (arith, row, fr)
-  few Column = omega (arith, column, fc)
-  few Down = omega (arith, down, fd)
-  few Up = omega (arith, up, fu)
-
 -- ---- too few stones within reach for two threes
 
 module _ (rule : RuleKind) (b : Grid) (p : Point) (ok : IsBoard b) (empty : is_empty b p ≡ true)

@@ -78,9 +78,6 @@ passed-count n budget left h = by_test (nat_le n budget) refl h where
 pub alike-none : (us : List Threat) → EndsAlike [] us
 alike-none us g h = absurd (let some = h.some in omega (arith, some))
 
-pub alike-itself : (ts : List Threat) → EndsAlike ts ts
-alike-itself ts g h = h
-
 some_added : (ts : List Threat) (t : Threat) → 0 < length (ts ++ t ∷ [])
 some_added [] t = omega arith
 some_added (v ∷ ts) t = omega arith

@@ -59,12 +59,6 @@ module _ (final : Final) (path : List Threat) (lists : Grid → Lists) (s : Side
       ap (λ (xs : Lists). map (λ more. t ∷ more) (lists (played b s t)) ++ xs) (lists-append ts us)
       ∙ sym (append_assoc (map (λ more. t ∷ more) (lists (played b s t))) (lists_from lists s b ts) (lists_from lists s b us))
 
-  pub threats-append : (n : ℕ) (ts us : List Threat) → from_threats n (ts ++ us) ≡ looked_on (from_threats n ts) (λ m. from_threats m us)
-  threats-append n ts us =
-      ap (looked final n) (ap (after_path path) (lists-append ts us)
-      ∙ map-append (λ ts. path ++ ts) (lists_from lists s b ts) (lists_from lists s b us))
-      ∙ looked-append final n (after_path path (lists_from lists s b ts)) (after_path path (lists_from lists s b us))
-
   -- one threat of a list
   pub threat-next : (n i : ℕ) (ts : List Threat) (t : Threat) → i < length ts → t ≡ get_or ts i t
       → from_threats n (drop i ts) ≡ looked_on (from_threat n t) (λ m. from_threats m (drop (i + 1) ts))
