@@ -6,15 +6,18 @@ ghost use Rattle.renju_io.specs.Files.{IsMap};
 ghost use Rattle.renju_io.specs.Memory.{entries};
 
 use crate::inputs::{ONE_ANSWER_WRONG, TWO_ENTRIES, TWO_MOVES_TABLE};
-use crate::runs::{Failing, Run, SOUND, run_sound};
-use renju_cli::{USAGE, run_renju};
-use renju_io::{MemoryFile, MemoryShelf, MemorySink, MemorySource, read_all};
+use crate::runs::{Failing, SOUND, Served, assert_answer, run_and_read_on, run_sound};
+use renju_cli::USAGE;
+use renju_io::{MemoryFile, MemoryShelf};
 use std::alloc::{AllocError, Global};
 use std::test::Fail;
 
 /// The opponent moves first, before a four with two ends. Its two nodes are among those of the win in two moves.
 const OPPONENT_FIRST: &str =
     "renju-table 2\nrule freestyle\nsize 15\nblack 4,7 5,7 6,7 7,7\nwhite 0,0 2,0 4,0\nmoves 1\nnodes 2\n8,7 wins\n3,7 wins\nstart rest 0 8,7>1\n";
+
+/// An input that no run over files asks.
+const INPUT: &str = "input";
 
 /// Words of a run over these files, and the status and the text that are wanted.
 struct Bound {
@@ -98,38 +101,18 @@ fn files(alloc: Global) -> Result<Vec<MemoryFile>, AllocError>
     Ok(vec![in alloc; a, b, wrong, broken]?)
 }
 
-/// Runs the program with these words, separated by single spaces, over the files. Answers what it wrote, and the bytes of
-/// its input that it left. The loads of these numbers fail.
-fn run_over(
-    alloc: Global,
-    words: &str,
-    failing: &Failing<'_>,
-    loads: &[u64],
-) -> Result<(Run, Vec<u8>), AllocError> {
-    let mut list = Vec::new(alloc);
-    for word in words.split_whitespace() {
-        list.push(String::from_str(alloc, word)?)?;
-    }
-    let input = Vec::from_slice(alloc, b"input".as_slice())?;
-    let mut source = MemorySource::new(input, 65_536, Vec::from_slice(alloc, failing.reads)?);
-    let mut sink = MemorySink::new(alloc, failing.kept, Vec::from_slice(alloc, failing.writes)?);
-    let mut shelf = MemoryShelf::new(files(alloc)?, Vec::from_slice(alloc, loads)?);
-    let status = run_renju(alloc, list.as_slice(), &mut source, &mut sink, &mut shelf);
-    let output = Vec::from_slice(alloc, sink.bytes())?;
-    match read_all(alloc, &mut source) {
-        Ok(left) => Ok((Run { status, output }, left)),
-        Err(_) => Err(AllocError),
-    }
+/// Runs the program with these words, separated by single spaces, over the files and an input that it is to leave.
+fn run_bind(alloc: Global, words: &str, failing: &Failing<'_>) -> Result<Served, AllocError> {
+    let mut shelf = MemoryShelf::new(files(alloc)?, Vec::from_slice(alloc, failing.loads)?);
+    run_and_read_on(alloc, words, INPUT.as_bytes(), &mut shelf, failing)
 }
 
 #[test]
 fn files_are_bound_or_the_earliest_that_is_not_is_told(rt: HostRuntime) -> Result<(), Fail> {
     for wanted in &RUNS {
-        let words = wanted.words;
-        let (run, left) = run_over(rt.alloc(), words, &SOUND, &[])?;
-        assert_eq!(rt; run.output.as_slice(), wanted.output.as_bytes(), "{words}");
-        assert_eq!(rt; run.status, wanted.status, "{words}");
-        assert_eq!(rt; left.as_slice(), b"input".as_slice());
+        let served = run_bind(rt.alloc(), wanted.words, &SOUND)?;
+        assert_answer(&rt, &served.run, wanted.status, wanted.output, wanted.words);
+        assert_eq!(rt; served.left.as_slice(), INPUT.as_bytes());
     }
     Ok(())
 }
@@ -141,9 +124,12 @@ fn a_file_that_cannot_be_loaded_is_told(rt: HostRuntime) -> Result<(), Fail> {
         (2, 2, "file 2 shelf failed\n"),
         (3, 0, TWO_ENTRIES),
     ] {
-        let (run, _) = run_over(rt.alloc(), "bind a b", &SOUND, &[load])?;
-        assert_eq!(rt; run.output.as_slice(), output.as_bytes());
-        assert_eq!(rt; run.status, status);
+        let failing = Failing {
+            loads: &[load],
+            ..SOUND
+        };
+        let served = run_bind(rt.alloc(), "bind a b", &failing)?;
+        assert_answer(&rt, &served.run, status, output, "a load that fails");
     }
     Ok(())
 }
@@ -151,25 +137,25 @@ fn a_file_that_cannot_be_loaded_is_told(rt: HostRuntime) -> Result<(), Fail> {
 #[test]
 fn a_failing_write_leaves_the_front_of_the_book(rt: HostRuntime) -> Result<(), Fail> {
     let failing = Failing {
-        piece: 65_536,
-        reads: &[],
         writes: &[1],
         kept: 7,
+        ..SOUND
     };
-    let (run, _) = run_over(rt.alloc(), "bind a b", &failing, &[])?;
-    assert_eq!(rt; run.status, 8);
-    assert_eq!(rt; run.output.as_slice(), b"renju-b".as_slice());
+    let served = run_bind(rt.alloc(), "bind a b", &failing)?;
+    assert_answer(&rt, &served.run, 8, "renju-b", "a write that fails");
     Ok(())
 }
 
 #[test]
 fn a_book_that_is_written_is_accepted(rt: HostRuntime) -> Result<(), Fail> {
-    let (bound, _) = run_over(rt.alloc(), "bind b a", &SOUND, &[])?;
-    let checked = run_sound(rt.alloc(), "book 219", bound.output.as_slice())?;
-    assert_eq!(rt; checked.status, 0);
-    assert_eq!(rt;
-        checked.output.as_slice(),
-        b"accepted 2 entries, 438 arrivals\n".as_slice()
+    let bound = run_bind(rt.alloc(), "bind b a", &SOUND)?;
+    let checked = run_sound(rt.alloc(), "book 219", bound.run.output.as_slice())?;
+    assert_answer(
+        &rt,
+        &checked,
+        0,
+        "accepted 2 entries, 438 arrivals\n",
+        "the book",
     );
     Ok(())
 }

@@ -2,7 +2,7 @@
 #![tactic(auto)]
 
 use crate::inputs::{TWO_ENTRIES, TWO_MOVES_TABLE};
-use crate::runs::{Example, Failing, answers_as_worked_out, run_failing};
+use crate::runs::{Example, Failing, Hindered, SOUND, answers_as_worked_out, fails_as_worked_out};
 use renju_cli::USAGE;
 use std::test::Fail;
 
@@ -100,6 +100,38 @@ const EXAMPLES: [Example; 13] = [
     },
 ];
 
+const HINDERED: [Hindered; 2] = [
+    Hindered {
+        example: Example {
+            name: "an output that fails",
+            words: "book 219",
+            input: TWO_ENTRIES,
+            status: 8,
+            output: "accepted",
+        },
+        failing: Failing {
+            piece: 7,
+            writes: &[1],
+            kept: 8,
+            ..SOUND
+        },
+    },
+    Hindered {
+        example: Example {
+            name: "an input that fails",
+            words: "book 219",
+            input: TWO_ENTRIES,
+            status: 7,
+            output: "",
+        },
+        failing: Failing {
+            piece: 7,
+            reads: &[3],
+            ..SOUND
+        },
+    },
+];
+
 #[test]
 fn books_are_checked_as_worked_out(rt: HostRuntime) -> Result<(), Fail> {
     answers_as_worked_out(&rt, rt.alloc(), &EXAMPLES)
@@ -107,23 +139,5 @@ fn books_are_checked_as_worked_out(rt: HostRuntime) -> Result<(), Fail> {
 
 #[test]
 fn a_book_whose_devices_fail(rt: HostRuntime) -> Result<(), Fail> {
-    let output = Failing {
-        piece: 7,
-        reads: &[],
-        writes: &[1],
-        kept: 8,
-    };
-    let run = run_failing(rt.alloc(), "book 219", TWO_ENTRIES.as_bytes(), &output)?;
-    assert_eq!(rt; run.status, 8);
-    assert_eq!(rt; run.output.as_slice(), b"accepted".as_slice());
-    let input = Failing {
-        piece: 7,
-        reads: &[3],
-        writes: &[],
-        kept: 0,
-    };
-    let run = run_failing(rt.alloc(), "book 219", TWO_ENTRIES.as_bytes(), &input)?;
-    assert_eq!(rt; run.status, 7);
-    assert!(rt; run.output.is_empty());
-    Ok(())
+    fails_as_worked_out(&rt, rt.alloc(), &HINDERED)
 }

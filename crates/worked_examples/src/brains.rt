@@ -2,10 +2,10 @@
 #![tactic(auto)]
 
 use crate::inputs::TWO_ENTRIES;
-use crate::runs::{Failing, Run, SOUND};
-use renju_cli::run_renju;
-use renju_io::{MemoryFile, MemoryShelf, MemorySink, MemorySource, read_all};
+use crate::runs::{Failing, SOUND, Served, assert_answer, run_and_read_on, run_sound};
+use renju_io::{MemoryFile, MemoryShelf};
 use std::alloc::{AllocError, Global};
+use std::process::Abort;
 use std::test::Fail;
 
 /// White wins by 6,3, since Black's only block, 7,3, is an overline.
@@ -16,10 +16,10 @@ const BLOCK_FOULS: &str =
 const OPPONENT_FIRST: &str =
     "renju-table 2\nrule freestyle\nsize 15\nblack 4,7 5,7 6,7 7,7\nwhite 0,0 2,0 4,0\nmoves 1\nnodes 2\n8,7 wins\n3,7 wins\nstart rest 0 8,7>1\n";
 
-/// A session: whether FILE is asked for, what it holds, the lines, and the status and the answers that are wanted.
+/// A session: its words, what the file t holds, the lines, and the status and the answers that are wanted.
 pub struct Session {
     pub name: &'static str,
-    pub words: [&'static str; 2],
+    pub words: &'static str,
     pub file: &'static str,
     pub lines: &'static str,
     pub status: u8,
@@ -32,7 +32,7 @@ const PLAYED_OUT: &str =
 const SESSIONS: [Session; 17] = [
     Session {
         name: "a held win in two moves",
-        words: ["brain", "t"],
+        words: "brain t",
         file: BLOCK_FOULS,
         lines: PLAYED_OUT,
         status: 0,
@@ -40,7 +40,7 @@ const SESSIONS: [Session; 17] = [
     },
     Session {
         name: "a reply that is none leaves the table followed",
-        words: ["brain", "t"],
+        words: "brain t",
         file: BLOCK_FOULS,
         lines: "START 15\nINFO rule 4\nBOARD\n3,3,1\n4,3,1\n5,3,1\n12,14,1\n14,14,1\n7,0,2\n7,1,2\n7,2,2\n2,3,2\n7,4,2\n7,5,2\nDONE\nturn 6,3\nTURN 0,14\nTURN 1,14\nEND\n",
         status: 0,
@@ -48,7 +48,7 @@ const SESSIONS: [Session; 17] = [
     },
     Session {
         name: "a reply that fouls",
-        words: ["brain", "t"],
+        words: "brain t",
         file: BLOCK_FOULS,
         lines: "START 15\nINFO rule 4\nBOARD\n3,3,1\n4,3,1\n5,3,1\n12,14,1\n14,14,1\n7,0,2\n7,1,2\n7,2,2\n2,3,2\n7,4,2\n7,5,2\nDONE\nTURN 7,3\nTURN 1,14\nEND\n",
         status: 0,
@@ -56,7 +56,7 @@ const SESSIONS: [Session; 17] = [
     },
     Session {
         name: "moves taken back",
-        words: ["brain", "t"],
+        words: "brain t",
         file: BLOCK_FOULS,
         lines: "START 15\nINFO rule 4\nBOARD\n3,3,1\n4,3,1\n5,3,1\n12,14,1\n14,14,1\n7,0,2\n7,1,2\n7,2,2\n2,3,2\n7,4,2\n7,5,2\nDONE\nTURN 0,14\nTAKEBACK 7,3\nTURN 5,5\nTAKEBACK 0,14\nTURN 1,14\nEND\n",
         status: 0,
@@ -64,7 +64,7 @@ const SESSIONS: [Session; 17] = [
     },
     Session {
         name: "a held start after moves are taken back",
-        words: ["brain", "t"],
+        words: "brain t",
         file: OPPONENT_FIRST,
         lines: "START 15\nBOARD\n5,7,1\n6,7,1\n7,7,1\n0,0,2\n2,0,2\n4,0,2\nDONE\nTURN 0,14\nTAKEBACK 3,7\nTAKEBACK 0,14\nTURN 1,14\nEND\n",
         status: 0,
@@ -72,7 +72,7 @@ const SESSIONS: [Session; 17] = [
     },
     Session {
         name: "two entries of a book, each at its position",
-        words: ["brain", "t"],
+        words: "brain t",
         file: TWO_ENTRIES,
         lines: "START 15\nBOARD\n5,7,1\n6,7,1\n7,7,1\n0,0,2\n2,0,2\n4,0,2\nDONE\nTURN 0,14\nTAKEBACK 3,7\nTAKEBACK 0,14\nTURN 1,14\nEND\n",
         status: 0,
@@ -80,7 +80,7 @@ const SESSIONS: [Session; 17] = [
     },
     Session {
         name: "the first of two entries at one position",
-        words: ["brain", "t"],
+        words: "brain t",
         file: "renju-book 1\nnodes 2\n3,7 wins\n8,7 wins\nentries 2\nrule freestyle\nsize 15\nblack 4,7 5,7 6,7 7,7\nwhite 0,0 2,0 4,0 6,0\nmoves 1\nroot 1\nrule freestyle\nsize 15\nblack 4,7 5,7 6,7 7,7\nwhite 0,0 2,0 4,0 6,0\nmoves 1\nroot 0\n",
         lines: "START 15\nBOARD\n4,7,1\n5,7,1\n6,7,1\n7,7,1\n0,0,2\n2,0,2\n4,0,2\n6,0,2\nDONE\nEND\n",
         status: 0,
@@ -88,7 +88,7 @@ const SESSIONS: [Session; 17] = [
     },
     Session {
         name: "a book with an entry that is not accepted",
-        words: ["brain", "t"],
+        words: "brain t",
         file: "renju-book 1\nnodes 1\n8,7 wins\nentries 2\nrule freestyle\nsize 15\nblack 4,7 5,7 6,7 7,7\nwhite 0,0 2,0 4,0 6,0\nmoves 1\nroot 0\nrule freestyle\nsize 15\nblack\nwhite\nmoves 1\nroot 0\n",
         lines: PLAYED_OUT,
         status: 4,
@@ -96,7 +96,7 @@ const SESSIONS: [Session; 17] = [
     },
     Session {
         name: "a book without its entries",
-        words: ["brain", "t"],
+        words: "brain t",
         file: "renju-book 1\nnodes 1\n8,7 wins\n",
         lines: PLAYED_OUT,
         status: 3,
@@ -104,7 +104,7 @@ const SESSIONS: [Session; 17] = [
     },
     Session {
         name: "a file that is no table",
-        words: ["brain", "t"],
+        words: "brain t",
         file: "renju-table 1\nrule gomoku\n",
         lines: PLAYED_OUT,
         status: 3,
@@ -112,7 +112,7 @@ const SESSIONS: [Session; 17] = [
     },
     Session {
         name: "a table that is not accepted",
-        words: ["brain", "t"],
+        words: "brain t",
         file: "renju-table 1\nrule renju\nsize 15\nblack 7,0 7,1 7,2 2,3 7,4 7,5\nwhite 3,3 4,3 5,3 12,14 14,14\nmoves 1\nnodes 1\n7,3 wins\n",
         lines: PLAYED_OUT,
         status: 4,
@@ -120,7 +120,7 @@ const SESSIONS: [Session; 17] = [
     },
     Session {
         name: "no such file",
-        words: ["brain", "u"],
+        words: "brain u",
         file: BLOCK_FOULS,
         lines: PLAYED_OUT,
         status: 2,
@@ -128,7 +128,7 @@ const SESSIONS: [Session; 17] = [
     },
     Session {
         name: "a win by fours that the brain finds itself",
-        words: ["brain", ""],
+        words: "brain",
         file: "",
         lines: "START 15\nBOARD\n5,7,1\n6,7,1\n7,7,1\n0,0,2\n2,0,2\n4,0,2\nDONE\nTURN 3,7\nEND\n",
         status: 0,
@@ -136,7 +136,7 @@ const SESSIONS: [Session; 17] = [
     },
     Session {
         name: "a file that is not there",
-        words: ["brain", "another"],
+        words: "brain another",
         file: BLOCK_FOULS,
         lines: PLAYED_OUT,
         status: 2,
@@ -144,7 +144,7 @@ const SESSIONS: [Session; 17] = [
     },
     Session {
         name: "sizes, and games begun again",
-        words: ["brain", ""],
+        words: "brain",
         file: "",
         lines: "START 33\nSTART 15\nBEGIN\nTURN 7,7\nTAKEBACK 7,7\nBEGIN\nHELLO\nINFO rule 2\nRESTART\nBEGIN\n",
         status: 0,
@@ -152,7 +152,7 @@ const SESSIONS: [Session; 17] = [
     },
     Session {
         name: "boards that are wider than high",
-        words: ["brain", ""],
+        words: "brain",
         file: "",
         lines: "START 33\nRECTSTART 9,5\nBEGIN\nRECTSTART 20,10\nBEGIN\nRECTSTART 4,9\nEND\n",
         status: 0,
@@ -160,7 +160,7 @@ const SESSIONS: [Session; 17] = [
     },
     Session {
         name: "lines that have no place",
-        words: ["brain", ""],
+        words: "brain",
         file: "",
         lines: "TURN\nDONE\nSTART 15\nBOARD\nTURN 1,1\nDONE\n1,1,1\nEND\n",
         status: 0,
@@ -168,79 +168,87 @@ const SESSIONS: [Session; 17] = [
     },
 ];
 
-/// The words that are not empty.
-fn words_of(alloc: Global, words: &[&str]) -> Result<Vec<String>, AllocError> {
-    let mut list = Vec::new(alloc);
-    for word in words {
-        if word.len() > 0 {
-            list.push(String::from_str(alloc, word)?)?;
-        }
-    }
-    Ok(list)
+/// The sessions. Tests take them from here, since each proof of a function that names the table goes through all of its texts.
+fn sessions() -> &'static [Session; 17] {
+    &SESSIONS
 }
 
-/// A shelf with a file t that has this text, where the loads of these numbers fail.
-fn shelf_of(alloc: Global, text: &str, loads: &[u64]) -> Result<MemoryShelf, AllocError> {
+/// A shelf with a file t that has this text, which fails so.
+fn shelf_of(alloc: Global, text: &str, failing: &Failing<'_>) -> Result<MemoryShelf, AllocError> {
     let file = MemoryFile {
         name: String::from_str(alloc, "t")?,
         bytes: Vec::from_slice(alloc, text.as_bytes())?,
     };
     let mut files = Vec::new(alloc);
     files.push(file)?;
-    Ok(MemoryShelf::new(files, Vec::from_slice(alloc, loads)?))
+    Ok(MemoryShelf::new(files, Vec::from_slice(alloc, failing.loads)?))
 }
 
-/// What a session answered and wrote, and the bytes of its lines that it left.
-#[derive(Drop)]
-pub struct Served {
-    pub run: Run,
-    pub left: Vec<u8>,
-}
-
-/// Runs a session over devices that fail, of which the shelf fails at the loads of these numbers.
-pub fn serve(
-    alloc: Global,
-    session: &Session,
-    failing: &Failing<'_>,
-    loads: &[u64],
-) -> Result<Served, AllocError> {
-    let lines = Vec::from_slice(alloc, session.lines.as_bytes())?;
-    serve_lines(alloc, session, lines, failing, loads)
+/// Runs a session over devices that fail so.
+fn serve(alloc: Global, session: &Session, failing: &Failing<'_>) -> Result<Served, AllocError> {
+    serve_lines(alloc, session, session.lines.as_bytes(), failing)
 }
 
 /// The same over other lines.
 fn serve_lines(
     alloc: Global,
     session: &Session,
-    lines: Vec<u8>,
+    lines: &[u8],
     failing: &Failing<'_>,
-    loads: &[u64],
 ) -> Result<Served, AllocError> {
-    let words = words_of(alloc, &session.words)?;
-    let piece = if failing.piece == 0 { 1 } else { failing.piece };
-    let mut source = MemorySource::new(lines, piece, Vec::from_slice(alloc, failing.reads)?);
-    let mut sink = MemorySink::new(alloc, failing.kept, Vec::from_slice(alloc, failing.writes)?);
-    let mut shelf = shelf_of(alloc, session.file, loads)?;
-    let status = run_renju(alloc, words.as_slice(), &mut source, &mut sink, &mut shelf);
-    let output = Vec::from_slice(alloc, sink.bytes())?;
-    match read_all(alloc, &mut source) {
-        Ok(left) => {
-            Ok(Served {
-                run: Run { status, output },
-                left,
-            })
-        }
-        Err(_) => Err(AllocError),
+    let mut shelf = shelf_of(alloc, session.file, failing)?;
+    run_and_read_on(alloc, session.words, lines, &mut shelf, failing)
+}
+
+/// Compares what a session answered and wrote with what is wanted.
+fn assert_served(rt: &impl Abort, served: &Served, session: &Session) {
+    assert_answer(
+        rt,
+        &served.run,
+        session.status,
+        session.output,
+        session.name,
+    );
+}
+
+/// Runs each of the sessions over devices that fail so, and compares what it answers and writes with what is wanted.
+pub fn serves_as_worked_out(
+    rt: &impl Abort,
+    alloc: Global,
+    sessions: &[Session],
+    failing: &Failing<'_>,
+) -> Result<(), Fail> {
+    for session in sessions {
+        let served = serve(alloc, session, failing)?;
+        assert_served(rt, &served, session);
     }
+    Ok(())
+}
+
+/// The same, and all of the lines are left.
+pub fn leaves_the_lines(rt: &impl Abort, alloc: Global, session: &Session) -> Result<(), Fail> {
+    let served = serve(alloc, session, &SOUND)?;
+    assert_served(rt, &served, session);
+    assert_eq!(rt; served.left.as_slice(), session.lines.as_bytes());
+    Ok(())
+}
+
+/// Runs a session over devices that fail so, and compares what it answers and writes with this status and this text.
+pub fn serve_failing(
+    rt: &impl Abort,
+    alloc: Global,
+    session: &Session,
+    failing: &Failing<'_>,
+    status: u8,
+    output: &str,
+) -> Result<(), Fail> {
+    let served = serve(alloc, session, failing)?;
+    assert_answer(rt, &served.run, status, output, session.name);
+    Ok(())
 }
 
 /// Devices that do not fail, of which the input gives one byte at each read.
-const SINGLE_BYTES: Failing<'static> = Failing {
-    piece: 1,
-    reads: &[],
-    writes: &[],
-    kept: 0,
-};
+const SINGLE_BYTES: Failing<'static> = Failing { piece: 1, ..SOUND };
 
 /// The lines with a carriage return at the end of each.
 fn with_returns(alloc: Global, lines: &str) -> Result<Vec<u8>, AllocError> {
@@ -254,36 +262,37 @@ fn with_returns(alloc: Global, lines: &str) -> Result<Vec<u8>, AllocError> {
     Ok(bytes)
 }
 
-/// As they stand, a byte at each read, and with carriage returns, as a manager sends them.
+/// Runs a session whose lines have carriage returns.
+fn serve_returns(alloc: Global, session: &Session) -> Result<Served, AllocError> {
+    let lines = with_returns(alloc, session.lines)?;
+    serve_lines(alloc, session, lines.as_slice(), &SOUND)
+}
+
 #[test]
 fn sessions_are_answered(rt: HostRuntime) -> Result<(), Fail> {
-    let alloc = rt.alloc();
-    for session in &SESSIONS {
-        let name = session.name;
-        let lines = with_returns(alloc, session.lines)?;
-        let each = [
-            serve(alloc, session, &SOUND, &[])?,
-            serve(alloc, session, &SINGLE_BYTES, &[])?,
-            serve_lines(alloc, session, lines, &SOUND, &[])?,
-        ];
-        for served in &each {
-            assert_eq!(rt;
-                served.run.output.as_slice(),
-                session.output.as_bytes(),
-                "{name}"
-            );
-            assert_eq!(rt; served.run.status, session.status, "{name}");
-        }
+    serves_as_worked_out(&rt, rt.alloc(), sessions(), &SOUND)
+}
+
+#[test]
+fn sessions_are_answered_a_byte_at_each_read(rt: HostRuntime) -> Result<(), Fail> {
+    serves_as_worked_out(&rt, rt.alloc(), sessions(), &SINGLE_BYTES)
+}
+
+/// As a manager sends them.
+#[test]
+fn sessions_are_answered_with_carriage_returns(rt: HostRuntime) -> Result<(), Fail> {
+    for session in sessions() {
+        let served = serve_returns(rt.alloc(), session)?;
+        assert_served(&rt, &served, session);
     }
     Ok(())
 }
 
 #[test]
 fn a_file_that_is_not_held_leaves_the_lines(rt: HostRuntime) -> Result<(), Fail> {
-    for session in &SESSIONS {
+    for session in sessions() {
         if session.status != 0 {
-            let served = serve(rt.alloc(), session, &SOUND, &[])?;
-            assert_eq!(rt; served.left.as_slice(), session.lines.as_bytes());
+            leaves_the_lines(&rt, rt.alloc(), session)?;
         }
     }
     Ok(())
@@ -295,12 +304,9 @@ fn a_failing_read_ends_the_session_after_its_whole_lines(rt: HostRuntime) -> Res
         let failing = Failing {
             piece,
             reads: &[read],
-            writes: &[],
-            kept: 0,
+            ..SOUND
         };
-        let served = serve(rt.alloc(), &SESSIONS[0], &failing, &[])?;
-        assert_eq!(rt; served.run.status, 7);
-        assert_eq!(rt; served.run.output.as_slice(), output.as_bytes());
+        serve_failing(&rt, rt.alloc(), &sessions()[0], &failing, 7, output)?;
     }
     Ok(())
 }
@@ -308,69 +314,52 @@ fn a_failing_read_ends_the_session_after_its_whole_lines(rt: HostRuntime) -> Res
 #[test]
 fn a_failing_write_leaves_the_front_of_an_answer(rt: HostRuntime) -> Result<(), Fail> {
     let failing = Failing {
-        piece: 65_536,
-        reads: &[],
         writes: &[2],
         kept: 2,
+        ..SOUND
     };
-    let served = serve(rt.alloc(), &SESSIONS[0], &failing, &[])?;
-    assert_eq!(rt; served.run.status, 8);
-    assert_eq!(rt; served.run.output.as_slice(), b"OK\r\n6,".as_slice());
-    Ok(())
+    serve_failing(&rt, rt.alloc(), &sessions()[0], &failing, 8, "OK\r\n6,")
 }
 
 #[test]
 fn an_answer_is_written_before_the_next_line_is_read(rt: HostRuntime) -> Result<(), Fail> {
     let failing = Failing {
-        piece: 1,
-        reads: &[],
         writes: &[1],
-        kept: 0,
+        ..SINGLE_BYTES
     };
-    let session = &SESSIONS[0];
-    let served = serve(rt.alloc(), session, &failing, &[])?;
+    let session = &sessions()[0];
+    let served = serve(rt.alloc(), session, &failing)?;
     let first = "START 15\n".len();
     assert_eq!(rt; served.run.status, 8);
     assert_eq!(rt; served.left.len() + first, session.lines.len());
     Ok(())
 }
 
-/// Runs a brain without FILE over lines in memory.
-fn serve_bytes(alloc: Global, lines: Vec<u8>) -> Result<Run, AllocError> {
-    let words = words_of(alloc, &["brain"])?;
-    let mut source = MemorySource::new(lines, 65_536, Vec::new(alloc));
-    let mut sink = MemorySink::new(alloc, 0, Vec::new(alloc));
-    let mut shelf = shelf_of(alloc, "", &[])?;
-    let status = run_renju(alloc, words.as_slice(), &mut source, &mut sink, &mut shelf);
-    let output = Vec::from_slice(alloc, sink.bytes())?;
-    Ok(Run { status, output })
-}
-
-#[test]
-fn a_line_has_at_most_4096_bytes(rt: HostRuntime) -> Result<(), Fail> {
-    let alloc = rt.alloc();
+/// Two lines of spaces: one of the most bytes that a line may have, and one of a byte more.
+fn long_lines(alloc: Global) -> Result<Vec<u8>, AllocError> {
     let mut lines = Vec::new(alloc);
     for spaces in [4_096, 4_097] {
         let line = vec![in alloc; b' '; spaces]?;
         lines.extend_from_slice(&line)?;
         lines.push(b'\n')?;
     }
-    let run = serve_bytes(alloc, lines)?;
-    assert_eq!(rt; run.status, 0);
-    assert_eq!(rt;
-        run.output.as_slice(),
-        b"ERROR bad arguments\r\n".as_slice()
-    );
+    Ok(lines)
+}
+
+#[test]
+fn a_line_has_at_most_4096_bytes(rt: HostRuntime) -> Result<(), Fail> {
+    let lines = long_lines(rt.alloc())?;
+    let run = run_sound(rt.alloc(), "brain", lines.as_slice())?;
+    assert_answer(&rt, &run, 0, "ERROR bad arguments\r\n", "long lines");
     Ok(())
 }
 
 #[test]
 fn a_session_has_at_most_67108864_bytes(rt: HostRuntime) -> Result<(), Fail> {
     for (count, status) in [(67_108_864, 0), (67_108_865, 11)] {
-        let alloc = rt.alloc();
-        let run = serve_bytes(alloc, vec![in alloc; b'\n'; count]?)?;
-        assert_eq!(rt; run.status, status);
-        assert_eq!(rt; run.output.len(), 0);
+        let lines = vec![in rt.alloc(); b'\n'; count]?;
+        let run = run_sound(rt.alloc(), "brain", lines.as_slice())?;
+        assert_answer(&rt, &run, status, "", "empty lines");
     }
     Ok(())
 }
@@ -378,9 +367,13 @@ fn a_session_has_at_most_67108864_bytes(rt: HostRuntime) -> Result<(), Fail> {
 #[test]
 fn a_file_is_loaded_once(rt: HostRuntime) -> Result<(), Fail> {
     // A table and a book, and the number of a load that fails: the second one is never made.
-    for session in [&SESSIONS[0], &SESSIONS[5]] {
+    for session in [&sessions()[0], &sessions()[5]] {
         for (load, status) in [(1, 2), (2, 0)] {
-            let served = serve(rt.alloc(), session, &SOUND, &[load])?;
+            let failing = Failing {
+                loads: &[load],
+                ..SOUND
+            };
+            let served = serve(rt.alloc(), session, &failing)?;
             assert_eq!(rt; served.run.status, status);
         }
     }
@@ -389,8 +382,16 @@ fn a_file_is_loaded_once(rt: HostRuntime) -> Result<(), Fail> {
 
 #[test]
 fn a_failing_shelf_is_told(rt: HostRuntime) -> Result<(), Fail> {
-    let served = serve(rt.alloc(), &SESSIONS[0], &SOUND, &[1])?;
-    assert_eq!(rt; served.run.status, 2);
-    assert_eq!(rt; served.run.output.as_slice(), b"shelf failed\n".as_slice());
-    Ok(())
+    let failing = Failing {
+        loads: &[1],
+        ..SOUND
+    };
+    serve_failing(
+        &rt,
+        rt.alloc(),
+        &sessions()[0],
+        &failing,
+        2,
+        "shelf failed\n",
+    )
 }

@@ -1,9 +1,9 @@
 //! The command `defend`, and a table that it writes.
 #![tactic(auto)]
 
-use crate::brains::{Session, serve};
+use crate::brains::{Session, serves_as_worked_out};
 use crate::inputs::BLOCK_FOULS_TABLE;
-use crate::runs::{Example, Failing, SOUND, answers_as_worked_out, run_failing};
+use crate::runs::{Example, Failing, Hindered, SOUND, answers_as_worked_out, fails_as_worked_out};
 use renju_cli::USAGE;
 use std::test::Fail;
 
@@ -110,12 +110,44 @@ const EXAMPLES: [Example; 12] = [
 /// The brain has the four stones around the middle, plays there, and follows the table after any move.
 const HELD: [Session; 1] = [Session {
     name: "a table of no defence is held",
-    words: ["brain", "t"],
+    words: "brain t",
     file: TWO_THREES_TABLE,
     lines: "START 15\nBOARD\n7,6,1\n6,7,1\n8,7,1\n7,8,1\n0,0,2\n14,0,2\n0,14,2\n14,14,2\nDONE\nTURN 0,7\nTURN 7,4\nTURN 1,1\nEND\n",
     status: 0,
     output: "OK\r\n7,7\r\n7,5\r\n7,9\r\nERROR game over\r\n",
 }];
+
+const HINDERED: [Hindered; 2] = [
+    Hindered {
+        example: Example {
+            name: "an output that fails",
+            words: "defend 2 4",
+            input: OPEN_THREE,
+            status: 8,
+            output: "defen",
+        },
+        failing: Failing {
+            piece: 7,
+            writes: &[1],
+            kept: 5,
+            ..SOUND
+        },
+    },
+    Hindered {
+        example: Example {
+            name: "an input that fails",
+            words: "defend 2 4",
+            input: OPEN_THREE,
+            status: 7,
+            output: "",
+        },
+        failing: Failing {
+            piece: 7,
+            reads: &[2],
+            ..SOUND
+        },
+    },
+];
 
 #[test]
 fn defences_are_found_as_worked_out(rt: HostRuntime) -> Result<(), Fail> {
@@ -124,33 +156,10 @@ fn defences_are_found_as_worked_out(rt: HostRuntime) -> Result<(), Fail> {
 
 #[test]
 fn the_brain_holds_a_table_of_no_defence(rt: HostRuntime) -> Result<(), Fail> {
-    for session in &HELD {
-        let served = serve(rt.alloc(), session, &SOUND, &[])?;
-        assert_eq!(rt; served.run.output.as_slice(), session.output.as_bytes());
-        assert_eq!(rt; served.run.status, session.status);
-    }
-    Ok(())
+    serves_as_worked_out(&rt, rt.alloc(), &HELD, &SOUND)
 }
 
 #[test]
 fn a_search_for_defences_whose_devices_fail(rt: HostRuntime) -> Result<(), Fail> {
-    let output = Failing {
-        piece: 7,
-        reads: &[],
-        writes: &[1],
-        kept: 5,
-    };
-    let run = run_failing(rt.alloc(), "defend 2 4", OPEN_THREE.as_bytes(), &output)?;
-    assert_eq!(rt; run.status, 8);
-    assert_eq!(rt; run.output.as_slice(), b"defen".as_slice());
-    let input = Failing {
-        piece: 7,
-        reads: &[2],
-        writes: &[],
-        kept: 0,
-    };
-    let run = run_failing(rt.alloc(), "defend 2 4", OPEN_THREE.as_bytes(), &input)?;
-    assert_eq!(rt; run.status, 7);
-    assert!(rt; run.output.is_empty());
-    Ok(())
+    fails_as_worked_out(&rt, rt.alloc(), &HINDERED)
 }

@@ -2,7 +2,7 @@
 #![tactic(auto)]
 
 use crate::inputs::{TWO_ENTRIES, TWO_MOVES_TABLE};
-use crate::runs::{Failing, Run, SOUND, run_failing, run_over};
+use crate::runs::{Failing, Run, SOUND, assert_answer, run_failing, run_over};
 use renju_io::RealSource;
 use std::alloc::{AllocError, Global};
 use std::io;
@@ -10,24 +10,34 @@ use std::test::Fail;
 
 const ACCEPTED: &str = "accepted in 2 moves, 219 arrivals\n";
 
-/// The run of `check` over a table, with an input that gives pieces of this length and fails at this read.
-fn run_to_read(alloc: Global, piece: usize, read: u64) -> Result<Run, AllocError> {
+/// A run with an input that gives pieces of this length and fails at this read.
+fn run_to(
+    alloc: Global,
+    words: &str,
+    input: &str,
+    piece: usize,
+    read: u64,
+) -> Result<Run, AllocError> {
     let failing = Failing {
         piece,
         reads: &[read],
-        writes: &[],
-        kept: 0,
+        ..SOUND
     };
-    run_failing(alloc, "check 219", TWO_MOVES_TABLE.as_bytes(), &failing)
+    run_failing(alloc, words, input.as_bytes(), &failing)
+}
+
+/// The run of `check` over a table with such an input.
+fn run_to_read(alloc: Global, piece: usize, read: u64) -> Result<Run, AllocError> {
+    run_to(alloc, "check 219", TWO_MOVES_TABLE, piece, read)
 }
 
 /// The same run with an output that fails at this write, and keeps so many bytes of its piece.
 fn run_to_write(alloc: Global, write: u64, kept: usize) -> Result<Run, AllocError> {
     let failing = Failing {
         piece: 3,
-        reads: &[],
         writes: &[write],
         kept,
+        ..SOUND
     };
     run_failing(alloc, "check 219", TWO_MOVES_TABLE.as_bytes(), &failing)
 }
@@ -38,8 +48,7 @@ fn a_failing_read_writes_nothing(rt: HostRuntime) -> Result<(), Fail> {
     let last = TWO_MOVES_TABLE.len() as u64 + 1;
     for (piece, read) in [(65_536, 1), (1, 11), (65_536, 2), (1, last)] {
         let run = run_to_read(rt.alloc(), piece, read)?;
-        assert_eq!(rt; run.status, 7);
-        assert_eq!(rt; run.output.len(), 0);
+        assert_answer(&rt, &run, 7, "", "a read that fails");
     }
     Ok(())
 }
@@ -50,8 +59,7 @@ fn nothing_is_read_after_the_end(rt: HostRuntime) -> Result<(), Fail> {
     let after = TWO_MOVES_TABLE.len() as u64 + 2;
     for (piece, read) in [(65_536, 3), (1, after)] {
         let run = run_to_read(rt.alloc(), piece, read)?;
-        assert_eq!(rt; run.status, 0);
-        assert_eq!(rt; run.output.as_slice(), ACCEPTED.as_bytes());
+        assert_answer(&rt, &run, 0, ACCEPTED, "a read after the end would fail");
     }
     Ok(())
 }
@@ -66,13 +74,7 @@ fn each_byte_of_a_book_is_read_once(rt: HostRuntime) -> Result<(), Fail> {
         (1, last, 7),
         (1, last + 1, 0),
     ] {
-        let failing = Failing {
-            piece,
-            reads: &[read],
-            writes: &[],
-            kept: 0,
-        };
-        let run = run_failing(rt.alloc(), "book 219", TWO_ENTRIES.as_bytes(), &failing)?;
+        let run = run_to(rt.alloc(), "book 219", TWO_ENTRIES, piece, read)?;
         assert_eq!(rt; run.status, status, "{piece} {read}");
     }
     Ok(())
@@ -81,23 +83,21 @@ fn each_byte_of_a_book_is_read_once(rt: HostRuntime) -> Result<(), Fail> {
 #[test]
 fn a_failing_write_leaves_the_front_of_the_text(rt: HostRuntime) -> Result<(), Fail> {
     let run = run_to_write(rt.alloc(), 1, 3)?;
-    assert_eq!(rt; run.status, 8);
-    assert_eq!(rt; run.output.as_slice(), b"acc".as_slice());
+    assert_answer(&rt, &run, 8, "acc", "a write that fails");
     Ok(())
 }
 
 #[test]
 fn nothing_is_written_after_the_last_piece(rt: HostRuntime) -> Result<(), Fail> {
     let run = run_to_write(rt.alloc(), 2, 0)?;
-    assert_eq!(rt; run.status, 0);
-    assert_eq!(rt; run.output.as_slice(), ACCEPTED.as_bytes());
+    assert_answer(&rt, &run, 0, ACCEPTED, "a second write would fail");
     Ok(())
 }
 
 #[test]
 fn a_session_is_read_up_to_its_end_and_no_further(rt: HostRuntime) -> Result<(), Fail> {
     // Lines, the most bytes of a read, a read that fails, and the status: the last read is that of END, or tells the end.
-    let sessions = [
+    for (lines, piece, read, status) in [
         ("START 15\nEND\n", 65_536, 1, 7),
         ("START 15\nEND\n", 65_536, 2, 0),
         ("START 15\nEND\n", 1, 13, 7),
@@ -106,15 +106,8 @@ fn a_session_is_read_up_to_its_end_and_no_further(rt: HostRuntime) -> Result<(),
         ("START 15\n", 65_536, 3, 0),
         ("START 15\n", 1, 10, 7),
         ("START 15\n", 1, 11, 0),
-    ];
-    for (lines, piece, read, status) in sessions {
-        let failing = Failing {
-            piece,
-            reads: &[read],
-            writes: &[],
-            kept: 0,
-        };
-        let run = run_failing(rt.alloc(), "brain", lines.as_bytes(), &failing)?;
+    ] {
+        let run = run_to(rt.alloc(), "brain", lines, piece, read)?;
         assert_eq!(rt; run.status, status, "{lines} {piece} {read}");
     }
     Ok(())
@@ -130,8 +123,7 @@ fn an_input_without_an_end_is_too_long(rt: HostRuntime) -> Result<(), Fail> {
     for (words, byte, output) in endless {
         let mut source = RealSource::new(io::repeat(byte));
         let run = run_over(rt.alloc(), words, &mut source, &SOUND)?;
-        assert_eq!(rt; run.status, 11, "{words}");
-        assert_eq!(rt; run.output.as_slice(), output.as_bytes(), "{words}");
+        assert_answer(&rt, &run, 11, output, words);
     }
     Ok(())
 }

@@ -3,7 +3,7 @@
 //! The counts are those that a separately written program counted, which shares nothing with this repository.
 #![tactic(auto)]
 
-use crate::runs::{Example, Failing, answers_as_worked_out, run_failing, run_sound};
+use crate::runs::{Example, Failing, Hindered, SOUND, answers_as_worked_out, fails_as_worked_out};
 use std::test::Fail;
 use strength_drill::{Counts, drill_counts};
 
@@ -38,6 +38,39 @@ const EXAMPLES: [Example; 4] = [
     },
 ];
 
+const SEVENTH: Example = Example {
+    name: "the drill of 7",
+    words: "drill 7",
+    input: "",
+    status: 0,
+    output: "drill 7\npositions 60\nwins 47 none 13 spent 0\naccepted 47\ngames 47 moves 79\n",
+};
+
+const TWICE: [Example; 2] = [
+    SEVENTH,
+    Example {
+        name: "the drill of 7 once more",
+        ..SEVENTH
+    },
+];
+
+const HINDERED: [Hindered; 1] = [Hindered {
+    example: Example {
+        name: "an output that fails, and an input that is not asked",
+        words: "drill 0",
+        input: "",
+        status: 8,
+        output: "dri",
+    },
+    failing: Failing {
+        piece: 1,
+        reads: &[1],
+        writes: &[1],
+        kept: 3,
+        ..SOUND
+    },
+}];
+
 #[test]
 fn drills_count_as_counted_elsewhere(rt: HostRuntime) -> Result<(), Fail> {
     answers_as_worked_out(&rt, rt.alloc(), &EXAMPLES)
@@ -45,28 +78,12 @@ fn drills_count_as_counted_elsewhere(rt: HostRuntime) -> Result<(), Fail> {
 
 #[test]
 fn two_runs_of_a_drill_write_the_same(rt: HostRuntime) -> Result<(), Fail> {
-    let first = run_sound(rt.alloc(), "drill 7", b"")?;
-    let second = run_sound(rt.alloc(), "drill 7", b"")?;
-    assert_eq!(rt; first.output.as_slice(), second.output.as_slice());
-    assert_eq!(rt;
-        first.output.as_slice(),
-        b"drill 7\npositions 60\nwins 47 none 13 spent 0\naccepted 47\ngames 47 moves 79\n".as_slice()
-    );
-    Ok(())
+    answers_as_worked_out(&rt, rt.alloc(), &TWICE)
 }
 
 #[test]
 fn a_drill_whose_output_fails_wrote_the_front(rt: HostRuntime) -> Result<(), Fail> {
-    let failing = Failing {
-        piece: 1,
-        reads: &[1],
-        writes: &[1],
-        kept: 3,
-    };
-    let run = run_failing(rt.alloc(), "drill 0", b"", &failing)?;
-    assert_eq!(rt; run.status, 8);
-    assert_eq!(rt; run.output.as_slice(), b"dri".as_slice());
-    Ok(())
+    fails_as_worked_out(&rt, rt.alloc(), &HINDERED)
 }
 
 #[test]

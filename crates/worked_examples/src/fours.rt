@@ -5,7 +5,7 @@ use crate::inputs::{
     BLOCK_FOULS, BLOCK_FOULS_TABLE, FIVE_AND_SIX, FIVE_AND_SIX_TABLE, NO_STONES, TWO_MOVES,
     TWO_MOVES_TABLE,
 };
-use crate::runs::{Example, answers_as_worked_out, run_sound};
+use crate::runs::{Example, answers_as_worked_out, assert_answer, run_sound};
 use std::test::Fail;
 
 const BLOCK_HOLDS: &str =
@@ -143,17 +143,23 @@ fn fours_answer_as_worked_out(rt: HostRuntime) -> Result<(), Fail> {
 
 #[test]
 fn what_fours_writes_is_accepted(rt: HostRuntime) -> Result<(), Fail> {
-    let written = run_sound(rt.alloc(), "fours 5 3", TWO_MOVES.as_bytes())?;
-    let run = run_sound(rt.alloc(), "check 219", written.output.as_slice())?;
-    assert_eq!(rt;
-        run.output.as_slice(),
-        b"accepted in 2 moves, 219 arrivals\n".as_slice()
-    );
-    let written = run_sound(rt.alloc(), "fours 5 2", BLOCK_FOULS.as_bytes())?;
-    let run = run_sound(rt.alloc(), "check 213", written.output.as_slice())?;
-    assert_eq!(rt;
-        run.output.as_slice(),
-        b"accepted in 2 moves, 213 arrivals\n".as_slice()
-    );
+    for (words, input, check, output) in [
+        (
+            "fours 5 3",
+            TWO_MOVES,
+            "check 219",
+            "accepted in 2 moves, 219 arrivals\n",
+        ),
+        (
+            "fours 5 2",
+            BLOCK_FOULS,
+            "check 213",
+            "accepted in 2 moves, 213 arrivals\n",
+        ),
+    ] {
+        let written = run_sound(rt.alloc(), words, input.as_bytes())?;
+        let run = run_sound(rt.alloc(), check, written.output.as_slice())?;
+        assert_answer(&rt, &run, 0, output, words);
+    }
     Ok(())
 }

@@ -62,20 +62,21 @@ fn first_sequence(alloc: Global, position: &Position<Freestyle>) -> Result<Threa
     }
 }
 
-#[test]
-fn a_search_without_room_for_its_win_is_full(rt: HostRuntime) -> Result<(), Fail> {
-    let alloc = rt.alloc();
-    let mut compiler = full_compiler(&rt, alloc)?;
+/// What hinders a search for a win by fours. It promises nothing, as those below, so that the test is quick to prove.
+fn hinders_fours(alloc: Global, compiler: &mut Compiler) -> Result<Option<SearchError>, Fail> {
     let mut position = position_of(alloc, TWO_MOVES)?;
     let found = four_search::<Freestyle, Position<Freestyle>>(
         alloc,
         &mut position,
         2,
         100,
-        &mut compiler,
+        compiler,
     );
-    assert_eq!(rt; found.err(), Some(SearchError::Full));
+    Ok(found.err())
+}
 
+/// What hinders a proof along a sequence of threats.
+fn hinders_line(alloc: Global, compiler: &mut Compiler) -> Result<Option<SearchError>, Fail> {
     let mut position = position_of(alloc, DIAMOND)?;
     let sequence = first_sequence(alloc, &position)?;
     let proved = prove_line::<Freestyle, Position<Freestyle>>(
@@ -83,10 +84,14 @@ fn a_search_without_room_for_its_win_is_full(rt: HostRuntime) -> Result<(), Fail
         &mut position,
         &sequence,
         3,
-        &mut compiler,
+        compiler,
     );
-    assert_eq!(rt; proved.err(), Some(SearchError::Full));
+    Ok(proved.err())
+}
 
+/// What hinders a search by proof numbers.
+fn hinders_numbers(alloc: Global, compiler: &mut Compiler) -> Result<Option<SearchError>, Fail> {
+    let mut position = position_of(alloc, DIAMOND)?;
     let mut tree = ProofTree::new(alloc)?;
     let found = proof_number::<Freestyle, Position<Freestyle>>(
         alloc,
@@ -94,9 +99,27 @@ fn a_search_without_room_for_its_win_is_full(rt: HostRuntime) -> Result<(), Fail
         3,
         1_000,
         &mut tree,
-        &mut compiler,
+        compiler,
     );
-    assert_eq!(rt; found.err(), Some(SearchError::Full));
+    Ok(found.err())
+}
+
+#[test]
+fn a_search_without_room_for_its_win_is_full(rt: HostRuntime) -> Result<(), Fail> {
+    let alloc = rt.alloc();
+    let mut compiler = full_compiler(&rt, alloc)?;
+    assert_eq!(rt;
+        hinders_fours(alloc, &mut compiler)?,
+        Some(SearchError::Full)
+    );
+    assert_eq!(rt;
+        hinders_line(alloc, &mut compiler)?,
+        Some(SearchError::Full)
+    );
+    assert_eq!(rt;
+        hinders_numbers(alloc, &mut compiler)?,
+        Some(SearchError::Full)
+    );
     assert!(rt; compiler.len() == MAX_NODES);
     Ok(())
 }

@@ -2,7 +2,7 @@
 #![tactic(auto)]
 
 use crate::inputs::TWO_MOVES_TABLE;
-use crate::runs::{Example, Failing, answers_as_worked_out, run_failing};
+use crate::runs::{Example, Failing, Hindered, SOUND, answers_as_worked_out, fails_as_worked_out};
 use std::test::Fail;
 
 /// The image of `TWO_MOVES_TABLE` under half a turn.
@@ -93,6 +93,38 @@ const EXAMPLES: [Example; 11] = [
     },
 ];
 
+const HINDERED: [Hindered; 2] = [
+    Hindered {
+        example: Example {
+            name: "an output that fails",
+            words: "image half",
+            input: TWO_MOVES_TABLE,
+            status: 8,
+            output: "renju",
+        },
+        failing: Failing {
+            piece: 7,
+            writes: &[1],
+            kept: 5,
+            ..SOUND
+        },
+    },
+    Hindered {
+        example: Example {
+            name: "an input that fails",
+            words: "image half",
+            input: TWO_MOVES_TABLE,
+            status: 7,
+            output: "",
+        },
+        failing: Failing {
+            piece: 7,
+            reads: &[2],
+            ..SOUND
+        },
+    },
+];
+
 #[test]
 fn tables_are_carried_over_as_worked_out(rt: HostRuntime) -> Result<(), Fail> {
     answers_as_worked_out(&rt, rt.alloc(), &EXAMPLES)
@@ -100,28 +132,5 @@ fn tables_are_carried_over_as_worked_out(rt: HostRuntime) -> Result<(), Fail> {
 
 #[test]
 fn an_image_whose_devices_fail(rt: HostRuntime) -> Result<(), Fail> {
-    let output = Failing {
-        piece: 7,
-        reads: &[],
-        writes: &[1],
-        kept: 5,
-    };
-    let run = run_failing(
-        rt.alloc(),
-        "image half",
-        TWO_MOVES_TABLE.as_bytes(),
-        &output,
-    )?;
-    assert_eq!(rt; run.status, 8);
-    assert_eq!(rt; run.output.as_slice(), b"renju".as_slice());
-    let input = Failing {
-        piece: 7,
-        reads: &[2],
-        writes: &[],
-        kept: 0,
-    };
-    let run = run_failing(rt.alloc(), "image half", TWO_MOVES_TABLE.as_bytes(), &input)?;
-    assert_eq!(rt; run.status, 7);
-    assert!(rt; run.output.is_empty());
-    Ok(())
+    fails_as_worked_out(&rt, rt.alloc(), &HINDERED)
 }

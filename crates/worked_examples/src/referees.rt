@@ -1,7 +1,7 @@
 //! The command `referee`: games that are judged, and games beside the table of a file.
 #![tactic(auto)]
 
-use crate::brains::{Session, serve};
+use crate::brains::{Session, leaves_the_lines, serve_failing, serves_as_worked_out};
 use crate::inputs::{BLOCK_FOULS_TABLE, ONE_ANSWER_WRONG, TWO_ENTRIES, TWO_MOVES_TABLE};
 use crate::runs::{Example, Failing, SOUND, answers_as_worked_out};
 use std::test::Fail;
@@ -86,7 +86,7 @@ const NO_TEXT: &str = "no text";
 const BESIDE_TABLES: [Session; 14] = [
     Session {
         name: "a game that is won by the table",
-        words: ["referee", "t"],
+        words: "referee t",
         file: TWO_MOVES_TABLE,
         lines: FOLLOWED,
         status: 0,
@@ -94,7 +94,7 @@ const BESIDE_TABLES: [Session; 14] = [
     },
     Session {
         name: "a win by another move than that of the table",
-        words: ["referee", "t"],
+        words: "referee t",
         file: TWO_MOVES_TABLE,
         lines: "renju-game 1\nrule freestyle\nsize 15\nblack 5,7 6,7 7,7\nwhite 0,0 2,0 4,0\nmoves 4,7 0,14 8,7\n",
         status: 0,
@@ -102,7 +102,7 @@ const BESIDE_TABLES: [Session; 14] = [
     },
     Session {
         name: "a reply on a stone",
-        words: ["referee", "t"],
+        words: "referee t",
         file: TWO_MOVES_TABLE,
         lines: "renju-game 1\nrule freestyle\nsize 15\nblack 5,7 6,7 7,7\nwhite 0,0 2,0 4,0\nmoves 4,7 4,7\n",
         status: 0,
@@ -110,7 +110,7 @@ const BESIDE_TABLES: [Session; 14] = [
     },
     Session {
         name: "a reply after the end",
-        words: ["referee", "t"],
+        words: "referee t",
         file: TWO_MOVES_TABLE,
         lines: "renju-game 1\nrule freestyle\nsize 15\nblack 5,7 6,7 7,7\nwhite 0,0 2,0 4,0\nmoves 4,7 3,7 8,7 1,1\n",
         status: 0,
@@ -118,7 +118,7 @@ const BESIDE_TABLES: [Session; 14] = [
     },
     Session {
         name: "a reply that fouls",
-        words: ["referee", "t"],
+        words: "referee t",
         file: BLOCK_FOULS_TABLE,
         lines: "renju-game 1\nrule renju\nsize 15\nblack 7,0 7,1 7,2 2,3 7,4 7,5\nwhite 3,3 4,3 5,3 12,14 14,14\nmoves 6,3 7,3\n",
         status: 0,
@@ -126,7 +126,7 @@ const BESIDE_TABLES: [Session; 14] = [
     },
     Session {
         name: "a table of another rule",
-        words: ["referee", "t"],
+        words: "referee t",
         file: TWO_MOVES_TABLE,
         lines: "renju-game 1\nrule exact\nsize 15\nblack 5,7 6,7 7,7\nwhite 0,0 2,0 4,0\nmoves 4,7\n",
         status: 0,
@@ -134,7 +134,7 @@ const BESIDE_TABLES: [Session; 14] = [
     },
     Session {
         name: "a table of another position",
-        words: ["referee", "t"],
+        words: "referee t",
         file: TWO_MOVES_TABLE,
         lines: "renju-game 1\nrule freestyle\nsize 15\nblack 5,7 6,7 7,7\nwhite 0,0 2,0 4,1\nmoves 4,7\n",
         status: 0,
@@ -142,7 +142,7 @@ const BESIDE_TABLES: [Session; 14] = [
     },
     Session {
         name: "the opponent moves first",
-        words: ["referee", "t"],
+        words: "referee t",
         file: OPPONENT_FIRST,
         lines: "renju-game 1\nrule freestyle\nsize 15\nblack 4,7 5,7 6,7 7,7\nwhite 0,0 2,0 4,0\nmoves 3,7 3,6\n",
         status: 0,
@@ -150,7 +150,7 @@ const BESIDE_TABLES: [Session; 14] = [
     },
     Session {
         name: "a file that is no table comes before a game that is none",
-        words: ["referee", "t"],
+        words: "referee t",
         file: "renju-table 1\nrule gomoku\n",
         lines: NO_TEXT,
         status: 3,
@@ -158,7 +158,7 @@ const BESIDE_TABLES: [Session; 14] = [
     },
     Session {
         name: "so does a table that is not accepted",
-        words: ["referee", "t"],
+        words: "referee t",
         file: ONE_ANSWER_WRONG,
         lines: NO_TEXT,
         status: 4,
@@ -166,7 +166,7 @@ const BESIDE_TABLES: [Session; 14] = [
     },
     Session {
         name: "and a file that is not there",
-        words: ["referee", "u"],
+        words: "referee u",
         file: TWO_MOVES_TABLE,
         lines: NO_TEXT,
         status: 2,
@@ -174,7 +174,7 @@ const BESIDE_TABLES: [Session; 14] = [
     },
     Session {
         name: "a file that is a game",
-        words: ["referee", "t"],
+        words: "referee t",
         file: FOLLOWED,
         lines: FOLLOWED,
         status: 3,
@@ -182,7 +182,7 @@ const BESIDE_TABLES: [Session; 14] = [
     },
     Session {
         name: "a file that is a book",
-        words: ["referee", "t"],
+        words: "referee t",
         file: TWO_ENTRIES,
         lines: FOLLOWED,
         status: 3,
@@ -190,13 +190,18 @@ const BESIDE_TABLES: [Session; 14] = [
     },
     Session {
         name: "a game that is none, once the table is accepted",
-        words: ["referee", "t"],
+        words: "referee t",
         file: TWO_MOVES_TABLE,
         lines: NO_TEXT,
         status: 3,
         output: "refused line 1\n",
     },
 ];
+
+/// The games beside tables. Tests take them from here, since each proof of a function that names the table goes through its texts.
+fn beside_tables() -> &'static [Session; 14] {
+    &BESIDE_TABLES
+}
 
 #[test]
 fn games_are_judged_as_worked_out(rt: HostRuntime) -> Result<(), Fail> {
@@ -205,50 +210,45 @@ fn games_are_judged_as_worked_out(rt: HostRuntime) -> Result<(), Fail> {
 
 #[test]
 fn games_are_compared_as_worked_out(rt: HostRuntime) -> Result<(), Fail> {
-    for session in &BESIDE_TABLES {
-        let name = session.name;
-        let served = serve(rt.alloc(), session, &SOUND, &[])?;
-        assert_eq!(rt;
-            served.run.output.as_slice(),
-            session.output.as_bytes(),
-            "{name}"
-        );
-        assert_eq!(rt; served.run.status, session.status, "{name}");
-    }
-    Ok(())
+    serves_as_worked_out(&rt, rt.alloc(), beside_tables(), &SOUND)
 }
 
 #[test]
 fn a_file_that_is_refused_leaves_the_game_unread(rt: HostRuntime) -> Result<(), Fail> {
-    for session in &BESIDE_TABLES[8..11] {
-        let served = serve(rt.alloc(), session, &SOUND, &[])?;
-        assert_eq!(rt; served.run.status, session.status);
-        assert_eq!(rt; served.left.as_slice(), session.lines.as_bytes());
+    for session in &beside_tables()[8..11] {
+        leaves_the_lines(&rt, rt.alloc(), session)?;
     }
-    let failing = Failing {
-        piece: 65_536,
-        reads: &[1],
-        writes: &[],
-        kept: 0,
-    };
-    let read = serve(rt.alloc(), &BESIDE_TABLES[0], &failing, &[])?;
-    assert_eq!(rt; (read.run.status, read.run.output.len()), (7, 0));
     Ok(())
 }
 
 #[test]
-fn a_shelf_and_an_output_that_fail_are_told(rt: HostRuntime) -> Result<(), Fail> {
-    let served = serve(rt.alloc(), &BESIDE_TABLES[0], &SOUND, &[1])?;
-    assert_eq!(rt; served.run.status, 2);
-    assert_eq!(rt; served.run.output.as_slice(), b"shelf failed\n".as_slice());
-    let failing = Failing {
-        piece: 65_536,
-        reads: &[],
+fn a_shelf_an_input_and_an_output_that_fail_are_told(rt: HostRuntime) -> Result<(), Fail> {
+    let loads = Failing {
+        loads: &[1],
+        ..SOUND
+    };
+    let reads = Failing {
+        reads: &[1],
+        ..SOUND
+    };
+    let writes = Failing {
         writes: &[1],
         kept: 4,
+        ..SOUND
     };
-    let written = serve(rt.alloc(), &BESIDE_TABLES[0], &failing, &[])?;
-    assert_eq!(rt; written.run.status, 8);
-    assert_eq!(rt; written.run.output.as_slice(), b"won ".as_slice());
+    for (failing, status, output) in [
+        (&loads, 2, "shelf failed\n"),
+        (&reads, 7, ""),
+        (&writes, 8, "won "),
+    ] {
+        serve_failing(
+            &rt,
+            rt.alloc(),
+            &beside_tables()[0],
+            failing,
+            status,
+            output,
+        )?;
+    }
     Ok(())
 }

@@ -7,7 +7,7 @@ use crate::inputs::{
     BLOCK_FOULS, BLOCK_FOULS_TABLE, DIAMOND, FIVE_AND_SIX, FIVE_AND_SIX_TABLE, NO_STONES,
     QUIET_WIN, TWO_MOVES, TWO_MOVES_TABLE,
 };
-use crate::runs::{Example, answers_as_worked_out, run_sound};
+use crate::runs::{Example, answers_as_worked_out, assert_answer, run_sound};
 use std::test::Fail;
 
 const EXAMPLES: [Example; 8] = [
@@ -84,8 +84,7 @@ fn a_double_three_is_written_and_accepted(rt: HostRuntime) -> Result<(), Fail> {
         ("check 46440", 5, "spent\n"),
     ] {
         let run = run_sound(rt.alloc(), words, written.output.as_slice())?;
-        assert_eq!(rt; run.output.as_slice(), output.as_bytes(), "{words}");
-        assert_eq!(rt; run.status, status, "{words}");
+        assert_answer(&rt, &run, status, output, words);
     }
     Ok(())
 }

@@ -2,8 +2,9 @@
 #![tactic(auto)]
 
 use crate::inputs::{ONE_ANSWER_WRONG, TWO_MOVES_TABLE};
-use crate::runs::run_sound;
+use crate::runs::{assert_answer, run_sound};
 use std::alloc::{AllocError, Global};
+use std::process::Abort;
 use std::test::Fail;
 
 const FIRST_LINES: &str =
@@ -38,45 +39,52 @@ fn chain(alloc: Global, nodes: u32) -> Result<Vec<u8>, AllocError> {
     Ok(text)
 }
 
+/// Checks a table with the least work, and compares what is told with this.
+fn check_1(
+    rt: &impl Abort,
+    alloc: Global,
+    text: &[u8],
+    status: u8,
+    output: &str,
+) -> Result<(), Fail> {
+    let run = run_sound(alloc, "check 1", text)?;
+    assert_answer(rt, &run, status, output, "check 1");
+    Ok(())
+}
+
 #[test]
 fn a_million_nodes_are_read(rt: HostRuntime) -> Result<(), Fail> {
     let text = winning_lines(rt.alloc(), MOST, MOST)?;
-    let run = run_sound(rt.alloc(), "check 1", text.as_slice())?;
-    assert_eq!(rt;
-        run.output.as_slice(),
-        b"accepted in 1 moves, 1 arrivals\n".as_slice()
-    );
-    assert_eq!(rt; run.status, 0);
-    Ok(())
+    let accepted = "accepted in 1 moves, 1 arrivals\n";
+    check_1(&rt, rt.alloc(), text.as_slice(), 0, accepted)
 }
 
 #[test]
 fn a_line_more_than_a_million_nodes_is_bad(rt: HostRuntime) -> Result<(), Fail> {
     let text = winning_lines(rt.alloc(), MOST, MOST + 1)?;
-    let run = run_sound(rt.alloc(), "check 1", text.as_slice())?;
-    assert_eq!(rt; run.output.as_slice(), b"refused line 1000008\n".as_slice());
-    assert_eq!(rt; run.status, 3);
-    Ok(())
+    let refused = "refused line 1000008\n";
+    check_1(&rt, rt.alloc(), text.as_slice(), 3, refused)
 }
 
 #[test]
 fn more_nodes_than_a_million_are_refused_before_they_come(rt: HostRuntime) -> Result<(), Fail> {
     let text = winning_lines(rt.alloc(), MOST + 1, MOST + 1)?;
-    let run = run_sound(rt.alloc(), "check 1", text.as_slice())?;
-    assert_eq!(rt; run.output.as_slice(), b"refused line 7\n".as_slice());
-    assert_eq!(rt; run.status, 3);
-    Ok(())
+    let refused = "refused line 7\n";
+    check_1(&rt, rt.alloc(), text.as_slice(), 3, refused)
 }
 
 #[test]
 fn a_chain_of_a_million_nodes_is_read(rt: HostRuntime) -> Result<(), Fail> {
     let text = chain(rt.alloc(), MOST)?;
-    let run = run_sound(rt.alloc(), "check 1", text.as_slice())?;
-    assert_eq!(rt;
-        run.output.as_slice(),
-        b"accepted in 1000000 moves, 1 arrivals\n".as_slice()
-    );
-    assert_eq!(rt; run.status, 0);
+    let accepted = "accepted in 1000000 moves, 1 arrivals\n";
+    check_1(&rt, rt.alloc(), text.as_slice(), 0, accepted)
+}
+
+/// Checks a table that is cut off, of which this line is the first that is missing.
+fn check_cut(rt: &impl Abort, alloc: Global, text: &[u8], line: u32) -> Result<(), Fail> {
+    let refused = format!(in alloc; "refused line {line}\n")?;
+    let run = run_sound(alloc, "check 219", text)?;
+    assert_answer(rt, &run, 3, refused.as_str(), "a text that is cut off");
     Ok(())
 }
 
@@ -89,10 +97,7 @@ fn a_cut_names_the_first_line_that_is_missing(rt: HostRuntime) -> Result<(), Fai
         if begins {
             line = line.wrapping_add(1);
         }
-        let expected = format!(in rt.alloc(); "refused line {line}\n")?;
-        let run = run_sound(rt.alloc(), "check 219", &text[..i])?;
-        assert_eq!(rt; run.output.as_slice(), expected.as_bytes(), "{i} bytes");
-        assert_eq!(rt; run.status, 3, "{i} bytes");
+        check_cut(&rt, rt.alloc(), &text[..i], line)?;
         begins = *byte == b'\n';
     }
     assert_eq!(rt; line, 10);
@@ -102,23 +107,17 @@ fn a_cut_names_the_first_line_that_is_missing(rt: HostRuntime) -> Result<(), Fai
 #[test]
 fn a_wrong_table_with_too_little_work_is_spent_or_refused(rt: HostRuntime) -> Result<(), Fail> {
     let run = run_sound(rt.alloc(), "check 1", ONE_ANSWER_WRONG.as_bytes())?;
-    if run.status == 4 {
-        assert_eq!(rt;
-            run.output.as_slice(),
-            b"refused attack-refused 4,7 3,7 3,7\n".as_slice()
-        );
+    let (status, output) = if run.status == 4 {
+        (4, "refused attack-refused 4,7 3,7 3,7\n")
     } else {
-        assert_eq!(rt; run.output.as_slice(), b"spent\n".as_slice());
-        assert_eq!(rt; run.status, 5);
-    }
+        (5, "spent\n")
+    };
+    assert_answer(&rt, &run, status, output, "check 1");
     Ok(())
 }
 
 #[test]
 fn an_input_of_a_byte_too_many_is_not_read(rt: HostRuntime) -> Result<(), Fail> {
     let text = vec![in rt.alloc(); b'a'; 16_777_217]?;
-    let run = run_sound(rt.alloc(), "check 1", text.as_slice())?;
-    assert_eq!(rt; run.output.as_slice(), b"input too long\n".as_slice());
-    assert_eq!(rt; run.status, 11);
-    Ok(())
+    check_1(&rt, rt.alloc(), text.as_slice(), 11, "input too long\n")
 }

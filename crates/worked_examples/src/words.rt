@@ -2,7 +2,7 @@
 #![tactic(auto)]
 
 use crate::inputs::{TWO_MOVES, TWO_MOVES_TABLE};
-use crate::runs::{Example, Failing, answers_as_worked_out, run_failing};
+use crate::runs::{Example, Failing, SOUND, answers_as_worked_out, assert_answer, run_failing};
 use renju_cli::USAGE;
 use std::test::Fail;
 
@@ -81,10 +81,9 @@ const FORMLESS: [&str; 68] = [
 
 /// Devices of which the input is not to be asked, and the output for one write alone.
 const UNASKED: Failing<'static> = Failing {
-    piece: 65_536,
     reads: &[1],
     writes: &[2],
-    kept: 0,
+    ..SOUND
 };
 
 const EXAMPLES: [Example; 13] = [
@@ -186,8 +185,7 @@ fn words_without_a_form_get_the_usage_line(rt: HostRuntime) -> Result<(), Fail> 
     for words in &FORMLESS {
         let words = *words;
         let run = run_failing(rt.alloc(), words, TWO_MOVES_TABLE.as_bytes(), &UNASKED)?;
-        assert_eq!(rt; run.output.as_slice(), USAGE.as_bytes(), "{words}");
-        assert_eq!(rt; run.status, 1, "{words}");
+        assert_answer(&rt, &run, 1, USAGE, words);
     }
     Ok(())
 }
