@@ -1,9 +1,12 @@
 //! Moves that hold on worked positions, and the lines that list them.
+
+use crate::boards::{lawful, put_all};
 use defence_finder::{DefenceAnswer, defences, write_defences};
 use foul_judge::Position;
 use four_search::MAX_DEPTH;
 use row_shapes::{ExactFive, Freestyle, Renju, Rule, RuleKind};
 use std::alloc::Global;
+use std::process::Abort;
 use std::test::Fail;
 use stone_board::{Board, Point, Points, Side};
 use strategy_compiler::Compiler;
@@ -126,15 +129,6 @@ const LAST_POINT: Case = Case {
     },
 };
 
-fn put_all(board: &mut Board, side: Side, points: &[(u8, u8)]) {
-    for (x, y) in points {
-        let p = Point { x: *x, y: *y };
-        if board.is_empty(p) {
-            board.put(p, side);
-        }
-    }
-}
-
 fn position<R: Rule>(alloc: Global, case: &Case) -> Result<Position<R>, Fail> {
     let side = case.side;
     if !(5..=32).contains(&side) {
@@ -143,10 +137,7 @@ fn position<R: Rule>(alloc: Global, case: &Case) -> Result<Position<R>, Fail> {
     let mut board = Board::empty(alloc, side, side)?;
     put_all(&mut board, Side::Black, case.black);
     put_all(&mut board, Side::White, case.white);
-    match Position::from_board(board) {
-        Ok(position) => Ok(position),
-        Err(_) => Err(Fail::from("no lawful position")),
-    }
+    lawful::<R>(board)
 }
 
 /// What the finder answers, and that the view is as before.
@@ -179,45 +170,61 @@ fn points(alloc: Global, points: &[(u8, u8)]) -> Result<Points, Fail> {
     Ok(list)
 }
 
+/// Compares what is found with what is expected.
+fn compare(
+    rt: &impl Abort,
+    alloc: Global,
+    expected: Found,
+    answer: &DefenceAnswer,
+) -> Result<(), Fail> {
+    match (expected, answer) {
+        (Found::Known { good, others }, DefenceAnswer::Known { good: found, bad }) => {
+            let wanted = points(alloc, good)?;
+            assert_eq!(rt; found.as_slice(), wanted.as_slice());
+            assert_eq!(rt; bad.len(), others);
+            Ok(())
+        }
+        (Found::Spent(x, y), DefenceAnswer::Spent { at }) => {
+            assert_eq!(rt; *at, Point { x, y });
+            Ok(())
+        }
+        _ => Err(Fail::from("another answer")),
+    }
+}
+
+const CASES: [Case; 6] = [
+    OPEN_THREE,
+    Case {
+        budget: 3,
+        found: Found::Spent(4, 7),
+        ..OPEN_THREE
+    },
+    TWO_THREES,
+    STRAIGHT_FOUR,
+    BLOCK_IN_SIX,
+    LAST_POINT,
+];
+
 #[test]
 fn finds_the_moves_that_hold(rt: HostRuntime) -> Result<(), Fail> {
-    let alloc = rt.alloc();
-    let cases = [
-        OPEN_THREE,
-        Case {
-            budget: 3,
-            found: Found::Spent(4, 7),
-            ..OPEN_THREE
-        },
-        TWO_THREES,
-        STRAIGHT_FOUR,
-        BLOCK_IN_SIX,
-        LAST_POINT,
-    ];
-    for case in &cases {
-        let (answer, same) = answer(alloc, case)?;
+    for case in &CASES {
+        let (answer, same) = answer(rt.alloc(), case)?;
         assert!(rt; same);
-        match (case.found, answer) {
-            (Found::Known { good, others }, DefenceAnswer::Known { good: found, bad }) => {
-                let wanted = points(alloc, good)?;
-                assert_eq!(rt; found.as_slice(), wanted.as_slice());
-                assert_eq!(rt; bad.len(), others);
-            }
-            (Found::Spent(x, y), DefenceAnswer::Spent { at }) => {
-                assert_eq!(rt; at, Point { x, y });
-            }
-            _ => return Err(Fail::from("another answer")),
-        }
+        compare(&rt, rt.alloc(), case.found, &answer)?;
     }
     Ok(())
 }
 
+/// The lines that list these points.
+fn written(alloc: Global, list: &[(u8, u8)]) -> Result<Vec<u8>, Fail> {
+    Ok(write_defences(alloc, &points(alloc, list)?)?)
+}
+
 #[test]
 fn lists_them_by_lines(rt: HostRuntime) -> Result<(), Fail> {
-    let alloc = rt.alloc();
-    let none = write_defences(alloc, &Points::new(alloc))?;
+    let none = written(rt.alloc(), &[])?;
     assert_eq!(rt; none.as_slice(), b"defences 0\n".as_slice());
-    let some = write_defences(alloc, &points(alloc, &[(1, 0), (31, 10)])?)?;
+    let some = written(rt.alloc(), &[(1, 0), (31, 10)])?;
     assert_eq!(rt; some.as_slice(), b"defences 2\n1,0\n31,10\n".as_slice());
     Ok(())
 }

@@ -7,6 +7,8 @@ ghost use Rattle.std.specs.Prelude.{◌≡◌, ◌≤◌, IfOk, IfSome};
 ghost use Rattle.four_search.specs.Answers.{IsFewestByFours};
 ghost use Rattle.four_search.specs.declared.TheConstants.{MAX_DEPTH};
 
+#[cfg(test)]
+use crate::boards::position_of;
 use foul_judge::Position;
 use four_search::{FourAnswer, four_search};
 #[cfg(test)]
@@ -15,8 +17,6 @@ use row_shapes::Rule;
 use std::alloc::Global;
 #[cfg(test)]
 use std::test::Fail;
-#[cfg(test)]
-use stone_board::{Board, Point, Side};
 use strategy_compiler::{Compiler, SearchError};
 
 /// The fewest moves within which the side to move wins by continuous fours, if a search with so many positions to look at finds a
@@ -43,22 +43,9 @@ fn fewest_by_fours<R: Rule>(
 
 #[test]
 fn an_open_three_wins_in_two_moves(rt: HostRuntime) -> Result<(), Fail> {
-    let mut board = Board::empty(rt.alloc(), 15, 15)?;
-    for x in [5, 6, 7] {
-        let p = Point { x, y: 7 };
-        if board.is_empty(p) {
-            board.put(p, Side::Black);
-        }
-    }
-    for x in [0, 2, 4] {
-        let p = Point { x, y: 0 };
-        if board.is_empty(p) {
-            board.put(p, Side::White);
-        }
-    }
-    let Ok(mut position) = Position::<Freestyle>::from_board(board) else {
-        return Err(Fail::from("the position is not lawful"));
-    };
+    let black = [(5, 7), (6, 7), (7, 7)];
+    let white = [(0, 0), (2, 0), (4, 0)];
+    let mut position = position_of::<Freestyle>(rt.alloc(), &black, &white)?;
     for (depth, moves) in [(5, Some(2)), (2, Some(2)), (1, None)] {
         assert_eq!(rt;
             fewest_by_fours(rt.alloc(), &mut position, depth, 100)?,

@@ -1,12 +1,14 @@
 //! Wins by fours on worked positions, with the tables of their plans as text.
+
+use crate::answers::{add_fours, add_win};
+use crate::boards::position_of;
 use foul_judge::Position;
-use four_search::{FourAnswer, FourMemory, MAX_DEPTH, four_search, four_search_with};
+use four_search::{FourAnswer, FourMemory, MAX_DEPTH, four_search_with};
 use row_shapes::{ExactFive, Freestyle, Renju, Rule, RuleKind};
-use std::alloc::{AllocError, Global};
+use std::alloc::Global;
+use std::process::Abort;
 use std::test::Fail;
-use stone_board::{Board, Point, Side};
 use strategy_compiler::Compiler;
-use strategy_graph::{Rest, Table};
 
 /// A search on a board of 15, and what it answers: `none`, `spent`, or the moves and the nodes of the table.
 #[derive(Clone, Copy)]
@@ -135,92 +137,11 @@ const CLOSED_THREES: Case = Case {
     answer: "none",
 };
 
-/// The position with these stones on a board of 15, if it is lawful.
-fn position<R: Rule>(alloc: Global, case: &Case) -> Result<Option<Position<R>>, AllocError> {
-    let mut board = Board::empty(alloc, 15, 15)?;
-    for (x, y) in case.black {
-        put(&mut board, Point { x: *x, y: *y }, Side::Black);
-    }
-    for (x, y) in case.white {
-        put(&mut board, Point { x: *x, y: *y }, Side::White);
-    }
-    match Position::from_board(board) {
-        Ok(position) => Ok(Some(position)),
-        Err(_) => Ok(None),
-    }
-}
-
-fn put(board: &mut Board, p: Point, side: Side) {
-    if board.is_empty(p) {
-        board.put(p, side);
-    }
-}
-
-/// The nodes of a table as one line of text.
-fn nodes_text(alloc: Global, table: &Table, moves: u32) -> Result<String, AllocError> {
-    let mut text = format!(in alloc; "{moves} moves: ")?;
-    for i in 0..table.len() {
-        let node = table.node(i);
-        let attack = node.attack;
-        let x = attack.x;
-        let y = attack.y;
-        write!(text, "{x},{y}")?;
-        match node.rest {
-            Rest::Wins => text.push_str(" wins")?,
-            Rest::To(j) => write!(text, " rest {j}")?,
-            Rest::Nothing => text.push_str(" only")?,
-        }
-        for reply in node.replies.as_slice() {
-            let x = reply.at.x;
-            let y = reply.at.y;
-            let j = reply.next;
-            write!(text, " {x},{y}>{j}")?;
-        }
-        text.push_str("; ")?;
-    }
-    Ok(text)
-}
-
 fn answer_text<R: Rule>(alloc: Global, case: &Case) -> Result<String, Fail> {
-    let depth = case.depth;
-    let budget = case.budget;
-    if depth < 1 || depth > MAX_DEPTH || budget < 1 {
-        return Err(Fail::from("out of range"));
-    }
-    let mut view = position::<R>(alloc, case)?.ok_or("unlawful")?;
-    let mut compiler = Compiler::new(alloc);
-    match four_search::<R, Position<R>>(alloc, &mut view, depth, budget, &mut compiler)? {
-        FourAnswer::None => Ok(String::from_str(alloc, "none")?),
-        FourAnswer::Spent => Ok(String::from_str(alloc, "spent")?),
-        FourAnswer::Win(win) => {
-            let table = compiler.finish_win(win)?;
-            Ok(nodes_text(alloc, &table, win.moves)?)
-        }
-    }
-}
-
-/// What a search answers that is lent a memory.
-fn answer_with<R: Rule>(
-    alloc: Global,
-    case: &Case,
-    memory: &mut FourMemory<R>,
-) -> Result<FourAnswer, Fail> {
-    let depth = case.depth;
-    let budget = case.budget;
-    if depth < 1 || depth > MAX_DEPTH || budget < 1 {
-        return Err(Fail::from("out of range"));
-    }
-    let mut view = position::<R>(alloc, case)?.ok_or("unlawful")?;
-    let mut compiler = Compiler::new(alloc);
-    let answer = four_search_with::<R, Position<R>>(
-        alloc,
-        &mut view,
-        depth,
-        budget,
-        memory,
-        &mut compiler,
-    )?;
-    Ok(answer)
+    let mut view = position_of::<R>(alloc, case.black, case.white)?;
+    let mut text = String::new(alloc);
+    add_fours::<R, Position<R>>(alloc, &mut view, case.depth, case.budget, &mut text)?;
+    Ok(text)
 }
 
 /// What a search answers, by its rule.
@@ -232,132 +153,148 @@ fn answer(alloc: Global, case: &Case) -> Result<String, Fail> {
     }
 }
 
-#[test]
-fn the_budget_counts_each_depth(rt: HostRuntime) -> Result<(), Fail> {
-    let cases = [
-        NO_STONES,
-        Case {
-            budget: 4,
-            answer: "spent",
-            ..NO_STONES
-        },
-        THREE_IN_A_ROW,
-        Case {
-            budget: 2,
-            answer: "spent",
-            ..THREE_IN_A_ROW
-        },
-    ];
-    for case in &cases {
+/// Compares what the searches answer with what the cases expect.
+fn compare(rt: &(impl Abort + AllocGlobal), cases: &[Case]) -> Result<(), Fail> {
+    for case in cases {
         assert_eq!(rt; answer(rt.alloc(), case)?.as_str(), case.answer);
     }
     Ok(())
 }
+
+const BUDGETS: [Case; 4] = [
+    NO_STONES,
+    Case {
+        budget: 4,
+        answer: "spent",
+        ..NO_STONES
+    },
+    THREE_IN_A_ROW,
+    Case {
+        budget: 2,
+        answer: "spent",
+        ..THREE_IN_A_ROW
+    },
+];
+
+#[test]
+fn the_budget_counts_each_depth(rt: HostRuntime) -> Result<(), Fail> {
+    compare(&rt, &BUDGETS)
+}
+
+const FIVE_POINTS: [Case; 6] = [
+    GAP_IN_SIX,
+    Case {
+        rule: RuleKind::Exact,
+        answer: "none",
+        ..GAP_IN_SIX
+    },
+    GAP_IN_SIX_OF_WHITE,
+    FIVE_AND_SIX,
+    BLOCK_IN_SIX,
+    Case {
+        budget: 1,
+        answer: "spent",
+        ..BLOCK_IN_SIX
+    },
+];
 
 #[test]
 fn a_five_point_wins_by_the_rule(rt: HostRuntime) -> Result<(), Fail> {
-    let cases = [
-        GAP_IN_SIX,
-        Case {
-            rule: RuleKind::Exact,
-            answer: "none",
-            ..GAP_IN_SIX
-        },
-        GAP_IN_SIX_OF_WHITE,
-        FIVE_AND_SIX,
-        BLOCK_IN_SIX,
-        Case {
-            budget: 1,
-            answer: "spent",
-            ..BLOCK_IN_SIX
-        },
-    ];
-    for case in &cases {
-        assert_eq!(rt; answer(rt.alloc(), case)?.as_str(), case.answer);
-    }
-    Ok(())
+    compare(&rt, &FIVE_POINTS)
 }
+
+const WINNING_BLOCK: [Case; 2] = [
+    Case {
+        rule: RuleKind::Freestyle,
+        budget: 9,
+        answer: "none",
+        ..BLOCK_IN_SIX
+    },
+    Case {
+        rule: RuleKind::Freestyle,
+        budget: 8,
+        answer: "spent",
+        ..BLOCK_IN_SIX
+    },
+];
 
 #[test]
 fn the_defender_wins_by_its_block(rt: HostRuntime) -> Result<(), Fail> {
-    let cases = [
-        Case {
-            rule: RuleKind::Freestyle,
-            budget: 9,
-            answer: "none",
-            ..BLOCK_IN_SIX
-        },
-        Case {
-            rule: RuleKind::Freestyle,
-            budget: 8,
-            answer: "spent",
-            ..BLOCK_IN_SIX
-        },
-    ];
-    for case in &cases {
-        assert_eq!(rt; answer(rt.alloc(), case)?.as_str(), case.answer);
-    }
-    Ok(())
+    compare(&rt, &WINNING_BLOCK)
 }
+
+const BLOCK_THAT_GOES_ON: [Case; 2] = [
+    Case {
+        rule: RuleKind::Exact,
+        budget: 13,
+        answer: "none",
+        ..BLOCK_IN_SIX
+    },
+    Case {
+        rule: RuleKind::Exact,
+        budget: 12,
+        answer: "spent",
+        ..BLOCK_IN_SIX
+    },
+];
 
 #[test]
 fn a_block_that_goes_on_is_searched(rt: HostRuntime) -> Result<(), Fail> {
-    let cases = [
-        Case {
-            rule: RuleKind::Exact,
-            budget: 13,
-            answer: "none",
-            ..BLOCK_IN_SIX
-        },
-        Case {
-            rule: RuleKind::Exact,
-            budget: 12,
-            answer: "spent",
-            ..BLOCK_IN_SIX
-        },
-    ];
-    for case in &cases {
-        assert_eq!(rt; answer(rt.alloc(), case)?.as_str(), case.answer);
-    }
-    Ok(())
+    compare(&rt, &BLOCK_THAT_GOES_ON)
 }
+
+/// The closed threes with one position fewer to look at than the search needs.
+const ONE_FEWER: Case = Case {
+    budget: 351_369,
+    answer: "spent",
+    ..CLOSED_THREES
+};
 
 #[test]
 fn positions_that_come_again_count_again(rt: HostRuntime) -> Result<(), Fail> {
-    let cases = [
-        CLOSED_THREES,
-        Case {
-            budget: 351_369,
-            answer: "spent",
-            ..CLOSED_THREES
-        },
-    ];
-    for case in &cases {
-        assert_eq!(rt; answer(rt.alloc(), case)?.as_str(), case.answer);
+    compare(&rt, &[CLOSED_THREES, ONE_FEWER])
+}
+
+/// What a search answers that is lent a memory.
+fn answer_with<R: Rule>(
+    alloc: Global,
+    case: &Case,
+    memory: &mut FourMemory<R>,
+) -> Result<String, Fail> {
+    let depth = case.depth;
+    let budget = case.budget;
+    if depth < 1 || depth > MAX_DEPTH || budget < 1 {
+        return Err(Fail::from("out of range"));
     }
-    Ok(())
+    let mut view = position_of::<R>(alloc, case.black, case.white)?;
+    let mut compiler = Compiler::new(alloc);
+    let answer = four_search_with::<R, Position<R>>(
+        alloc,
+        &mut view,
+        depth,
+        budget,
+        memory,
+        &mut compiler,
+    )?;
+    match answer {
+        FourAnswer::None => Ok(String::from_str(alloc, "none")?),
+        FourAnswer::Spent => Ok(String::from_str(alloc, "spent")?),
+        FourAnswer::Win(win) => {
+            let mut text = String::new(alloc);
+            add_win(compiler, win, &mut text)?;
+            Ok(text)
+        }
+    }
 }
 
 #[test]
 fn one_memory_serves_more_searches(rt: HostRuntime) -> Result<(), Fail> {
-    let alloc = rt.alloc();
-    let mut memory: FourMemory<Freestyle> = FourMemory::new(alloc);
-    let short = Case {
-        budget: 351_369,
-        ..CLOSED_THREES
-    };
-    assert_eq!(rt;
-        answer_with(alloc, &CLOSED_THREES, &mut memory)?,
-        FourAnswer::None
-    );
-    assert_eq!(rt; answer_with(alloc, &short, &mut memory)?, FourAnswer::Spent);
-    assert_eq!(rt;
-        answer_with(alloc, &CLOSED_THREES, &mut memory)?,
-        FourAnswer::None
-    );
-    match answer_with(alloc, &THREE_IN_A_ROW, &mut memory)? {
-        FourAnswer::Win(win) => assert_eq!(rt; win.moves, 2),
-        _ => return Err(Fail::from("no win")),
+    let mut memory: FourMemory<Freestyle> = FourMemory::new(rt.alloc());
+    for case in &[CLOSED_THREES, ONE_FEWER, CLOSED_THREES, THREE_IN_A_ROW] {
+        assert_eq!(rt;
+            answer_with(rt.alloc(), case, &mut memory)?.as_str(),
+            case.answer
+        );
     }
     Ok(())
 }

@@ -2,9 +2,14 @@
 //! sequences of threats, wins along them, wins by threats, and searches over positions and over line tables, which answer alike.
 //!
 //! They use public calls alone, so they stand apart from what they try: a check of a crate with its tests proves the whole crate
-//! once more, and the check of this one proves the tests alone.
+//! once more, and the check of this one proves the tests alone. What tests share, as boards and texts, is made by functions that
+//! promise nothing of it: a test compares it when it runs, and its proof stays short.
 #![tactic(auto)]
 
+#[cfg(test)]
+mod answers;
+#[cfg(test)]
+mod boards;
 #[cfg(test)]
 mod defences;
 mod fewest;

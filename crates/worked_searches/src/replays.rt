@@ -4,6 +4,10 @@
 //! of each empty point are compared with those that are made from scratch, by walks over the board.
 #![tactic(auto)]
 
+ghost use Rattle.std.specs.Prelude.{IsTrue};
+ghost use Rattle.stone_board.specs.Steps.{holds_stone};
+
+use crate::boards::lawful;
 use foul_judge::{Outcome, Position, Seen};
 use four_search::{FourAnswer, four_search};
 use line_tables::LineTables;
@@ -54,6 +58,20 @@ impl Draws {
     }
 }
 
+/// The shape of a stone of the side, by walks over the board.
+fn shape_of_stone<R: Rule>(board: &Board, p: Point, axis: Axis, side: Side) -> Shape
+    requires stone { IsTrue (holds_stone board.now p) }
+{
+    let run = board.run(p, axis);
+    Shape {
+        five: R::wins(side, run),
+        over: run >= 6,
+        fours: fours_through::<R>(board, p, axis) as u8,
+        straight: straight_through::<R>(board, p, axis),
+        three: three_points::<R>(board, p, axis),
+    }
+}
+
 /// The shape that a stone of the side makes on an empty point, by walks over the board.
 fn walked_shape<R: Rule>(
     rt: &impl Abort,
@@ -65,14 +83,7 @@ fn walked_shape<R: Rule>(
     assert!(rt; board.is_empty(p));
     board.put(p, side);
     assert!(rt; board.holds(side, p));
-    let run = board.run(p, axis);
-    let shape = Shape {
-        five: R::wins(side, run),
-        over: run >= 6,
-        fours: fours_through::<R>(board, p, axis) as u8,
-        straight: straight_through::<R>(board, p, axis),
-        three: three_points::<R>(board, p, axis),
-    };
+    let shape = shape_of_stone::<R>(board, p, axis, side);
     board.lift(p);
     shape
 }
@@ -85,11 +96,11 @@ fn reach<R: Rule>(side: Side) -> usize {
     }
 }
 
-/// Compares the code and the shape of an empty point with those made from scratch.
-fn compare_at<R: Rule>(
+/// Compares the code of an empty point with the one made from scratch.
+fn compare_code<R: Rule>(
     rt: &impl Abort,
     tables: &LineTables<R>,
-    board: &mut Board,
+    board: &Board,
     p: Point,
     axis: Axis,
     side: Side,
@@ -98,11 +109,38 @@ fn compare_at<R: Rule>(
     assert!(rt; 4 <= reach && reach <= 5);
     assert!(rt; board.on(p));
     assert!(rt; tables.board().is_empty(p));
-    let code = line_code(board, p, axis, side, reach);
-    assert_eq!(rt; tables.code(p, axis, side), code);
+    assert_eq!(rt;
+        tables.code(p, axis, side),
+        line_code(board, p, axis, side, reach)
+    );
+}
+
+/// Compares the shape of an empty point with the one made from scratch.
+fn compare_shape<R: Rule>(
+    rt: &impl Abort,
+    tables: &LineTables<R>,
+    board: &mut Board,
+    p: Point,
+    axis: Axis,
+    side: Side,
+) {
+    assert!(rt; tables.board().is_empty(p));
     let told = tables.shape(p, axis, side);
     let walked = walked_shape::<R>(rt, board, p, axis, side);
-    same_shapes(rt, told, walked, reach);
+    same_shapes(rt, told, walked, reach::<R>(side));
+}
+
+/// Compares both.
+fn compare_at<R: Rule>(
+    rt: &impl Abort,
+    tables: &LineTables<R>,
+    board: &mut Board,
+    p: Point,
+    axis: Axis,
+    side: Side,
+) {
+    compare_code::<R>(rt, tables, board, p, axis, side);
+    compare_shape::<R>(rt, tables, board, p, axis, side);
 }
 
 /// Compares two shapes, where codes have so many neighbours each way.
@@ -173,16 +211,27 @@ fn undo<R: Rule, V: Seen<R>>(view: &mut V, p: Point) -> Result<bool, Fail> {
 
 /// Plays the points from the empty board on and takes them back. Tells whether the position that they lead to is won.
 fn replay<R: Rule>(rt: &(impl Abort + AllocGlobal), points: &[Point]) -> Result<bool, Fail> {
-    let Ok(position) = Position::<R>::from_board(Board::empty(rt.alloc(), 15, 15)?) else {
-        return Err(Fail::from("the position is not lawful"));
-    };
+    let position = lawful::<R>(Board::empty(rt.alloc(), 15, 15)?)?;
     let mut tables = LineTables::<R>::new(rt.alloc(), &position)?;
     let is_won = play_and_take_back::<R>(rt, &mut tables, points)?;
     assert!(rt; tables.board().same(position.board()));
     Ok(is_won)
 }
 
-/// The same over these tables, which are as before then.
+/// Replays the points under the rule whose turn it is.
+fn replay_in_turn(
+    rt: &(impl Abort + AllocGlobal),
+    turn: usize,
+    points: &[Point],
+) -> Result<bool, Fail> {
+    match turn % 3 {
+        0 => replay::<Freestyle>(rt, points),
+        1 => replay::<ExactFive>(rt, points),
+        _ => replay::<Renju>(rt, points),
+    }
+}
+
+/// Plays the points over these tables and takes them back, so that the tables are as before.
 fn play_and_take_back<R: Rule>(
     rt: &(impl Abort + AllocGlobal),
     tables: &mut LineTables<R>,
@@ -231,12 +280,7 @@ fn line_tables_follow_the_positions_of_a_drill(rt: HostRuntime) -> Result<(), Fa
     let mut wins: u32 = 0;
     for (i, replies) in REPLIES.as_bytes().iter().enumerate() {
         let points = draws.points(rt.alloc())?;
-        let is_won = match i % 3 {
-            0 => replay::<Freestyle>(&rt, points.as_slice())?,
-            1 => replay::<ExactFive>(&rt, points.as_slice())?,
-            _ => replay::<Renju>(&rt, points.as_slice())?,
-        };
-        if is_won {
+        if replay_in_turn(&rt, i, points.as_slice())? {
             wins = wins.saturating_add(1);
         }
         if *replies == b'1' {

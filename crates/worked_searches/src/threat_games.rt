@@ -1,4 +1,9 @@
 //! Searches on worked positions, and what the tree shows after them.
+
+ghost use Rattle.std.specs.Prelude.{◌≤◌};
+ghost use Rattle.proof_number.specs.declared.TheConstants.{MAX_DEPTH, MAX_BUDGET};
+
+use crate::boards::position_of;
 use foul_judge::Position;
 use proof_number::{ProofAnswer, proof_number};
 use proof_tree::{INFINITE, Numbers, ProofTree};
@@ -6,17 +11,7 @@ use row_shapes::{Freestyle, Renju, Rule};
 use std::alloc::Global;
 use std::process::Abort;
 use std::test::Fail;
-use stone_board::{Board, Point, Side};
 use strategy_compiler::Compiler;
-
-fn add(board: &mut Board, side: Side, stones: &[(u8, u8)]) {
-    for (x, y) in stones {
-        let p = Point { x: *x, y: *y };
-        if board.is_empty(p) {
-            board.put(p, side);
-        }
-    }
-}
 
 /// The four stones round a point that make a three on two axes: the three in the middle wins within three moves.
 const CROSS: [(u8, u8); 4] = [(7, 6), (6, 7), (8, 7), (7, 8)];
@@ -56,16 +51,15 @@ fn searched<R: Rule>(
     white: &[(u8, u8)],
     depth: u32,
     budget: u64,
-) -> Result<(u32, Numbers, u32), Fail> {
-    let mut board = Board::empty(alloc, 15, 15)?;
-    add(&mut board, Side::Black, black);
-    add(&mut board, Side::White, white);
-    let Ok(mut view) = Position::<R>::from_board(board) else {
-        return Err(Fail::from("unlawful"));
-    };
+) -> Result<(u32, Numbers, u32), Fail>
+    requires some_depth { 1 ≤ depth }
+    requires depth_fits { depth ≤ MAX_DEPTH }
+    requires some_budget { 1 ≤ budget }
+    requires budget_fits { budget ≤ MAX_BUDGET }
+{
+    let mut view = position_of::<R>(alloc, black, white)?;
     let mut tree = ProofTree::new(alloc)?;
     let mut compiler = Compiler::new(alloc);
-    assert!(rt; depth > 0 && depth < 10 && budget > 0 && budget < 100_000);
     let found = proof_number::<R, Position<R>>(
         alloc,
         &mut view,
@@ -73,12 +67,11 @@ fn searched<R: Rule>(
         budget,
         &mut tree,
         &mut compiler,
-    );
+    )?;
     let moves = match found {
-        Ok(ProofAnswer::Win(win)) => win.moves,
-        Ok(ProofAnswer::None) => 0,
-        Ok(ProofAnswer::Spent) => 100,
-        Err(_) => return Err(Fail::from("refused")),
+        ProofAnswer::Win(win) => win.moves,
+        ProofAnswer::None => 0,
+        ProofAnswer::Spent => 100,
     };
     let len = tree.len();
     assert!(rt; len > 0);

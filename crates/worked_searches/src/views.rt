@@ -5,9 +5,10 @@
 //! are worked ones and some that look random, under each rule.
 #![tactic(auto)]
 
+use crate::answers::{add_fours, add_replies, add_win};
+use crate::boards::{board_of, lawful};
 use defence_finder::{DefenceAnswer, defences};
 use foul_judge::{Position, Seen};
-use four_search::{FourAnswer, four_search};
 use line_proof::{LineAnswer, prove_line};
 use line_tables::{LineShapes, LineTables};
 use proof_number::{ProofAnswer, proof_number};
@@ -16,10 +17,9 @@ use row_shapes::{ExactFive, Freestyle, Renju, Rule};
 use std::alloc::{AllocError, Global};
 use std::process::Abort;
 use std::test::Fail;
-use stone_board::{Board, Point, Side};
+use stone_board::{Board, Point, Points, Side};
 use strategy_compiler::Compiler;
-use strategy_graph::{Rest, Table};
-use threat_moves::{fives, four_moves, three_moves};
+use threat_moves::{Threats, fives, four_moves, three_moves};
 use threat_space::{SpaceAnswer, threat_space};
 
 /// The stones of a position.
@@ -72,15 +72,6 @@ const WORKED: [Stones; 5] = [
     },
 ];
 
-fn put_all(board: &mut Board, side: Side, points: &[(u8, u8)]) {
-    for (x, y) in points {
-        let p = Point { x: *x, y: *y };
-        if board.is_empty(p) {
-            board.put(p, side);
-        }
-    }
-}
-
 /// A board of 9 with stones of both sides in turn, on points of a corner that look random.
 fn scattered(alloc: Global, seed: u32) -> Result<Board, AllocError> {
     let mut board = Board::empty(alloc, 9, 9)?;
@@ -100,34 +91,19 @@ fn scattered(alloc: Global, seed: u32) -> Result<Board, AllocError> {
     Ok(board)
 }
 
-fn add_points(text: &mut String, points: &[Point]) -> Result<(), Fail> {
+/// Adds points, as in ` 3,7 8,7;`.
+fn add_points(points: &[Point], text: &mut String) -> Result<(), AllocError> {
     for p in points {
         let x = p.x;
         let y = p.y;
         write!(text, " {x},{y}")?;
     }
-    text.push_str(";")?;
-    Ok(())
+    text.push_str(";")
 }
 
-fn add_table(text: &mut String, table: &Table, moves: u32) -> Result<(), Fail> {
-    write!(text, " {moves} moves")?;
-    for i in 0..table.len() {
-        let node = table.node(i);
-        add_points(text, &[node.attack])?;
-        match node.rest {
-            Rest::Wins => text.push_str(" wins")?,
-            Rest::To(j) => write!(text, " rest {j}")?,
-            Rest::Nothing => text.push_str(" only")?,
-        }
-        for reply in node.replies.as_slice() {
-            let x = reply.at.x;
-            let y = reply.at.y;
-            let j = reply.next;
-            write!(text, " {x},{y}>{j}")?;
-        }
-    }
-    Ok(())
+/// Adds a list of points, which is gone then.
+fn add_list(points: Points, text: &mut String) -> Result<(), AllocError> {
+    add_points(points.as_slice(), text)
 }
 
 /// The five points of both sides, the four moves and the three moves.
@@ -135,34 +111,29 @@ fn add_moves<R: Rule, V: Seen<R>>(
     alloc: Global,
     view: &mut V,
     text: &mut String,
-) -> Result<(), Fail> {
-    add_points(text, fives::<R, V>(alloc, view, Side::Black)?.as_slice())?;
-    add_points(text, fives::<R, V>(alloc, view, Side::White)?.as_slice())?;
-    add_points(text, four_moves::<R, V>(alloc, view)?.as_slice())?;
-    add_points(text, three_moves::<R, V>(alloc, view)?.as_slice())?;
-    Ok(())
+) -> Result<(), AllocError> {
+    add_list(fives::<R, V>(alloc, view, Side::Black)?, text)?;
+    add_list(fives::<R, V>(alloc, view, Side::White)?, text)?;
+    add_list(four_moves::<R, V>(alloc, view)?, text)?;
+    add_list(three_moves::<R, V>(alloc, view)?, text)
 }
 
-/// What a search of fours answers, with its table.
-fn add_fours<R: Rule, V: Seen<R>>(
+/// What the proof of a line answers, with its table.
+fn add_line<R: Rule, V: Seen<R>>(
     alloc: Global,
     view: &mut V,
+    line: &Threats,
     text: &mut String,
 ) -> Result<(), Fail> {
     let mut compiler = Compiler::new(alloc);
-    match four_search::<R, V>(alloc, view, 20, 300, &mut compiler)? {
-        FourAnswer::None => text.push_str(" no fours")?,
-        FourAnswer::Spent => text.push_str(" fours spent")?,
-        FourAnswer::Win(win) => {
-            let table = compiler.finish_win(win)?;
-            add_table(text, &table, win.moves)?;
-        }
+    match prove_line::<R, V>(alloc, view, line, 6, &mut compiler)? {
+        LineAnswer::Fails => Ok(text.push_str(" line fails")?),
+        LineAnswer::Proved(win) => add_win(compiler, win, text),
     }
-    Ok(())
 }
 
-/// What the proof of the first sequence of threats answers, if there is one, with its table.
-fn add_line<R: Rule, V: Seen<R>>(
+/// What the proof of the first sequence of threats answers, if there is one.
+fn add_sequence<R: Rule, V: Seen<R>>(
     alloc: Global,
     view: &mut V,
     text: &mut String,
@@ -170,20 +141,10 @@ fn add_line<R: Rule, V: Seen<R>>(
     let side = view.side();
     let mut board = view.board().copy()?;
     match threat_space::<R>(alloc, &mut board, side, 3, 100)? {
-        SpaceAnswer::None => text.push_str(" no sequence")?,
-        SpaceAnswer::Spent => text.push_str(" sequences spent")?,
-        SpaceAnswer::Sequence(line, _) => {
-            let mut compiler = Compiler::new(alloc);
-            match prove_line::<R, V>(alloc, view, &line, 6, &mut compiler)? {
-                LineAnswer::Fails => text.push_str(" line fails")?,
-                LineAnswer::Proved(win) => {
-                    let table = compiler.finish_win(win)?;
-                    add_table(text, &table, win.moves)?;
-                }
-            }
-        }
+        SpaceAnswer::None => Ok(text.push_str(" no sequence")?),
+        SpaceAnswer::Spent => Ok(text.push_str(" sequences spent")?),
+        SpaceAnswer::Sequence(line, _) => add_line::<R, V>(alloc, view, &line, text),
     }
-    Ok(())
 }
 
 /// What the search of the game of threats answers, with its table.
@@ -195,14 +156,10 @@ fn add_proof<R: Rule, V: Seen<R>>(
     let mut compiler = Compiler::new(alloc);
     let mut tree = ProofTree::new(alloc)?;
     match proof_number::<R, V>(alloc, view, 4, 30, &mut tree, &mut compiler)? {
-        ProofAnswer::None => text.push_str(" no threats")?,
-        ProofAnswer::Spent => text.push_str(" threats spent")?,
-        ProofAnswer::Win(win) => {
-            let table = compiler.finish_win(win)?;
-            add_table(text, &table, win.moves)?;
-        }
+        ProofAnswer::None => Ok(text.push_str(" no threats")?),
+        ProofAnswer::Spent => Ok(text.push_str(" threats spent")?),
+        ProofAnswer::Win(win) => add_win(compiler, win, text),
     }
-    Ok(())
 }
 
 /// Which moves hold against continuous fours, and the nodes that win after the others.
@@ -213,29 +170,34 @@ fn add_defences<R: Rule, V: Seen<R>>(
 ) -> Result<(), Fail> {
     let mut compiler = Compiler::new(alloc);
     match defences::<R, V>(alloc, view, 6, 300, &mut compiler)? {
-        DefenceAnswer::Spent { at } => add_points(text, &[at])?,
+        DefenceAnswer::Spent { at } => Ok(add_points(&[at], text)?),
         DefenceAnswer::Known { good, bad } => {
-            add_points(text, good.as_slice())?;
-            for reply in bad.as_slice() {
-                let x = reply.at.x;
-                let y = reply.at.y;
-                let j = reply.next;
-                write!(text, " {x},{y}>{j}")?;
-            }
+            add_list(good, text)?;
+            Ok(add_replies(bad.as_slice(), text)?)
         }
     }
-    Ok(())
 }
 
 /// What the view tells by each of these.
 fn told<R: Rule, V: Seen<R>>(alloc: Global, view: &mut V) -> Result<String, Fail> {
     let mut text = String::new(alloc);
     add_moves::<R, V>(alloc, view, &mut text)?;
-    add_fours::<R, V>(alloc, view, &mut text)?;
-    add_line::<R, V>(alloc, view, &mut text)?;
+    add_fours::<R, V>(alloc, view, 20, 300, &mut text)?;
+    add_sequence::<R, V>(alloc, view, &mut text)?;
     add_proof::<R, V>(alloc, view, &mut text)?;
     add_defences::<R, V>(alloc, view, &mut text)?;
     Ok(text)
+}
+
+/// What line tables of a position tell. The shapes come back, for the next position.
+fn told_by_tables<R: Rule>(
+    alloc: Global,
+    shapes: LineShapes<R>,
+    position: &Position<R>,
+) -> Result<(String, LineShapes<R>), Fail> {
+    let mut tables = LineTables::<R>::with_shapes(alloc, shapes, position)?;
+    let text = told::<R, LineTables<R>>(alloc, &mut tables)?;
+    Ok((text, tables.into_shapes()))
 }
 
 /// Compares what both views of a board tell. The shapes come back, for the next board.
@@ -244,24 +206,17 @@ fn told_alike<R: Rule>(
     shapes: LineShapes<R>,
     board: Board,
 ) -> Result<LineShapes<R>, Fail> {
-    match Position::<R>::from_board(board) {
-        Err(_) => panic!(rt; "no lawful position"),
-        Ok(mut position) => {
-            let mut tables = LineTables::<R>::with_shapes(rt.alloc(), shapes, &position)?;
-            let by_tables = told::<R, LineTables<R>>(rt.alloc(), &mut tables)?;
-            let by_position = told::<R, Position<R>>(rt.alloc(), &mut position)?;
-            assert_eq!(rt; by_tables.as_str(), by_position.as_str());
-            Ok(tables.into_shapes())
-        }
-    }
+    let mut position = lawful::<R>(board)?;
+    let (by_tables, shapes) = told_by_tables::<R>(rt.alloc(), shapes, &position)?;
+    let by_position = told::<R, Position<R>>(rt.alloc(), &mut position)?;
+    assert_eq!(rt; by_tables.as_str(), by_position.as_str());
+    Ok(shapes)
 }
 
 fn all_alike<R: Rule>(rt: &(impl Abort + AllocGlobal)) -> Result<(), Fail> {
     let mut shapes = LineShapes::<R>::new(rt.alloc())?;
     for stones in &WORKED {
-        let mut board = Board::empty(rt.alloc(), 15, 15)?;
-        put_all(&mut board, Side::Black, stones.black);
-        put_all(&mut board, Side::White, stones.white);
+        let board = board_of(rt.alloc(), stones.black, stones.white)?;
         shapes = told_alike::<R>(rt, shapes, board)?;
     }
     for seed in 0..10 {
