@@ -1,13 +1,15 @@
 //! Texts of books that were worked out by hand, and what is said of them.
+ghost use Rattle.std.specs.Prelude.{◌≤◌};
 
+use crate::TWO_ENTRIES;
 use foul_judge::PositionError;
 use position_files::read_table;
 use std::alloc::Global;
 use std::process::Abort;
 use std::test::Fail;
 use table_book::{
-    Binder, Book, BookError, HoldError, MAX_ENTRIES, books_read_back, check_book, hold_book,
-    is_book, read_book, write_book,
+    Binder, BookError, HoldError, MAX_BOOK_WORK, MAX_ENTRIES, books_read_back, check_book,
+    hold_book, is_book, read_book, write_book,
 };
 
 /// The first lines of the book: three nodes, the first two of which win at once.
@@ -28,181 +30,153 @@ fn joined(alloc: Global, texts: &[&str]) -> Result<Vec<u8>, Fail> {
     Ok(bytes)
 }
 
-/// The book of both.
-fn two_entries(alloc: Global) -> Result<Vec<u8>, Fail> {
-    joined(
-        alloc,
-        &[
-            NODES,
-            "entries 2\n",
-            THREE,
-            "moves 2\nroot 2\n",
-            FOUR,
-            "moves 1\nstart rest 1 8,7>0\n",
-        ],
-    )
-}
-
-/// Asserts that the bytes are refused so.
-fn refuses(rt: &impl Abort, alloc: Global, bytes: &[u8], error: BookError) {
-    match read_book(alloc, bytes) {
-        Ok(_) => assert!(rt; false),
-        Err(told) => assert!(rt; told == error),
+/// How many nodes and entries the book has, whether it has no entries, and the moves of its second.
+fn figures(alloc: Global, bytes: &[u8]) -> Result<(u32, usize, bool, u32), Fail> {
+    let book = read_book(alloc, bytes)?;
+    let entries = &book.entries;
+    if entries.len() < 2 {
+        return Err(Fail::from("no second entry"));
     }
+    let moves = entries.at(1).moves;
+    Ok((book.table.len(), entries.len(), entries.is_empty(), moves))
 }
 
 #[test]
-fn a_book_is_read_and_written_back(rt: HostRuntime) -> Result<(), Fail> {
-    let alloc = rt.alloc();
-    let bytes = two_entries(alloc)?;
-    assert!(rt; is_book(bytes.as_slice()));
-    let book = read_book(alloc, bytes.as_slice())?;
-    assert_eq!(rt; book.table.len(), 3);
-    assert_eq!(rt; book.entries.len(), 2);
-    assert!(rt; !book.entries.is_empty());
-    assert_eq!(rt; book.entries.at(1).moves, 1);
-    let written = write_book(alloc, &book)?;
-    assert!(rt; written.as_slice() == bytes.as_slice());
+fn a_book_is_read(rt: HostRuntime) -> Result<(), Fail> {
+    let bytes = TWO_ENTRIES.as_bytes();
+    assert!(rt; is_book(bytes));
+    assert_eq!(rt; figures(rt.alloc(), bytes)?, (3, 2, false, 1));
+    Ok(())
+}
+
+/// The text of the book that is read. It promises nothing, which keeps the tests quick to prove.
+fn written_again(alloc: Global, bytes: &[u8]) -> Result<Vec<u8>, Fail> {
+    let book = read_book(alloc, bytes)?;
+    Ok(write_book(alloc, &book)?)
+}
+
+#[test]
+fn a_book_is_written_back(rt: HostRuntime) -> Result<(), Fail> {
+    let bytes = TWO_ENTRIES.as_bytes();
+    let written = written_again(rt.alloc(), bytes)?;
+    assert!(rt; written.as_slice() == bytes);
     books_read_back();
     Ok(())
 }
 
+/// Why the book of these texts is refused, if it is. It promises nothing either.
+fn refusal(alloc: Global, texts: &[&str]) -> Result<Option<BookError>, Fail> {
+    let bytes = joined(alloc, texts)?;
+    Ok(read_book(alloc, bytes.as_slice()).err())
+}
+
+/// Texts of which no book is made, and the number of the first bad line.
+const BAD_LINES: [(&[&str], u32); 14] = [
+    (&["renju-table 1\n"], 1),
+    (&["renju-book 1\nnodes 1000001\n"], 2),
+    (&["renju-book 1\nnodes 1\n3,7 rest 0\n"], 3),
+    (&["renju-book 1\nnodes 1\n32,7 wins\n"], 3),
+    (&["renju-book 1\nnodes 0\nentries 0\n"], 3),
+    (&["renju-book 1\nnodes 0\nentries 1001\n"], 3),
+    (&[NODES, "entries 2\n"], 7),
+    (&[NODES, "entries 2\nrule go\n"], 7),
+    (&[NODES, "entries 1\nrule exact\nsize 4\n"], 8),
+    (&[NODES, "entries 1\n", THREE, "moves 02\n"], 11),
+    (&[NODES, "entries 1\n", THREE, "moves 2\nroot 3\n"], 12),
+    (&[NODES, "entries 1\n", THREE, "moves 2\nroot 2"], 12),
+    (&[NODES, "entries 1\n", THREE, "moves 2\nroot 2\n\n"], 13),
+    (&[NODES, NO_STONES, FOUR, "moves 1\nstart rest 3\n"], 18),
+];
+
+/// The first of two entries: the empty board.
+const NO_STONES: &str = "entries 2\nrule freestyle\nsize 15\nblack\nwhite\nmoves 0\nroot 0\n";
+
 #[test]
 fn a_bad_line_is_named_by_its_number_in_the_book(rt: HostRuntime) -> Result<(), Fail> {
-    let alloc = rt.alloc();
-    refuses(&rt, alloc, b"renju-table 1\n", BookError::BadLine(1));
+    for (texts, line) in BAD_LINES {
+        assert_eq!(rt;
+            refusal(rt.alloc(), texts)?,
+            Some(BookError::BadLine(line)),
+            "{texts:?}"
+        );
+    }
     assert!(rt; !is_book(b"renju-table 1\n"));
-    refuses(
-        &rt,
-        alloc,
-        b"renju-book 1\nnodes 1000001\n",
-        BookError::BadLine(2),
-    );
-    refuses(
-        &rt,
-        alloc,
-        b"renju-book 1\nnodes 1\n3,7 rest 0\n",
-        BookError::BadLine(3),
-    );
-    refuses(
-        &rt,
-        alloc,
-        b"renju-book 1\nnodes 1\n32,7 wins\n",
-        BookError::BadLine(3),
-    );
-    refuses(
-        &rt,
-        alloc,
-        b"renju-book 1\nnodes 0\nentries 0\n",
-        BookError::BadLine(3),
-    );
-    refuses(
-        &rt,
-        alloc,
-        b"renju-book 1\nnodes 0\nentries 1001\n",
-        BookError::BadLine(3),
-    );
-    for (tail, line) in [
-        ("entries 2\n", 7),
-        ("entries 2\nrule go\n", 7),
-        ("entries 1\nrule exact\nsize 4\n", 8),
-    ] {
-        let bytes = joined(alloc, &[NODES, tail])?;
-        refuses(&rt, alloc, bytes.as_slice(), BookError::BadLine(line));
-    }
-    for (tail, line) in [
-        ("moves 02\n", 11),
-        ("moves 2\nroot 3\n", 12),
-        ("moves 2\nroot 2", 12),
-        ("moves 2\nroot 2\n\n", 13),
-    ] {
-        let bytes = joined(alloc, &[NODES, "entries 1\n", THREE, tail])?;
-        refuses(&rt, alloc, bytes.as_slice(), BookError::BadLine(line));
-    }
-    let start = "entries 2\nrule freestyle\nsize 15\nblack\nwhite\nmoves 0\nroot 0\n";
-    let bytes = joined(alloc, &[NODES, start, FOUR, "moves 1\nstart rest 3\n"])?;
-    refuses(&rt, alloc, bytes.as_slice(), BookError::BadLine(18));
     Ok(())
 }
+
+/// An entry whose position is not lawful, and whose moves are wrong.
+const UNEVEN: &str = "rule exact\nsize 15\nblack 0,0 1,0\nwhite\nmoves 9\nroot 0\n";
 
 #[test]
 fn the_earliest_entry_that_is_not_sound_is_named(rt: HostRuntime) -> Result<(), Fail> {
     let alloc = rt.alloc();
-    let uneven = "rule exact\nsize 15\nblack 0,0 1,0\nwhite\nmoves 9\nroot 0\n";
     let cause = PositionError::Uneven { black: 2, white: 0 };
-    let first = joined(
-        alloc,
-        &[NODES, "entries 2\n", uneven, THREE, "moves 1\nroot 2\n"],
-    )?;
-    refuses(
-        &rt,
-        alloc,
-        first.as_slice(),
-        BookError::Unlawful { entry: 1, cause },
-    );
-    let second = joined(
-        alloc,
-        &[NODES, "entries 2\n", THREE, "moves 1\nroot 2\n", uneven],
-    )?;
-    let wrong = BookError::WrongMoves {
+    let first = [NODES, "entries 2\n", UNEVEN, THREE, "moves 1\nroot 2\n"];
+    let unlawful = Some(BookError::Unlawful { entry: 1, cause });
+    assert_eq!(rt; refusal(alloc, &first)?, unlawful);
+    let second = [NODES, "entries 2\n", THREE, "moves 1\nroot 2\n", UNEVEN];
+    let wrong = Some(BookError::WrongMoves {
         entry: 1,
         written: 1,
         counted: 2,
-    };
-    refuses(&rt, alloc, second.as_slice(), wrong);
-    let third = joined(
-        alloc,
-        &[NODES, "entries 2\n", THREE, "moves 2\nroot 2\n", uneven],
-    )?;
-    refuses(
-        &rt,
-        alloc,
-        third.as_slice(),
-        BookError::Unlawful { entry: 2, cause },
-    );
+    });
+    assert_eq!(rt; refusal(alloc, &second)?, wrong);
+    let third = [NODES, "entries 2\n", THREE, "moves 2\nroot 2\n", UNEVEN];
+    let unlawful = Some(BookError::Unlawful { entry: 2, cause });
+    assert_eq!(rt; refusal(alloc, &third)?, unlawful);
     Ok(())
+}
+
+/// The arrivals of all entries of the book, or why one is not accepted with so much work. It promises nothing either.
+fn checked(alloc: Global, bytes: &[u8], work: u64) -> Result<Result<u64, HoldError>, Fail>
+    requires work_fits { work ≤ MAX_BOOK_WORK }
+{
+    let book = read_book(alloc, bytes)?;
+    Ok(check_book(alloc, &book, work))
+}
+
+/// How many roots of the book are held, or why one is not accepted with so much work. It promises nothing either.
+fn held(alloc: Global, bytes: &[u8], work: u64) -> Result<Result<u32, HoldError>, Fail> {
+    let book = read_book(alloc, bytes)?;
+    match hold_book(alloc, book, work) {
+        Ok(held) => Ok(Ok(held.len())),
+        Err(error) => Ok(Err(error)),
+    }
 }
 
 #[test]
 fn each_entry_is_checked_with_the_work(rt: HostRuntime) -> Result<(), Fail> {
     let alloc = rt.alloc();
-    let bytes = two_entries(alloc)?;
-    let book = read_book(alloc, bytes.as_slice())?;
-    assert_eq!(rt; check_book(alloc, &book, 219).ok(), Some(438));
-    assert!(rt;
-        matches!(
-            check_book(alloc, &book, 218),
-            Err(HoldError::Spent { entry: 1 })
-        )
-    );
-    let held = hold_book(alloc, book, 219).ok().ok_or("held")?;
-    assert_eq!(rt; held.len(), 2);
-    Ok(())
-}
-
-#[test]
-fn an_entry_that_is_not_accepted_is_named(rt: HostRuntime) -> Result<(), Fail> {
-    let alloc = rt.alloc();
-    let bytes = joined(
-        alloc,
-        &[
-            NODES,
-            "entries 2\n",
-            THREE,
-            "moves 2\nroot 2\n",
-            FOUR,
-            "moves 1\nstart rest 0\n",
-        ],
-    )?;
-    let book = read_book(alloc, bytes.as_slice())?;
-    assert!(rt; refuses_second(check_book(alloc, &book, 219).err()));
-    assert!(rt; refuses_second(hold_book(alloc, book, 219).err()));
+    let bytes = TWO_ENTRIES.as_bytes();
+    assert_eq!(rt; checked(alloc, bytes, 219)?.ok(), Some(438));
+    let spent = checked(alloc, bytes, 218)?;
+    assert!(rt; matches!(spent, Err(HoldError::Spent { entry: 1 })));
+    assert_eq!(rt; held(alloc, bytes, 219)?.ok(), Some(2));
     Ok(())
 }
 
 /// Whether it is entry 2 that is refused.
 fn refuses_second(error: Option<HoldError>) -> bool {
     matches!(error, Some(HoldError::Refused { entry: 2, .. }))
+}
+
+/// A book whose second entry answers each first move alike.
+const ONE_ANSWER: &[&str] = &[
+    NODES,
+    "entries 2\n",
+    THREE,
+    "moves 2\nroot 2\n",
+    FOUR,
+    "moves 1\nstart rest 0\n",
+];
+
+#[test]
+fn an_entry_that_is_not_accepted_is_named(rt: HostRuntime) -> Result<(), Fail> {
+    let alloc = rt.alloc();
+    let bytes = joined(alloc, ONE_ANSWER)?;
+    assert!(rt; refuses_second(checked(alloc, bytes.as_slice(), 219)?.err()));
+    assert!(rt; refuses_second(held(alloc, bytes.as_slice(), 219)?.err()));
+    Ok(())
 }
 
 /// Adds the table of the text to those that are bound.
@@ -216,49 +190,47 @@ fn bind(rt: &impl Abort, alloc: Global, binder: &mut Binder, texts: &[&str]) -> 
 }
 
 /// The text of the book of what is bound.
-fn bound(rt: &impl Abort, alloc: Global, binder: Binder) -> Result<Vec<u8>, Fail> {
+fn finished(rt: &impl Abort, alloc: Global, binder: Binder) -> Result<Vec<u8>, Fail> {
     let len = binder.len();
     assert!(rt; 0 < len);
     let book = binder.finish()?;
     Ok(write_book(alloc, &book)?)
 }
 
+/// The text of the book of these tables.
+fn bound(rt: &impl Abort, alloc: Global, tables: &[&[&str]]) -> Result<Vec<u8>, Fail> {
+    let mut binder = Binder::new(alloc);
+    for texts in tables {
+        bind(rt, alloc, &mut binder, texts)?;
+    }
+    finished(rt, alloc, binder)
+}
+
 /// The table of the first entry.
-const THREE_NODES: &str = "moves 2\nnodes 3\n3,7 wins\n8,7 wins\n4,7 rest 0 3,7>1\n";
+const THREE_TABLE: &[&str] = &[
+    "renju-table 1\n",
+    THREE,
+    "moves 2\nnodes 3\n3,7 wins\n8,7 wins\n4,7 rest 0 3,7>1\n",
+];
+
+/// That of the second. Its nodes are two of the first, in the other order.
+const FOUR_TABLE: &[&str] = &[
+    "renju-table 2\n",
+    FOUR,
+    "moves 1\nnodes 2\n8,7 wins\n3,7 wins\nstart rest 0 8,7>1\n",
+];
 
 #[test]
 fn files_are_bound_with_their_nodes_shared(rt: HostRuntime) -> Result<(), Fail> {
-    let alloc = rt.alloc();
-    let mut binder = Binder::new(alloc);
-    bind(
-        &rt,
-        alloc,
-        &mut binder,
-        &["renju-table 1\n", THREE, THREE_NODES],
-    )?;
-
-    // The nodes of the second are two of the first, in the other order.
-    let two = "moves 1\nnodes 2\n8,7 wins\n3,7 wins\nstart rest 0 8,7>1\n";
-    bind(&rt, alloc, &mut binder, &["renju-table 2\n", FOUR, two])?;
-    let written = bound(&rt, alloc, binder)?;
-    let expected = two_entries(alloc)?;
-    assert!(rt; written.as_slice() == expected.as_slice());
+    let written = bound(&rt, rt.alloc(), &[THREE_TABLE, FOUR_TABLE])?;
+    assert!(rt; written.as_slice() == TWO_ENTRIES.as_bytes());
     Ok(())
 }
 
 #[test]
 fn a_file_that_is_bound_twice_is_two_entries(rt: HostRuntime) -> Result<(), Fail> {
     let alloc = rt.alloc();
-    let mut binder = Binder::new(alloc);
-    for _ in 0..2 {
-        bind(
-            &rt,
-            alloc,
-            &mut binder,
-            &["renju-table 1\n", THREE, THREE_NODES],
-        )?;
-    }
-    let written = bound(&rt, alloc, binder)?;
+    let written = bound(&rt, alloc, &[THREE_TABLE, THREE_TABLE])?;
     let entry = "moves 2\nroot 2\n";
     let expected = joined(alloc, &[NODES, "entries 2\n", THREE, entry, THREE, entry])?;
     assert!(rt; written.as_slice() == expected.as_slice());

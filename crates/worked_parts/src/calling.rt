@@ -21,6 +21,9 @@ ghost use Rattle.game_referee.specs.declared.GameVerdict.TheVariants.{Won};
 
 #[cfg(test)]
 use crate::TWO_ENTRIES;
+// The boards and positions that the tests begin with.
+#[cfg(test)]
+use crate::positions::{board_with, position_of, position_with};
 use board_symmetry::{Symmetry, image_board, images_keep_wins};
 use defence_finder::{DefenceAnswer, defences, no_defence_loses};
 use foul_judge::{Position, foul_at};
@@ -58,12 +61,7 @@ fn may_play(board: &mut Board, p: Point) -> bool
 
 #[test]
 fn one_four_is_allowed_and_two_are_not(rt: HostRuntime) -> Result<(), Fail> {
-    let mut board = Board::empty(rt.alloc(), 15, 15)?;
-    for x in [2, 4, 6, 8] {
-        let p = Point { x, y: 7 };
-        assert!(rt; board.is_empty(p));
-        board.put(p, Side::Black);
-    }
+    let mut board = board_with(rt.alloc(), &[(2, 7), (4, 7), (6, 7), (8, 7)], &[])?;
     for (x, is_allowed) in [(3, true), (5, false)] {
         let p = Point { x, y: 7 };
         assert!(rt; board.is_empty(p));
@@ -141,12 +139,7 @@ fn has_sequence(
 
 #[test]
 fn white_has_a_double_three(rt: HostRuntime) -> Result<(), Fail> {
-    let mut board = Board::empty(rt.alloc(), 15, 15)?;
-    for (x, y) in [(7, 6), (6, 7), (8, 7), (7, 8)] {
-        let p = Point { x, y };
-        assert!(rt; board.is_empty(p));
-        board.put(p, Side::White);
-    }
+    let mut board = board_with(rt.alloc(), &[], &[(7, 6), (6, 7), (8, 7), (7, 8)])?;
     for (side, lists, told) in [
         (Side::White, 12, Some(true)),
         (Side::White, 11, None),
@@ -192,10 +185,7 @@ fn moves_by_threats<R: Rule>(
 fn two_threes_win_in_three_moves(rt: HostRuntime) -> Result<(), Fail> {
     let text =
         b"renju-position 1\nrule freestyle\nsize 15\nblack 7,6 6,7 8,7 7,8\nwhite 0,0 14,0 0,14 14,14\n";
-    let file = read_position(rt.alloc(), text)?;
-    let Ok(mut position) = Position::<Freestyle>::from_board(file.board) else {
-        return Err(Fail::from("the position is not lawful"));
-    };
+    let mut position = position_of::<Freestyle>(rt.alloc(), text)?;
     for (depth, moves) in [(3, Some(3)), (2, None)] {
         assert_eq!(rt;
             moves_by_threats(rt.alloc(), &mut position, depth, 50_000)?,
@@ -279,10 +269,7 @@ fn moves_that_hold<R: Rule>(
 fn an_open_three_leaves_four_moves(rt: HostRuntime) -> Result<(), Fail> {
     let text =
         b"renju-position 1\nrule freestyle\nsize 15\nblack 5,7 6,7 7,7 14,14\nwhite 0,0 2,0 4,0\n";
-    let file = read_position(rt.alloc(), text)?;
-    let Ok(mut position) = Position::<Freestyle>::from_board(file.board) else {
-        return Err(Fail::from("the position is not lawful"));
-    };
+    let mut position = position_of::<Freestyle>(rt.alloc(), text)?;
     for (budget, moves) in [(4, Some(4)), (3, None)] {
         let found = moves_that_hold(rt.alloc(), &mut position, 2, budget)?;
         assert_eq!(rt; found.map(|moves| moves.len()), moves);
@@ -327,19 +314,22 @@ fn won_at<R: Rule>(position: &mut Position<R>, side: Side, moves: &[Point]) -> O
 
 #[test]
 fn a_row_of_five_wins_a_game(rt: HostRuntime) -> Result<(), Fail> {
-    let board = Board::empty(rt.alloc(), 15, 15)?;
-    let Ok(mut position) = Position::<Renju>::from_board(board) else {
-        return Err(Fail::from("the position is not lawful"));
-    };
-    let mut moves = Points::new(rt.alloc());
-    for (own, other) in [(3, 0), (4, 2), (5, 4), (6, 6)] {
-        moves.push(Point { x: own, y: 7 })?;
-        moves.push(Point { x: other, y: 0 })?;
-    }
-    assert_eq!(rt; won_at(&mut position, Side::Black, moves.as_slice()), None);
-    moves.push(Point { x: 7, y: 7 })?;
+    let mut position = position_with::<Renju>(rt.alloc(), &[], &[])?;
+    let moves = [
+        (3, 7),
+        (0, 0),
+        (4, 7),
+        (2, 0),
+        (5, 7),
+        (4, 0),
+        (6, 7),
+        (6, 0),
+        (7, 7),
+    ]
+    .map(|(x, y)| Point { x, y });
+    assert_eq!(rt; won_at(&mut position, Side::Black, &moves[..8]), None);
     for (side, number) in [(Side::Black, Some(9)), (Side::White, None)] {
-        assert_eq!(rt; won_at(&mut position, side, moves.as_slice()), number);
+        assert_eq!(rt; won_at(&mut position, side, &moves), number);
     }
     Ok(())
 }

@@ -3,10 +3,12 @@
 use foul_judge::PositionError;
 use game_rules::{Point, RuleKind, Side};
 use position_files::{
-    FileError, GameError, HeadError, read_game, read_head, read_nodes, read_position, read_start,
-    read_table, write_position, write_table,
+    FileError, GameError, GameFile, HeadError, PositionFile, read_game, read_head, read_nodes,
+    read_position, read_start, read_table, write_position, write_table,
 };
+use std::alloc::Global;
 use std::test::Fail;
+use stone_board::Board;
 use strategy_graph::Root;
 
 const POSITION: &[u8] = b"renju-position 1\nrule renju\nsize 9,5\nblack 0,2 1,2\nwhite 0,0\n";
@@ -20,39 +22,65 @@ const START: &[u8] =
 const GAME: &[u8] =
     b"renju-game 1\nrule exact\nsize 9,5\nblack 0,2 1,2\nwhite 0,0\nmoves 8,4 0,2 8,4\n";
 
+/// The position of the text. Like the next two it promises nothing, which keeps the tests quick to prove.
+fn position_in(alloc: Global, text: &[u8]) -> Result<PositionFile, FileError> {
+    read_position(alloc, text)
+}
+
+/// The game of the text.
+fn game_in(alloc: Global, text: &[u8]) -> Result<GameFile, GameError> {
+    read_game(alloc, text)
+}
+
+/// The moves and the number of nodes of the table of the text, and the root if it is a node.
+fn figures(alloc: Global, text: &[u8]) -> Result<(u32, u32, Option<u32>), FileError> {
+    let file = read_table(alloc, text)?;
+    let root = match &file.root {
+        Root::Attack(node) => Some(*node),
+        Root::Defend(_) => None,
+    };
+    Ok((file.moves, file.table.len(), root))
+}
+
+/// The width and the height of the board.
+fn size(board: &Board) -> (u8, u8) {
+    (board.width(), board.height())
+}
+
+/// How many stones there are of each side, black first.
+fn counts(board: &Board) -> (u32, u32) {
+    (board.count(Side::Black), board.count(Side::White))
+}
+
 #[test]
 fn reads_a_position(rt: HostRuntime) -> Result<(), Fail> {
-    let file = read_position(rt.alloc(), POSITION)?;
-    assert_eq!(rt; file.kind, RuleKind::Renju);
-    assert_eq!(rt; (file.board.width(), file.board.height()), (9, 5));
-    assert_eq!(rt;
-        (file.board.count(Side::Black), file.board.count(Side::White)),
-        (2, 1)
-    );
+    let file = position_in(rt.alloc(), POSITION)?;
+    assert_eq!(rt; (file.kind, size(&file.board)), (RuleKind::Renju, (9, 5)));
+    assert_eq!(rt; counts(&file.board), (2, 1));
     assert!(rt; file.board.holds(Side::Black, Point { x: 1, y: 2 }));
     Ok(())
 }
 
 #[test]
 fn reads_a_game_whatever_its_moves(rt: HostRuntime) -> Result<(), Fail> {
-    let file = read_game(rt.alloc(), GAME)?;
-    assert_eq!(rt; file.kind, RuleKind::Exact);
-    assert_eq!(rt; (file.board.width(), file.board.height()), (9, 5));
+    let file = game_in(rt.alloc(), GAME)?;
+    assert_eq!(rt; (file.kind, size(&file.board)), (RuleKind::Exact, (9, 5)));
     let points = [(8, 4), (0, 2), (8, 4)].map(|(x, y)| Point { x, y });
     assert_eq!(rt; file.moves.as_slice(), points.as_slice());
+    Ok(())
+}
+
+#[test]
+fn reads_a_game_without_moves(rt: HostRuntime) -> Result<(), Fail> {
     let none = b"renju-game 1\nrule renju\nsize 15\nblack\nwhite\nmoves\n";
-    assert_eq!(rt; read_game(rt.alloc(), none)?.moves.len(), 0);
+    assert_eq!(rt; game_in(rt.alloc(), none)?.moves.len(), 0);
     Ok(())
 }
 
 #[test]
 fn reads_tables_of_both_versions(rt: HostRuntime) -> Result<(), Fail> {
-    let attack = read_table(rt.alloc(), TABLE)?;
-    assert_eq!(rt; (attack.moves, attack.table.len()), (2, 2));
-    assert!(rt; matches!(&attack.root, Root::Attack(1)));
-    let defend = read_table(rt.alloc(), START)?;
-    assert_eq!(rt; (defend.moves, defend.table.len()), (1, 2));
-    assert!(rt; matches!(&defend.root, Root::Defend(_)));
+    assert_eq!(rt; figures(rt.alloc(), TABLE)?, (2, 2, Some(1)));
+    assert_eq!(rt; figures(rt.alloc(), START)?, (1, 2, None));
     Ok(())
 }
 
@@ -64,19 +92,23 @@ fn writes_back_a_position(rt: HostRuntime) -> Result<(), Fail> {
     Ok(())
 }
 
+/// The text of the table that is read. It promises nothing, which keeps the test quick to prove.
+fn table_again(alloc: Global, text: &[u8]) -> Result<Vec<u8>, Fail> {
+    let file = read_table(alloc, text)?;
+    Ok(write_table(
+        alloc,
+        file.kind,
+        &file.board,
+        &file.table,
+        &file.root,
+        file.moves,
+    )?)
+}
+
 #[test]
 fn writes_back_tables_of_both_versions(rt: HostRuntime) -> Result<(), Fail> {
     for text in [TABLE, START] {
-        let file = read_table(rt.alloc(), text)?;
-        let bytes = write_table(
-            rt.alloc(),
-            file.kind,
-            &file.board,
-            &file.table,
-            &file.root,
-            file.moves,
-        )?;
-        assert_eq!(rt; bytes.as_slice(), text);
+        assert_eq!(rt; table_again(rt.alloc(), text)?.as_slice(), text);
     }
     Ok(())
 }
@@ -155,26 +187,30 @@ fn names_what_is_refused_of_a_game(rt: HostRuntime) {
 }
 
 #[test]
-fn reads_sections_at_the_front(rt: HostRuntime) -> Result<(), Fail> {
+fn reads_a_head_at_the_front(rt: HostRuntime) -> Result<(), Fail> {
     let text = b"rule exact\nsize 9,5\nblack 0,2\nwhite 0,0\nmoves 0,1\n";
     let head = read_head(rt.alloc(), text)?;
-    assert_eq!(rt;
-        (head.kind, head.board.width(), head.board.height()),
-        (RuleKind::Exact, 9, 5)
-    );
-    assert_eq!(rt; head.taken, 40);
-    let nodes = read_nodes(
-        rt.alloc(),
-        b"8,7 wins\n3,7 rest 0 8,7>0\nentries 1\n",
-        2,
-        15,
-        15,
-    )?;
+    assert_eq!(rt; (head.kind, head.taken), (RuleKind::Exact, 40));
+    assert_eq!(rt; size(&head.board), (9, 5));
+    Ok(())
+}
+
+#[test]
+fn reads_nodes_at_the_front(rt: HostRuntime) -> Result<(), Fail> {
+    let text = b"8,7 wins\n3,7 rest 0 8,7>0\nentries 1\n";
+    let nodes = read_nodes(rt.alloc(), text, 2, 15, 15)?;
     assert_eq!(rt; (nodes.table.len(), nodes.taken), (2, 26));
-    let line = read_start(rt.alloc(), b"start rest 1 8,7>0\nrule exact\n", 2, 15, 15)?;
+    Ok(())
+}
+
+#[test]
+fn reads_a_start_at_the_front(rt: HostRuntime) -> Result<(), Fail> {
+    let text = b"start rest 1 8,7>0\nrule exact\n";
+    let line = read_start(rt.alloc(), text, 2, 15, 15)?;
     assert_eq!(rt; line.taken, 19);
-    assert_eq!(rt; line.start.lookup(Point { x: 8, y: 7 }), Some(0));
-    assert_eq!(rt; line.start.lookup(Point { x: 0, y: 0 }), Some(1));
+    for (x, y, node) in [(8, 7, 0), (0, 0, 1)] {
+        assert_eq!(rt; line.start.lookup(Point { x, y }), Some(node));
+    }
     Ok(())
 }
 

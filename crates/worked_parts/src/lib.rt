@@ -18,6 +18,8 @@ mod compilers;
 #[cfg(test)]
 mod files;
 #[cfg(test)]
+mod positions;
+#[cfg(test)]
 mod sessions;
 
 /// A book of two entries that share two nodes: a win in two moves, and one that begins with the opponent's move.
