@@ -23,7 +23,7 @@ use Rattle.game_rules.proofs.Lines.{along-then, along-same, along-zero, along-st
 use Rattle.game_rules.proofs.Positions.{is_at_or_not, IsBoard-lift, put-lift, lift-empty}
 use Rattle.game_rules.proofs.Points.{is_same_point-itself, is_at-Some}
 use Rattle.game_rules.proofs.Rows.{any_found, any_none}
-use Rattle.stone_board.specs.Walks.{goes_on, stride, place_after, steps_left}
+use Rattle.stone_board.specs.Walks.{steps_forward, stride, place_after, steps_left}
 use Rattle.stone_board.proofs.Strides.{on_left, Walked, Walked-place, Walked-back, StepOn, step_on, place_walk, walked_to, left_by}
 use Rattle.row_shapes.specs.LineCodes.{digit_at, from_digits, places_beside, line_code}
 use Rattle.row_shapes.specs.Rule.{reach_of}
@@ -413,7 +413,7 @@ weight_at w r digit (suc (suc (suc (suc zero)))) low = refl
 weight_at w r digit (suc (suc (suc (suc (suc k))))) low = absurd (omega arith)
 
 module _ (b : Grid) (p : Point) (ok : IsBoard b) (on : is_on b p ≡ true) (w : Way) (d : Axis) (r : Bool) (s width height most k : ℕ)
-    (way : r ≡ goes_on w d) (wide : width ≡ b.width) (tall : height ≡ b.height) (far : s ≡ stride d width)
+    (way : r ≡ steps_forward w d) (wide : width ≡ b.width) (tall : height ≡ b.height) (far : s ≡ stride d width)
     (left : most ≡ steps_left w d width height p) (more : k < most) where
   stepped : StepOn b w d p (k + 1)
   stepped = step_on b p on w d (k + 1) (let same = left_by b w d p most width height wide tall left in omega arith)

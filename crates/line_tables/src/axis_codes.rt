@@ -13,7 +13,7 @@ ghost use Rattle.line_tables.specs.Codes.{TellsAxis, TellsSoFar, FitChange, can_
 use crate::line_shapes::reach;
 use row_shapes::{Rule, line_code};
 use std::alloc::{AllocError, Global};
-use stone_board::{Axis, Board, Point, Side, Way, goes_on, place_after, steps_left, stride};
+use stone_board::{Axis, Board, Point, Side, Way, place_after, steps_forward, steps_left, stride};
 
 /// What becomes of a point: a stone comes to it, or goes from it.
 #[derive(Clone, Copy)]
@@ -105,7 +105,7 @@ fn follow_way<R: Rule>(
     let width = board.width();
     let weights = weights_of::<R>(way, side);
     let start = p.y as usize * width as usize + p.x as usize;
-    let on = goes_on(way, axis);
+    let on = steps_forward(way, axis);
     let step = stride(axis, width) as usize;
     let most = steps_left(way, axis, width, board.height(), p) as usize;
     for k in 0..most.min(5) {

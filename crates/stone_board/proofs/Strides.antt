@@ -15,7 +15,7 @@ use Rattle.game_rules.specs.declared.Way.TheVariants.{Ahead, Behind}
 use Rattle.game_rules.proofs.Boards.{on_x, on_y, place_fits}
 use Rattle.game_rules.proofs.Lines.{OnLine, along-OnLine, OnLine-along}
 use Rattle.stone_board.proofs.Counts.{same_item}
-use Rattle.stone_board.specs.Walks.{goes_on, stride, place_after, steps_left}
+use Rattle.stone_board.specs.Walks.{steps_forward, stride, place_after, steps_left}
 
 -- the place is so far on from a place, or back
 abbrev pub Walked : Bool → ℕ → ℕ → ℕ → Type 0
@@ -52,13 +52,13 @@ up_more x y v w u k wide e f =
     rw (sym e, f) (omega (arith, product, far, whole))
 
 module _ (b : Grid) (p q : Point) (k : ℕ) (wide : 1 ≤ b.width) where
-  ahead_walk : (d : Axis) → OnLine d p k 0 q → Walked (goes_on Ahead d) (place_of b p) (k * stride d b.width) (place_of b q)
+  ahead_walk : (d : Axis) → OnLine d p k 0 q → Walked (steps_forward Ahead d) (place_of b p) (k * stride d b.width) (place_of b q)
   ahead_walk Row h = row_same q.x q.y p.x p.y b.width k (omega arith) (omega arith)
   ahead_walk Column h = rw h.0 (rows_more p.x q.y p.y b.width k (omega arith))
   ahead_walk Down h = down_more q.x q.y p.x p.y b.width k (omega arith) (omega arith)
   ahead_walk Up h = sym (up_more p.x p.y q.x q.y b.width k wide (omega arith) (omega arith))
 
-  behind_walk : (d : Axis) → OnLine d p 0 k q → Walked (goes_on Behind d) (place_of b p) (k * stride d b.width) (place_of b q)
+  behind_walk : (d : Axis) → OnLine d p 0 k q → Walked (steps_forward Behind d) (place_of b p) (k * stride d b.width) (place_of b q)
   behind_walk Row h = sym (row_same p.x p.y q.x q.y b.width k (omega arith) (omega arith))
   behind_walk Column h = rw h.0 (sym (rows_more p.x p.y q.y b.width k (omega arith)))
   behind_walk Down h = sym (down_more p.x p.y q.x q.y b.width k (omega arith) (omega arith))
@@ -66,7 +66,7 @@ module _ (b : Grid) (p q : Point) (k : ℕ) (wide : 1 ≤ b.width) where
 
   -- a point so many steps away is as many strides away in reading order
   pub place_walk : (w : Way) (d : Axis) → towards w d p k ≡ Some q
-      → Walked (goes_on w d) (place_of b p) (k * stride d b.width) (place_of b q)
+      → Walked (steps_forward w d) (place_of b p) (k * stride d b.width) (place_of b q)
   place_walk Ahead d h = ahead_walk d (along-OnLine d p k 0 q h)
   place_walk Behind d h = behind_walk d (along-OnLine d p 0 k q h)
 
@@ -150,12 +150,12 @@ walked_by : (r t : Bool) (start s u place n : ℕ) → r ≡ t → s ≡ u → W
 walked_by r t start s u place n e f h = rw (e, f) h
 
 module _ (b : Grid) (p : Point) (ok : IsBoard b) (on : is_on b p ≡ true) (w : Way) (d : Axis) (r : Bool) (s most k : ℕ)
-    (way : r ≡ goes_on w d) (far : s ≡ stride d b.width) (left_is : most ≡ steps_left w d b.width b.height p) (more : k < most) where
+    (way : r ≡ steps_forward w d) (far : s ≡ stride d b.width) (left_is : most ≡ steps_left w d b.width b.height p) (more : k < most) where
   step_here : StepOn b w d p (k + 1)
   step_here = step_on b p on w d (k + 1) (let same = left_is in omega arith)
 
   walked : Walked r (place_of b p) ((k + 1) * s) (place_of b step_here.0)
-  walked = walked_by r (goes_on w d) (place_of b p) s (stride d b.width) (place_of b step_here.0) (k + 1) way far
+  walked = walked_by r (steps_forward w d) (place_of b p) s (stride d b.width) (place_of b step_here.0) (k + 1) way far
       (place_walk b p step_here.0 (k + 1) (let wide = ok.wide in omega arith) w d step_here.1)
 
   module _ (place : ℕ) (here : place ≡ place_after r (place_of b p) ((k + 1) * s)) where
@@ -173,8 +173,8 @@ module _ (b : Grid) (p : Point) (ok : IsBoard b) (on : is_on b p ≡ true) (w : 
         rw (step_here.1, step_here.2) (ap (is_stone_of t) (sym cell))
 
 -- a point so many strides away, in the numbers that the code keeps
-pub walked_to : (b : Grid) (p x : Point) (d : Axis) (w : Way) (n width s : ℕ) (r : Bool) → r ≡ goes_on w d → width ≡ b.width
-    → s ≡ stride d width → Walked (goes_on w d) (place_of b p) (n * stride d b.width) (place_of b x)
+pub walked_to : (b : Grid) (p x : Point) (d : Axis) (w : Way) (n width s : ℕ) (r : Bool) → r ≡ steps_forward w d → width ≡ b.width
+    → s ≡ stride d width → Walked (steps_forward w d) (place_of b p) (n * stride d b.width) (place_of b x)
     → Walked r (p.y * width + p.x) (n * s) (place_of b x)
 walked_to b p x d w n width s r way wide far h = rw (way, far, wide) h
 

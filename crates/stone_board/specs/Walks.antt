@@ -7,15 +7,15 @@ use Rattle.game_rules.specs.declared.Way.{Way}
 use Rattle.game_rules.specs.declared.Way.TheVariants.{Ahead, Behind}
 
 -- whether a step in that way along the axis goes on in reading order, and not back
-abbrev pub goes_on : Way → Axis → Bool
-goes_on Ahead Row = true
-goes_on Ahead Column = true
-goes_on Ahead Down = true
-goes_on Ahead Up = false
-goes_on Behind Row = false
-goes_on Behind Column = false
-goes_on Behind Down = false
-goes_on Behind Up = true
+abbrev pub steps_forward : Way → Axis → Bool
+steps_forward Ahead Row = true
+steps_forward Ahead Column = true
+steps_forward Ahead Down = true
+steps_forward Ahead Up = false
+steps_forward Behind Row = false
+steps_forward Behind Column = false
+steps_forward Behind Down = false
+steps_forward Behind Up = true
 
 -- how many places of the reading order a step along the axis is, on a board of this width
 abbrev pub stride : Axis → ℕ → ℕ

@@ -6,14 +6,14 @@
 #![tactic(auto)]
 
 ghost use Rattle.std.specs.Prelude.{◌≡◌, ◌<◌, ◌≤◌, ◌^◌, false};
-ghost use Rattle.stone_board.specs.Walks.{goes_on as goes_on_lem, stride as stride_lem, place_after as place_after_lem, steps_left as steps_left_lem};
+ghost use Rattle.stone_board.specs.Walks.{steps_forward as steps_forward_lem, stride as stride_lem, place_after as place_after_lem, steps_left as steps_left_lem};
 
 use game_rules::{Axis, Point, Way};
 
 /// Whether a step in one way along the axis goes on in reading order, and not back.
 #[inline(always)]
-pub fn goes_on(way: Way, axis: Axis) -> bool
-    ensures on { result ≡ goes_on_lem way axis }
+pub fn steps_forward(way: Way, axis: Axis) -> bool
+    ensures on { result ≡ steps_forward_lem way axis }
 {
     match axis {
         Axis::Row | Axis::Column | Axis::Down => matches!(way, Way::Ahead),

@@ -80,10 +80,11 @@ module _ (rule : RuleKind) (t : List Node) (lower : NamesLower t) (a : Answers) 
   by_empty : (r : Bool) → is_empty b q ≡ r → (not r || (not (five rule b (mover b) q) && answer_wins rule t (answer a q) (after b q)))
       ≡ true → Meets rule a (Accepted rule t) b q
   by_empty false e h = met-no_move rule t a b q (taken_refused rule b q e)
-  by_empty true e h = elim (quiet_move rule b q e (not-true (five rule b (mover b) q) (and_left (not (five rule b (mover b) q)) _ h)) some) [
-    | inl on ↦ by_answer (answer a q) refl (and_right (not (five rule b (mover b) q)) _ h) on
-    | inr foul ↦ met-foul rule t a b q foul.0 foul.1
-  ]
+  by_empty true e h = elim
+      (quiet_move rule b q e (not-true (five rule b (mover b) q) (and_left (not (five rule b (mover b) q)) _ h)) some) [
+        | inl on ↦ by_answer (answer a q) refl (and_right (not (five rule b (mover b) q)) _ h) on
+        | inr foul ↦ met-foul rule t a b q foul.0 foul.1
+      ]
 
   pub met-by_test : (skip : Point → Bool) → list_all (is_met rule t a b skip) (points_of b) ≡ true
       → (skip q ≡ true → Meets rule a (Accepted rule t) b q) → Meets rule a (Accepted rule t) b q

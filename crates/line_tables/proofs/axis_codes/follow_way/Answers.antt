@@ -9,8 +9,9 @@ place_after-place-requires-clause-back g c =
     can_on g.R.Rule.KIND c.args.board.now c.args.stone.side c.args.stone.at c.width-width.ensures.board
     c.args.axis c.args.change c.requires.can in
     let more : c.loop-k.k < c.steps_left-most.result = omega arith in
-    back c.args.board.now c.args.stone.at c.width-width.ensures.board on c.args.way c.args.axis c.goes_on-on.result c.stride-step.result
-    c.width-width.result c.height.result c.steps_left-most.result c.loop-k.k c.goes_on-on.ensures.on c.width-width.ensures.width
+    back c.args.board.now c.args.stone.at c.width-width.ensures.board on c.args.way c.args.axis c.steps_forward-on.result
+    c.stride-step.result c.width-width.result c.height.result c.steps_left-most.result c.loop-k.k
+    c.steps_forward-on.ensures.on c.width-width.ensures.width
     c.height.ensures.height c.stride-step.ensures.stride c.steps_left-most.ensures.steps more
 
 pub slice_copy_out-shifted : goal.slice_copy_out-shifted
@@ -19,9 +20,9 @@ slice_copy_out-shifted g c =
     can_on g.R.Rule.KIND c.args.board.now c.args.stone.side c.args.stone.at c.width-width.ensures.board
     c.args.axis c.args.change c.requires.can in
     let more : c.loop-k.k < c.steps_left-most.result = omega arith in
-    place_within c.args.board.now c.args.stone.at c.width-width.ensures.board on c.args.way c.args.axis c.goes_on-on.result
+    place_within c.args.board.now c.args.stone.at c.width-width.ensures.board on c.args.way c.args.axis c.steps_forward-on.result
     c.stride-step.result
-    c.width-width.result c.height.result c.steps_left-most.result c.loop-k.k c.goes_on-on.ensures.on c.width-width.ensures.width
+    c.width-width.result c.height.result c.steps_left-most.result c.loop-k.k c.steps_forward-on.ensures.on c.width-width.ensures.width
     c.height.ensures.height c.stride-step.ensures.stride c.steps_left-most.ensures.steps more
     c.place_after-place.result c.place_after-place.ensures.place g.R.Rule.KIND c.args.stone.side c.args.change c.requires.can c.loop-k.codes
     c.loop-k.invariant
@@ -34,8 +35,8 @@ shifted-requires g c =
     let more : c.loop-k.k < c.steps_left-most.result = omega arith in
     let few : c.loop-k.k < 5 = omega arith in
     record {
-      fit = change_fits c.args.board.now c.args.stone.at c.width-width.ensures.board on c.args.way c.args.axis c.goes_on-on.result
-          c.stride-step.result c.width-width.result c.height.result c.steps_left-most.result c.loop-k.k c.goes_on-on.ensures.on
+      fit = change_fits c.args.board.now c.args.stone.at c.width-width.ensures.board on c.args.way c.args.axis c.steps_forward-on.result
+          c.stride-step.result c.width-width.result c.height.result c.steps_left-most.result c.loop-k.k c.steps_forward-on.ensures.on
           c.width-width.ensures.width c.height.ensures.height c.stride-step.ensures.stride c.steps_left-most.ensures.steps more
           c.place_after-place.result c.place_after-place.ensures.place g.R.Rule.KIND c.args.stone.side c.args.change c.requires.can
           c.loop-k.codes
@@ -50,9 +51,9 @@ bounds-codes-place g c =
     can_on g.R.Rule.KIND c.args.board.now c.args.stone.side c.args.stone.at c.width-width.ensures.board
     c.args.axis c.args.change c.requires.can in
     let more : c.loop-k.k < c.steps_left-most.result = omega arith in
-    place_within c.args.board.now c.args.stone.at c.width-width.ensures.board on c.args.way c.args.axis c.goes_on-on.result
+    place_within c.args.board.now c.args.stone.at c.width-width.ensures.board on c.args.way c.args.axis c.steps_forward-on.result
     c.stride-step.result
-    c.width-width.result c.height.result c.steps_left-most.result c.loop-k.k c.goes_on-on.ensures.on c.width-width.ensures.width
+    c.width-width.result c.height.result c.steps_left-most.result c.loop-k.k c.steps_forward-on.ensures.on c.width-width.ensures.width
     c.height.ensures.height c.stride-step.ensures.stride c.steps_left-most.ensures.steps more
     c.place_after-place.result c.place_after-place.ensures.place g.R.Rule.KIND c.args.stone.side c.args.change c.requires.can c.loop-k.codes
     c.loop-k.invariant
@@ -64,9 +65,9 @@ loop-k-preserved g c =
     c.args.axis c.args.change c.requires.can in
     let more : c.loop-k.k < c.steps_left-most.result = omega arith in
     let few : c.loop-k.k < 5 = omega arith in
-    step_followed c.args.board.now c.args.stone.at c.width-width.ensures.board on c.args.way c.args.axis c.goes_on-on.result
+    step_followed c.args.board.now c.args.stone.at c.width-width.ensures.board on c.args.way c.args.axis c.steps_forward-on.result
     c.stride-step.result
-    c.width-width.result c.height.result c.steps_left-most.result c.loop-k.k c.goes_on-on.ensures.on c.width-width.ensures.width
+    c.width-width.result c.height.result c.steps_left-most.result c.loop-k.k c.steps_forward-on.ensures.on c.width-width.ensures.width
     c.height.ensures.height c.stride-step.ensures.stride c.steps_left-most.ensures.steps more
     c.place_after-place.result c.place_after-place.ensures.place g.R.Rule.KIND c.args.stone.side c.args.change c.requires.can c.loop-k.codes
     c.loop-k.invariant
