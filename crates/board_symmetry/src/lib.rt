@@ -11,8 +11,6 @@
 mod boards;
 mod symmetry;
 mod tables;
-#[cfg(test)]
-mod tests;
 mod theorems;
 
 pub use boards::image_board;

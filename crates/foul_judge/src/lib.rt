@@ -6,13 +6,9 @@
 
 mod foul;
 mod outcome;
-#[cfg(test)]
-mod plain;
 mod position;
 mod seen;
 mod short_cut;
-#[cfg(test)]
-mod tests;
 
 pub use foul::foul_at;
 pub use game_rules::{Foul, Outcome};

@@ -7,8 +7,6 @@
 
 mod judging;
 mod replaying;
-#[cfg(test)]
-mod tests;
 mod theorems;
 mod written;
 

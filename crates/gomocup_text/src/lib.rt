@@ -103,5 +103,3 @@ pub enum ErrorText {
     GameDrawn,
 }
 
-#[cfg(test)]
-mod tests;

@@ -13,8 +13,6 @@ mod fouls;
 mod line_shapes;
 mod outcome;
 mod tables;
-#[cfg(test)]
-mod tests;
 
 pub use line_shapes::LineShapes;
 pub use row_shapes::{Shape, line_code};

@@ -5,8 +5,6 @@
 
 mod late_table;
 mod packed_position;
-#[cfg(test)]
-mod tests;
 mod whole_table;
 
 pub use late_table::LateTable;

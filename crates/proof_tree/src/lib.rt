@@ -13,8 +13,6 @@ ghost use Rattle.std.specs.Prelude.{◌≡◌, true, IsTrue, ◌↔◌};
 ghost use Rattle.proof_tree.specs.Combining.{is_settled, other_kind, settled_numbers, sought};
 
 mod combining;
-#[cfg(test)]
-mod tests;
 mod tree;
 mod updating;
 

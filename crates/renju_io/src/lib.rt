@@ -47,6 +47,3 @@ pub const MAX_SESSION_BYTES: usize = 67_108_864;
 
 /// The most bytes that a text is cut into for one write.
 pub const MAX_PIECE_BYTES: usize = 4_096;
-
-#[cfg(test)]
-mod tests;

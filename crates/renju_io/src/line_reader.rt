@@ -292,6 +292,3 @@ fn read_front<S: Source>(source: &mut S, buffer: &mut [u8], most: usize) -> Resu
     let count = most.min(buffer.len());
     source.read(&mut buffer[..count])
 }
-
-#[cfg(test)]
-mod tests;

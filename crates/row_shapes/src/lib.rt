@@ -16,8 +16,6 @@ mod row_at;
 mod rule;
 mod shape_table;
 mod shapes;
-#[cfg(test)]
-mod tests;
 mod threes;
 mod windows;
 mod wins;

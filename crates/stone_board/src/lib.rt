@@ -9,8 +9,6 @@ mod board;
 mod lines;
 mod order;
 mod points;
-#[cfg(test)]
-mod tests;
 mod walks;
 
 pub use board::Board;

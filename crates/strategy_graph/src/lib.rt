@@ -18,8 +18,6 @@ mod replies;
 mod roots;
 mod start;
 mod table;
-#[cfg(test)]
-mod tests;
 mod theorems;
 
 use game_rules::Point;

@@ -9,8 +9,6 @@ mod fault;
 mod lines;
 mod numbers;
 mod points;
-#[cfg(test)]
-mod tests;
 mod words;
 mod written;
 

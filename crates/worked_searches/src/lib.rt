@@ -1,5 +1,6 @@
-//! Worked examples of the searches and of what they stand on: moves that make fours, wins by fours, moves that hold against them,
-//! sequences of threats, wins along them, wins by threats, and searches over positions and over line tables, which answer alike.
+//! Worked examples of the searches and of what they stand on: line tables, moves that make fours, wins by fours, moves that hold
+//! against them, sequences of threats, wins along them, wins by threats, and searches over positions and over line tables, which
+//! answer alike.
 //!
 //! They use public calls alone, so they stand apart from what they try: a check of a crate with its tests proves the whole crate
 //! once more, and the check of this one proves the tests alone. What tests share, as boards and texts, is made by functions that
@@ -20,9 +21,13 @@ mod line_proofs;
 #[cfg(test)]
 mod moves;
 #[cfg(test)]
+mod remade;
+#[cfg(test)]
 mod replays;
 #[cfg(test)]
 mod sequences;
+#[cfg(test)]
+mod tables;
 #[cfg(test)]
 mod threat_games;
 #[cfg(test)]

@@ -1,7 +1,7 @@
 //! Examples of a tree: a root with two children, and what becomes of it when they are settled.
 #![tactic(auto)]
 
-use crate::{INFINITE, Numbers, ProofTree};
+use proof_tree::{INFINITE, Numbers, ProofTree};
 use std::alloc::{AllocError, Global};
 use std::process::Abort;
 use std::test::Fail;

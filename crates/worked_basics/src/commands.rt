@@ -1,5 +1,5 @@
 //! Lines as a manager may write them, row by row of the table of commands, and each answer's line.
-use super::*;
+use gomocup_text::{Answer, AnswerText, Command, ErrorText, Point, read_command, write_answer};
 use std::alloc::Global;
 use std::process::Abort;
 use std::test::Fail;

@@ -1,11 +1,11 @@
 //! Words, numbers, points and lines that are read and written.
 
-use crate::{
+use game_rules::Point;
+use std::test::Fail;
+use text_lines::{
     after, cut, is_text, large_number, line, number, number_line, point, prefixed, push_line,
     push_number_line, push_points,
 };
-use game_rules::Point;
-use std::test::Fail;
 
 #[test]
 fn reads_numbers_of_one_spelling(rt: HostRuntime) {

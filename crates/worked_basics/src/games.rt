@@ -1,44 +1,19 @@
 //! Games that are judged, and games beside a table.
 
-use crate::{GameVerdict, ReplayAnswer, judge, replay, write_verdict};
+use crate::setup::{at, position_of};
 use foul_judge::Position;
+use game_referee::{GameVerdict, ReplayAnswer, judge, replay, write_verdict};
 use game_rules::{Foul, Point, Side};
-use row_shapes::{Freestyle, Renju, Rule};
+use row_shapes::{Freestyle, Renju};
 use std::alloc::Global;
+use std::process::Abort;
 use std::test::Fail;
-use stone_board::{Board, Points};
+use stone_board::Points;
 use strategy_graph::{Node, Replies, Reply, Rest, Root, Start, Table};
 
-fn at(x: u8, y: u8) -> Point {
-    Point { x, y }
-}
-
-fn put_all(board: &mut Board, side: Side, points: &[(u8, u8)]) {
-    for (x, y) in points {
-        let p = at(*x, *y);
-        if board.is_empty(p) {
-            board.put(p, side);
-        }
-    }
-}
-
-fn position<R: Rule>(
-    alloc: Global,
-    black: &[(u8, u8)],
-    white: &[(u8, u8)],
-) -> Result<Position<R>, Fail> {
-    let mut board = Board::empty(alloc, 15, 15)?;
-    put_all(&mut board, Side::Black, black);
-    put_all(&mut board, Side::White, white);
-    match Position::from_board(board) {
-        Ok(position) => Ok(position),
-        Err(_) => Err(Fail::from("no lawful position")),
-    }
-}
-
 /// Three in a row with both ends open: 4,7 makes a straight four.
-fn open_three(alloc: Global) -> Result<Position<Freestyle>, Fail> {
-    position(alloc, &[(5, 7), (6, 7), (7, 7)], &[(0, 0), (2, 0), (4, 0)])
+fn open_three(rt: &(impl Abort + AllocGlobal)) -> Result<Position<Freestyle>, Fail> {
+    position_of(rt, &[(5, 7), (6, 7), (7, 7)], &[(0, 0), (2, 0), (4, 0)])
 }
 
 fn moves_of(alloc: Global, moves: &[(u8, u8)]) -> Result<Points, Fail> {
@@ -110,7 +85,7 @@ fn judges_games_beside_a_table(rt: HostRuntime) -> Result<(), Fail> {
     ];
     let table = four_table(rt.alloc())?;
     let root = Root::Attack(2);
-    let mut position = open_three(rt.alloc())?;
+    let mut position = open_three(&rt)?;
     for (moves, verdict, answer) in cases {
         let moves = moves_of(rt.alloc(), moves)?;
         assert_eq!(rt; judge(&mut position, moves.as_slice()), verdict);
@@ -118,7 +93,7 @@ fn judges_games_beside_a_table(rt: HostRuntime) -> Result<(), Fail> {
             replay(&table, &root, &mut position, moves.as_slice()),
             answer
         );
-        assert!(rt; position.same(&open_three(rt.alloc())?));
+        assert!(rt; position.same(&open_three(&rt)?));
     }
     Ok(())
 }
@@ -128,8 +103,8 @@ fn compares_from_a_start(rt: HostRuntime) -> Result<(), Fail> {
     let alloc = rt.alloc();
     let table = four_table(alloc)?;
     let start = Root::Defend(Start::new(Replies::new(alloc), Rest::To(0)));
-    let mut position: Position<Freestyle> = position(
-        alloc,
+    let mut position: Position<Freestyle> = position_of(
+        &rt,
         &[(4, 7), (5, 7), (6, 7), (7, 7)],
         &[(0, 0), (2, 0), (4, 0)],
     )?;
@@ -152,8 +127,8 @@ fn compares_from_a_start(rt: HostRuntime) -> Result<(), Fail> {
 
 #[test]
 fn names_a_foul_and_not_its_loser(rt: HostRuntime) -> Result<(), Fail> {
-    let mut position: Position<Renju> = position(
-        rt.alloc(),
+    let mut position: Position<Renju> = position_of(
+        &rt,
         &[(7, 0), (7, 1), (7, 2), (2, 3), (7, 4), (7, 5)],
         &[(3, 3), (4, 3), (5, 3), (12, 14), (14, 14)],
     )?;

@@ -1,5 +1,5 @@
 use Rattle.std.proofs.Common.{◌+◌, ◌*◌}
-use Rattle.foul_judge.proofs.plain.+plain.Given as goal
+use Rattle.worked_basics.proofs.plain_fouls.+plain.Given as goal
 
 abbrev pub decreases-plain_foul : goal.decreases-plain_foul
 decreases-plain_foul g l = 4 * l.stones

@@ -1,6 +1,6 @@
 //! What keys and tables answer on small examples.
-use crate::{LateTable, PackedPosition, WholeTable};
 use game_rules::{Point, Side};
+use position_table::{LateTable, PackedPosition, WholeTable};
 use std::alloc::{AllocError, Global};
 use std::test::Fail;
 use stone_board::Board;

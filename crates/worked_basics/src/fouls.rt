@@ -1,29 +1,11 @@
 //! Fouls, outcomes and lawful positions on small examples.
-use crate::{Foul, Outcome, Position, PositionError, Seen, foul_at};
+use crate::setup::{board_of, position_of, put_all};
+use foul_judge::{Foul, Outcome, Position, PositionError, Seen, foul_at};
 use row_shapes::{ExactFive, FivePoints, Freestyle, Renju, Rule, RuleKind, under_rule};
 use std::alloc::{AllocError, Global};
 use std::process::Abort;
 use std::test::Fail;
 use stone_board::{Board, Point, Side};
-
-fn put_all(rt: &impl Abort, board: &mut Board, side: Side, points: &[(u8, u8)]) {
-    for (x, y) in points {
-        let p = Point { x: *x, y: *y };
-        assert!(rt; board.is_empty(p));
-        board.put(p, side);
-    }
-}
-
-fn board_of(
-    rt: &(impl Abort + AllocGlobal),
-    black: &[(u8, u8)],
-    white: &[(u8, u8)],
-) -> Result<Board, AllocError> {
-    let mut board = Board::empty(rt.alloc(), 15, 15)?;
-    put_all(rt, &mut board, Side::Black, black);
-    put_all(rt, &mut board, Side::White, white);
-    Ok(board)
-}
 
 // A board of 5 from its points in reading order: `x` is Black, `o` is White, anything else is empty.
 fn drawn(rt: &(impl Abort + AllocGlobal), marks: &[u8]) -> Result<Board, AllocError> {
@@ -274,16 +256,12 @@ fn plays_and_takes_back(rt: HostRuntime) -> Result<(), Fail> {
 #[test]
 fn a_position_tells_its_five_points(rt: HostRuntime) -> Result<(), Fail> {
     let row = [(5, 7), (6, 7), (7, 7), (8, 7)];
-    match Position::<Renju>::from_board(board_of(&rt, &row, &CORNERS)?) {
-        Err(_) => panic!(rt; "no lawful position"),
-        Ok(position) => {
-            let ends = [Point { x: 4, y: 7 }, Point { x: 9, y: 7 }];
-            let points = position.five_points(rt.alloc(), Side::Black)?;
-            assert_eq!(rt; points.as_slice(), ends.as_slice());
-            assert!(rt; position.has_five(Side::Black) && !position.has_five(Side::White));
-            assert_eq!(rt; position.fives_in_short(Side::Black), FivePoints::Several);
-        }
-    }
+    let position = position_of::<Renju>(&rt, &row, &CORNERS)?;
+    let ends = [Point { x: 4, y: 7 }, Point { x: 9, y: 7 }];
+    let points = position.five_points(rt.alloc(), Side::Black)?;
+    assert_eq!(rt; points.as_slice(), ends.as_slice());
+    assert!(rt; position.has_five(Side::Black) && !position.has_five(Side::White));
+    assert_eq!(rt; position.fives_in_short(Side::Black), FivePoints::Several);
     Ok(())
 }
 
@@ -291,16 +269,12 @@ fn a_position_tells_its_five_points(rt: HostRuntime) -> Result<(), Fail> {
 fn a_move_makes_its_five_point(rt: HostRuntime) -> Result<(), Fail> {
     let three = [(5, 7), (6, 7), (7, 7)];
     let apart = [(0, 0), (14, 0), (0, 14)];
-    match Position::<Renju>::from_board(board_of(&rt, &three, &apart)?) {
-        Err(_) => panic!(rt; "no lawful position"),
-        Ok(position) => {
-            let p = Point { x: 9, y: 7 };
-            assert!(rt; position.board().is_empty(p));
-            let side = position.side();
-            assert!(rt; !position.has_five(side));
-            let made = FivePoints::One(Point { x: 8, y: 7 });
-            assert_eq!(rt; position.fives_made(p), made);
-        }
-    }
+    let position = position_of::<Renju>(&rt, &three, &apart)?;
+    let p = Point { x: 9, y: 7 };
+    assert!(rt; position.board().is_empty(p));
+    let side = position.side();
+    assert!(rt; !position.has_five(side));
+    let made = FivePoints::One(Point { x: 8, y: 7 });
+    assert_eq!(rt; position.fives_made(p), made);
     Ok(())
 }

@@ -4,7 +4,7 @@ use Rattle.game_rules.specs.declared.Point.{Point}
 use Rattle.game_rules.specs.declared.Outcome.TheVariants.{GoesOn}
 use Rattle.game_rules.specs.declared.RuleKind.TheVariants.{Renju}
 use Rattle.game_rules.proofs.Positions.{lift-after}
-use Rattle.foul_judge.proofs.tests.plays_and_takes_back.Goals as goal
+use Rattle.worked_basics.proofs.fouls.plays_and_takes_back.Goals as goal
 
 -- without the stone that was played the position is as it was, so no run wins
 pub undo-requires-clause-unwon : goal.undo-requires-clause-unwon

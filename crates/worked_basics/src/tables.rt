@@ -1,18 +1,12 @@
 //! What tables, replies and starts answer on small examples, and a table of the greatest length.
 ghost use Rattle.std.specs.Prelude.{◌≡◌, [], IfOk};
 
-use crate::{MAX_NODES, Node, PushError, Replies, Reply, Rest, Root, Start, Table};
+use crate::setup::at;
 use game_rules::Point;
 use std::alloc::{AllocError, Global};
 use std::hash::{DefaultHasher, Hash, Hasher};
 use std::test::Fail;
-
-fn at(x: u8, y: u8) -> Point
-    ensures column { result.x ≡ x }
-    ensures row { result.y ≡ y }
-{
-    Point { x, y }
-}
+use strategy_graph::{MAX_NODES, Node, PushError, Replies, Reply, Rest, Root, Start, Table};
 
 fn replies_of(alloc: Global, items: &[Reply]) -> Result<Replies, AllocError>
     ensures items { IfOk result (λ rs. rs ≡ items.now) }

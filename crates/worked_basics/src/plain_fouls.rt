@@ -1,12 +1,11 @@
 //! The foul judge as the definition reads, to compare with: each stone is put, each point of the board is asked whether it
 //! is a three point, and no point and no axis is passed over.
-use crate::{Foul, foul_at};
+use crate::setup::AXES;
+use foul_judge::{Foul, foul_at};
 use row_shapes::{Renju, Rule, five_at, fours_through, straight_through};
 use std::process::Abort;
 use std::test::Fail;
 use stone_board::{Axis, Board, MAX_SIDE, Point, Side, Way};
-
-const AXES: [Axis; 4] = [Axis::Row, Axis::Column, Axis::Down, Axis::Up];
 
 // Black's foul at an empty point, where at most so many stones are put one after another.
 #[cycle(plain)]

@@ -1,5 +1,6 @@
 //! The shapes of rows on small examples.
-use crate::{
+use crate::setup::{board_of, put_all};
+use row_shapes::{
     ExactFive, FivePoints, Freestyle, Renju, Rule, RuleKind, Shape, ShapeTable, Shapes, five_at,
     five_points, fives_in_short, fives_made, fours_through, has_five, line_code, stones_in_reach,
     straight_through, three_points, under_rule,
@@ -8,14 +9,6 @@ use std::alloc::AllocError;
 use std::process::Abort;
 use std::test::Fail;
 use stone_board::{Axis, Board, Point, Side};
-
-fn put_all(rt: &impl Abort, board: &mut Board, side: Side, points: &[(u8, u8)]) {
-    for (x, y) in points {
-        let p = Point { x: *x, y: *y };
-        assert!(rt; board.is_empty(p));
-        board.put(p, side);
-    }
-}
 
 #[test]
 fn six_in_a_row_win_by_the_rule(rt: HostRuntime) -> Result<(), Fail> {
@@ -98,17 +91,6 @@ fn stones_past_one_gap_are_in_reach(rt: HostRuntime) -> Result<(), Fail> {
     assert!(rt; board.on(p));
     assert_eq!(rt; stones_in_reach(&board, Side::Black, Axis::Row, p), 2);
     Ok(())
-}
-
-fn board_of(
-    rt: &(impl Abort + AllocGlobal),
-    black: &[(u8, u8)],
-    white: &[(u8, u8)],
-) -> Result<Board, AllocError> {
-    let mut board = Board::empty(rt.alloc(), 15, 15)?;
-    put_all(rt, &mut board, Side::Black, black);
-    put_all(rt, &mut board, Side::White, white);
-    Ok(board)
 }
 
 #[test]

@@ -3,7 +3,7 @@ ghost use Rattle.std.specs.Prelude.{◌≡◌, [], ◌∷◌, true, IfOk, IsTrue
 ghost use Rattle.game_rules.specs.Grid.{is_on};
 ghost use Rattle.board_symmetry.specs.Points.{empty_board};
 
-use crate::{Symmetry, image_board, image_root, image_table};
+use board_symmetry::{Symmetry, image_board, image_root, image_table};
 use game_rules::{Cell, Point, Side};
 use std::test::Fail;
 use stone_board::Board;

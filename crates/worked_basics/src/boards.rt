@@ -1,15 +1,7 @@
 //! What boards answer on small examples.
-use crate::{Axis, Board, Cell, Look, Point, Points, Side, Way, line_of, place_on};
-use std::process::Abort;
+use crate::setup::{AXES, put_all};
 use std::test::Fail;
-
-fn put_all(rt: &impl Abort, board: &mut Board, side: Side, points: &[(u8, u8)]) {
-    for (x, y) in points {
-        let p = Point { x: *x, y: *y };
-        assert!(rt; board.is_empty(p));
-        board.put(p, side);
-    }
-}
+use stone_board::{Axis, Board, Cell, Look, Point, Points, Side, Way, line_of, place_on};
 
 #[test]
 fn stones_come_and_go(rt: HostRuntime) -> Result<(), Fail> {
@@ -100,8 +92,6 @@ fn looks_along_a_line(rt: HostRuntime) -> Result<(), Fail> {
     );
     Ok(())
 }
-
-const AXES: [Axis; 4] = [Axis::Row, Axis::Column, Axis::Down, Axis::Up];
 
 #[test]
 fn lines_are_told_as_bits(rt: HostRuntime) -> Result<(), Fail> {
