@@ -20,7 +20,7 @@ use Rattle.brain_session.specs.declared.batch.BatchStone.{BatchStone}
 use Rattle.brain_session.specs.States.{Batch, empty_board}
 use Rattle.brain_session.specs.Batches.{side_of, with_batch_stones, colour_by, colour_in}
 use Rattle.brain_session.specs.Running.{StonesFit}
-use Rattle.brain_session.proofs.BegunBoards.{empty-empty, no-stones}
+use Rattle.brain_session.proofs.SessionBoards.{empty-empty, no-stones}
 
 -- an item of a list is the same whatever stands for those past its end
 same_item : (stones : List BatchStone) (i : ℕ) (s t : BatchStone) → i < length stones → get_or stones i s ≡ get_or stones i t

@@ -25,7 +25,7 @@ use Rattle.brain_session.specs.Batches.{has_stone_at}
 use Rattle.brain_session.specs.Steps.{board_in}
 use Rattle.brain_session.specs.Running.{IsPlayed, IsPlace, IsBrain, StonesFit}
 use Rattle.brain_session.specs.Kept.{IsPointOn}
-use Rattle.brain_session.proofs.GamesInPlay.{start-lawful}
+use Rattle.brain_session.proofs.SessionGames.{start-lawful}
 use Rattle.brain_session.proofs.Takings.{stone_fits, told-on}
 
 same-symm : (p q : Point) → is_same_point p q ≡ is_same_point q p

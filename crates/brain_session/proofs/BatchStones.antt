@@ -22,7 +22,7 @@ use Rattle.brain_session.specs.declared.batch.BatchStone.{BatchStone}
 use Rattle.brain_session.specs.Batches.{has_stone_at, side_of, with_batch_stones}
 use Rattle.brain_session.specs.ChosenMoves.{same_rule}
 use Rattle.brain_session.specs.States.{empty_board}
-use Rattle.brain_session.proofs.BegunBoards.{empty-board, empty-empty}
+use Rattle.brain_session.proofs.SessionBoards.{empty-board, empty-empty}
 
 -- the stone on a point, where the brain is the side to move
 abbrev pub stone_at : Grid → Point → BatchStone

@@ -50,18 +50,18 @@ module _ (h : HeldTable) (g : Game) where
       let own : by_own_win h g ≡ None = ap (option_and_then (λ (m : ℕ). by_following h g (OwnWin m))) win in
       no_held first ∙ ap (λ (o : Option Choice). or_else o (λ _. by_plain_move g)) own
 
--- ---- the picked move
+-- ---- the chosen move
 
 module _ (h : HeldTable) (g : Game) (c : ChosenMove) (guide : Guide) (is : c.guide ≡ Some guide) where
   -- it is the choice that follows the guide
-  pub picked-chosen : chosen_anew h g ≡ record { at = c.at; followed = Some (followed_of guide) } → choice_of c ≡ chosen_anew h g
-  picked-chosen chosen = ap
+  pub move-chosen : chosen_anew h g ≡ record { at = c.at; followed = Some (followed_of guide) } → choice_of c ≡ chosen_anew h g
+  move-chosen chosen = ap
       (λ (o : Option Guide). let choice : Choice = record { at = c.at; followed = option_map followed_of o } in choice) is ∙ sym chosen
 
   -- the guide stands at the board
-  pub picked-stands : (rule : RuleKind) (b : Grid) → IsTable (nodes_of h guide) → NodeStandsAt h rule b guide
+  pub move-stands : (rule : RuleKind) (b : Grid) → IsTable (nodes_of h guide) → NodeStandsAt h rule b guide
       → IfSome c.guide (StandsAt h rule b)
-  picked-stands rule b table stands = subst (λ (o : Option Guide). IfSome o (StandsAt h rule b)) (sym is)
+  move-stands rule b table stands = subst (λ (o : Option Guide). IfSome o (StandsAt h rule b)) (sym is)
       (record { table = table; node = stands })
 
 -- what is found on a board that is b

@@ -27,7 +27,7 @@ use Rattle.brain_session.specs.HeldGames.{SessionsGoWell, IsTight, StartsAreTigh
 use Rattle.brain_session.specs.Running.{GoesOnAlong}
 use Rattle.brain_session.proofs.HeldNodes.{first-led, root-accepted, root-no_deeper}
 use Rattle.brain_session.proofs.HeldSteps.{GoesBy, by_node, StandsIn, held-go_well}
-use Rattle.brain_session.proofs.GamesInPlay.{along-lawful}
+use Rattle.brain_session.proofs.SessionGames.{along-lawful}
 use Rattle.brain_session.proofs.LawfulStates.{LawfulState, IsToMove, LawfulRow, row-lawful, session-lawful, new-lawful}
 use Rattle.brain_session.proofs.FollowedGames.{state_in}
 

@@ -30,8 +30,8 @@ use Rattle.brain_session.specs.Steps.{Row, Reacts, Chooses, placed, is_side, boa
 use Rattle.brain_session.specs.Steps.{place_before, row_of, with_choice, step_by, brain_step}
 use Rattle.brain_session.specs.Sessions.{then_state, state_after}
 use Rattle.brain_session.specs.Running.{GoesOnAlong, StonesFit}
-use Rattle.brain_session.proofs.GamesInPlay.{along-lawful, start-lawful}
-use Rattle.brain_session.proofs.BegunBoards.{empty-mover, empty-lawful, board-sized, empty-board}
+use Rattle.brain_session.proofs.SessionGames.{along-lawful, start-lawful}
+use Rattle.brain_session.proofs.SessionBoards.{empty-mover, empty-lawful, board-sized, empty-board}
 use Rattle.brain_session.proofs.BatchGames.{batch-mover}
 use Rattle.brain_session.proofs.Takings.{none_fit, spoiled_fits, stone_fits}
 use Rattle.brain_session.proofs.RowCases.{row-cases}

@@ -15,9 +15,9 @@ pub mod LegalMoves
 -- the choice where nothing is followed yet
 pub mod Choosing
 -- a game that is kept up, move by move
-pub mod GamesInPlay
--- the place of a begun board, and the rows of the protocol in it
-pub mod BegunBoards
+pub mod SessionGames
+-- the place of a session's board, and the rows of the protocol in it
+pub mod SessionBoards
 -- each row that a command may have
 mod RowCases
 -- the board of a batch, and the side to move on it

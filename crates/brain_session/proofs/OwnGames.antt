@@ -46,7 +46,7 @@ use Rattle.brain_session.specs.Sessions.{state_after}
 use Rattle.brain_session.specs.HeldGames.{IsWonWithin, replies, answers_to_replies, answers_by}
 use Rattle.brain_session.specs.OwnGames.{BeginsOwnGame, PlaysWin, win_game, win_attacks, win_answers, OwnGameGoesWell, OwnGamesGoWell}
 use Rattle.brain_session.proofs.OwnWins.{own_win-wins}
-use Rattle.brain_session.proofs.GamesInPlay.{along-lawful, chosen-followed}
+use Rattle.brain_session.proofs.SessionGames.{along-lawful, chosen-followed}
 use Rattle.brain_session.proofs.Choosing.{chosen-own}
 use Rattle.strategy_graph.proofs.Endings.{none_on}
 use Rattle.strategy_graph.proofs.Fuel.{accepted_node}

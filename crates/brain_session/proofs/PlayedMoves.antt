@@ -19,7 +19,7 @@ use Rattle.stone_board.proofs.Stones.{put-holds_stone}
 use Rattle.brain_session.specs.States.{board_after, empty_board}
 use Rattle.brain_session.specs.ChosenMoves.{same_cell, same_board, last_move}
 use Rattle.brain_session.specs.Kept.{Moves, IsKept, without_last}
-use Rattle.brain_session.proofs.BegunBoards.{empty-board, width-after, height-after}
+use Rattle.brain_session.proofs.SessionBoards.{empty-board, width-after, height-after}
 
 -- ---- whether two boards are one
 

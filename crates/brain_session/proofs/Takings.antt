@@ -33,9 +33,9 @@ none_from : {X : Type 0} (o : Option X) → IsNone o → o ≡ None
 none_from None e = refl
 none_from (Some x) e = absurd (cc)
 
--- ---- the steps of a begun board
+-- ---- the steps of a session's board
 
--- the brain answers a TURN, by what its begun board did
+-- the brain answers a TURN, by what its session's board did
 pub turn-takes : {E : Type 0} (r : Result Reaction E) (s : State) (place new : Place) (rule : Option RuleKind) (at : Option Point)
     (p : Point) → s.place ≡ place → rule ≡ rule_of s.wish → IsNone s.batch → IsPointOn (board_in place) p at
     → IfOk r (λ x. (t : State) (q : Point) → IsStateOf s.held place rule t → IsPointOn (board_in place) q at

@@ -18,7 +18,7 @@ use Rattle.strategy_checker.specs.HeldRoots.{HeldTable}
 use Rattle.four_search.specs.Plans.{four_plan}
 use Rattle.brain_session.specs.declared.guide.Guide.{Guide}
 use Rattle.brain_session.specs.declared.guide.Guide.TheVariants.{HeldNode as HeldGuide, OwnWin as OwnGuide}
-use Rattle.brain_session.specs.declared.game.GameInPlay.{GameInPlay}
+use Rattle.brain_session.specs.declared.game.SessionGame.{SessionGame}
 use Rattle.brain_session.specs.declared.choice.ChosenMove.{ChosenMove}
 use Rattle.brain_session.specs.declared.own_win.OwnTable.{OwnTable}
 use Rattle.brain_session.specs.States.{Followed, HeldNode, OwnWin, Game, board_after, board_of, empty_board, Place, NoBoard, Fresh, InGame}
@@ -63,7 +63,7 @@ followed_of (HeldGuide node) = HeldNode node
 followed_of (OwnGuide own) = OwnWin own.moves
 
 -- the game that is in play with these moves
-abbrev pub game_of : Moves → GameInPlay → Game
+abbrev pub game_of : Moves → SessionGame → Game
 game_of m c = record {
   rule = c.kind;
   start = m.start;
@@ -74,11 +74,11 @@ game_of m c = record {
 }
 
 -- the place where a board with these moves has this game, or none yet
-abbrev pub place_of : Moves → Option GameInPlay → Place
+abbrev pub place_of : Moves → Option SessionGame → Place
 place_of m None = Fresh m.start.width m.start.height
 place_of m (Some c) = InGame (game_of m c)
 
--- the place of the begun board, if there is one
+-- the place of the session's board, if there is one
 abbrev pub place_in : Option Place → Place
 place_in None = NoBoard
 place_in (Some place) = place
@@ -107,9 +107,9 @@ pub record IsUntouched (m : Moves) : Type 0 where
   pub bare : m.start ≡ empty_board m.start.width m.start.height
 
 -- a board with these moves and this game, or none yet
-abbrev pub IsBegunBoard : Moves → Option GameInPlay → Type 0
-IsBegunBoard m None = IsUntouched m
-IsBegunBoard m (Some c) = IsBoard m.start × GuidesOn c.ended c.kind (board_after m.start m.moves) c.guide
+abbrev pub IsSessionBoard : Moves → Option SessionGame → Type 0
+IsSessionBoard m None = IsUntouched m
+IsSessionBoard m (Some c) = IsBoard m.start × GuidesOn c.ended c.kind (board_after m.start m.moves) c.guide
 
 -- a table of the brain's own with its node at b: the node stands for the plan of the win, and is accepted
 pub record OwnStandsAt (rule : RuleKind) (b : Grid) (own : OwnTable) : Type 0 where
@@ -144,7 +144,7 @@ abbrev pub IsInTable : HeldTable → Guide → Type 0
 IsInTable h (HeldGuide node) = node < length h.table
 IsInTable h (OwnGuide own) = (own.node < length own.table) × (1 ≤ own.moves)
 
--- the choice of a picked move
+-- the choice of a chosen move
 abbrev pub choice_of : ChosenMove → Choice
 choice_of c = record { at = c.at; followed = option_map followed_of c.guide }
 
@@ -167,11 +167,11 @@ pub record GoesOnAfter (h : HeldTable) (rule : RuleKind) (b : Grid) (guide : Gui
   pub answers : MatchOption (guide_after h guide q) ⊥ (NodeStandsAt h rule b)
 
 -- what the game follows, if anything, goes on at b after the last of these moves, if there is one
-abbrev pub IsReady : HeldTable → Moves → GameInPlay → Type 0
+abbrev pub IsReady : HeldTable → Moves → SessionGame → Type 0
 IsReady h m c = IfSome c.guide (λ guide. IfSome (last_move m.moves) (GoesOnAfter h c.kind (board_after m.start m.moves) guide))
 
 -- the game in play with these moves runs, and the guide goes on, if it is a table of the brain's own
-pub record IsKeptUp (h : HeldTable) (m : Moves) (c : GameInPlay) : Type 0 where
+pub record IsKeptUp (h : HeldTable) (m : Moves) (c : SessionGame) : Type 0 where
   pub running : IsRunning h (game_of m c)
   pub guided : GuidesOn c.ended c.kind (board_after m.start m.moves) c.guide
 

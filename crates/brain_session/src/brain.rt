@@ -14,7 +14,7 @@ ghost use Rattle.brain_session.specs.Kept.{IsBegun, IsPointOn, Takes, has_no_pla
 
 use crate::Reaction;
 use crate::batch::BatchReader;
-use crate::begun_board::BegunBoard;
+use crate::session_board::SessionBoard;
 use game_rules::{MAX_SIDE, MIN_SIDE, Point, RuleKind};
 use gomocup_text::{Answer, Command, ErrorText};
 use std::alloc::{AllocError, Global};
@@ -29,7 +29,7 @@ pub struct Brain {
     alloc: Global,
     wish: u32,
     held: Held,
-    begun_board: Option<BegunBoard>,
+    session_board: Option<SessionBoard>,
     batch: BatchReader,
 }
 
@@ -40,9 +40,9 @@ impl Model for Brain {
 
     ghost Value = { State };
 
-    ghost view = { λ b. record { wish = b.wish; held = b.held; place = place_in b.begun_board; batch = b.batch } };
+    ghost view = { λ b. record { wish = b.wish; held = b.held; place = place_in b.session_board; batch = b.batch } };
 
-    ghost invariant = { λ b. IsBrain (record { wish = b.wish; held = b.held; place = place_in b.begun_board; batch = b.batch }) };
+    ghost invariant = { λ b. IsBrain (record { wish = b.wish; held = b.held; place = place_in b.session_board; batch = b.batch }) };
 }
 
 impl Brain {
@@ -60,7 +60,7 @@ impl Brain {
             alloc,
             wish: 0,
             held,
-            begun_board: None,
+            session_board: None,
             batch,
         })
     }
@@ -122,8 +122,8 @@ impl Brain {
     fn size(&self) -> Option<(u8, u8)>
         ensures size { result ≡ size_in self.now.place }
     {
-        match &self.begun_board {
-            Some(begun_board) => Some((begun_board.width(), begun_board.height())),
+        match &self.session_board {
+            Some(session_board) => Some((session_board.width(), session_board.height())),
             None => None,
         }
     }
@@ -132,8 +132,8 @@ impl Brain {
     fn point(&self, x: u32, y: u32) -> Option<Point>
         ensures point { IsPointOn (board_in self.now.place) (point_at x y) result }
     {
-        match &self.begun_board {
-            Some(begun_board) => begun_board.point(x, y),
+        match &self.session_board {
+            Some(session_board) => session_board.point(x, y),
             None => None,
         }
     }
@@ -159,7 +159,7 @@ impl Brain {
         if !is_side(width) || !is_side(height) {
             return Ok(error(ErrorText::UnsupportedSize));
         }
-        self.begun_board = Some(BegunBoard::fresh(self.alloc, width as u8, height as u8)?);
+        self.session_board = Some(SessionBoard::fresh(self.alloc, width as u8, height as u8)?);
         self.batch.end();
         Ok(Reaction::Says(Answer::Ok))
     }
@@ -169,11 +169,11 @@ impl Brain {
         ensures row { Takes (restart_row self.old self.old.place) self.old result self.new }
         ensures running { IsBrain self.new }
     {
-        let Some(begun_board) = &mut self.begun_board else {
+        let Some(session_board) = &mut self.session_board else {
             return error(ErrorText::NoBoard);
         };
         self.batch.end();
-        begun_board.clear()
+        session_board.clear()
     }
 
     /// BOARD: a batch is begun.
@@ -216,9 +216,9 @@ impl Brain {
             self.batch.end();
             return Ok(error(ErrorText::UnsupportedRule));
         };
-        match self.begun_from_batch(kind)? {
-            Some((begun_board, reaction)) => {
-                self.begun_board = Some(begun_board);
+        match self.board_from_batch(kind)? {
+            Some((session_board, reaction)) => {
+                self.session_board = Some(session_board);
                 self.batch.end();
                 Ok(reaction)
             }
@@ -229,18 +229,21 @@ impl Brain {
         }
     }
 
-    /// The begun board that begins from the position of the batch, with what the brain says, if there is one.
-    fn begun_from_batch(&self, kind: RuleKind) -> Result<Option<(BegunBoard, Reaction)>, AllocError>
+    /// The board with the game that begins from the position of the batch, and what the brain says, if there is one.
+    fn board_from_batch(
+        &self,
+        kind: RuleKind,
+    ) -> Result<Option<(SessionBoard, Reaction)>, AllocError>
         requires read { IsSome self.now.batch }
         ensures place { IfOk result (λ r. IfSome r (λ made. IsPlace self.now.held made.0)) }
         ensures begun { IfOk result (λ r. IfSome self.now.batch (λ b. IsBegun self.now.held (game_from kind (board_in self.now.place) b) r)) }
         ensures begins_none { begins_none self.now.batch ≡ true → IsOk result }
     {
-        let Some(begun_board) = &self.begun_board else {
+        let Some(session_board) = &self.session_board else {
             return Ok(None);
         };
-        let (width, height) = (begun_board.width(), begun_board.height());
-        BegunBoard::from_batch(self.alloc, &self.held, kind, width, height, &self.batch)
+        let (width, height) = (session_board.width(), session_board.height());
+        SessionBoard::from_batch(self.alloc, &self.held, kind, width, height, &self.batch)
     }
 
     /// BEGIN: the brain makes the first move on an empty board.
@@ -252,10 +255,10 @@ impl Brain {
         ensures unchanged { OnErr result (self.new ≡ self.old) }
         ensures running { IsBrain self.new }
     {
-        let Some(begun_board) = &mut self.begun_board else {
+        let Some(session_board) = &mut self.session_board else {
             return Ok(error(ErrorText::NoBoard));
         };
-        begun_board.begin(self.alloc, &self.held, rule_of(self.wish))
+        session_board.begin(self.alloc, &self.held, rule_of(self.wish))
     }
 
     /// TURN: the opponent's move.
@@ -268,10 +271,10 @@ impl Brain {
         ensures running { IsBrain self.new }
     {
         let at = self.point(x, y);
-        let Some(begun_board) = &mut self.begun_board else {
+        let Some(session_board) = &mut self.session_board else {
             return Ok(error(ErrorText::NoBoard));
         };
-        begun_board.turn(self.alloc, &self.held, rule_of(self.wish), at)
+        session_board.turn(self.alloc, &self.held, rule_of(self.wish), at)
     }
 
     /// TAKEBACK: the last move is taken back.
@@ -281,10 +284,10 @@ impl Brain {
         ensures running { IsBrain self.new }
     {
         let at = self.point(x, y);
-        let Some(begun_board) = &mut self.begun_board else {
+        let Some(session_board) = &mut self.session_board else {
             return error(ErrorText::NoBoard);
         };
-        begun_board.take_back(at)
+        session_board.take_back(at)
     }
 }
 

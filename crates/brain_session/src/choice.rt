@@ -15,7 +15,7 @@ ghost use Rattle.brain_session.specs.Running.{GoesOnAlong};
 ghost use Rattle.brain_session.specs.ChosenMoves.{chosen_anew, first_node, move_by, root_node as root_node_lem};
 ghost use Rattle.brain_session.specs.Kept.{IsInTable, NodeStandsAt, StandsAt, choice_of, followed_of, game_of, nodes_of};
 
-use crate::game::GameInPlay;
+use crate::game::SessionGame;
 use crate::guide::Guide;
 use crate::moves_on_board::MovesOnBoard;
 use crate::under_rule::own_win;
@@ -36,7 +36,7 @@ pub(crate) struct ChosenMove {
 pub(crate) fn choose(
     alloc: Global,
     held: &Held,
-    game: &GameInPlay,
+    game: &SessionGame,
     played: &mut MovesOnBoard,
 ) -> Result<ChosenMove, AllocError>
     requires along { GoesOnAlong game.now.kind played.old.start played.old.moves }
@@ -74,7 +74,7 @@ fn by_following(held: &Held, guide: Guide) -> ChosenMove
 }
 
 /// The node to which the first held root leads that leads to one.
-fn held_node(held: &Held, game: &GameInPlay, played: &mut MovesOnBoard) -> Option<u32>
+fn held_node(held: &Held, game: &SessionGame, played: &mut MovesOnBoard) -> Option<u32>
     ensures node { result ≡ first_node (game_of played.old game.now) held.now.roots }
     ensures held { IsHeld held.now }
     ensures same { played.new ≡ played.old }
@@ -89,7 +89,7 @@ fn held_node(held: &Held, game: &GameInPlay, played: &mut MovesOnBoard) -> Optio
 
 /// The node to which held root `i` leads: under the rule of the game, the root at the board now, or the answer of the start at the
 /// board before the last move.
-fn root_node(held: &Held, i: u32, game: &GameInPlay, played: &mut MovesOnBoard) -> Option<u32>
+fn root_node(held: &Held, i: u32, game: &SessionGame, played: &mut MovesOnBoard) -> Option<u32>
     requires held { i < length held.now.roots }
     ensures node { result ≡ option_and_then (root_node_lem (game_of played.old game.now)) (slice_get held.now.roots i) }
     ensures same { played.new ≡ played.old }

@@ -28,19 +28,19 @@ use strategy_checker::Held;
 
 /// The rule of a game, the brain's colour, whether the game is ended, and what the brain follows, if anything.
 #[derive(Drop)]
-pub(crate) struct GameInPlay {
+pub(crate) struct SessionGame {
     pub(crate) kind: RuleKind,
     pub(crate) brain: Side,
     pub(crate) ended: bool,
     pub(crate) guide: Option<Guide>,
 }
 
-impl GameInPlay {
+impl SessionGame {
     /// A game in which nothing is followed yet.
-    pub(crate) fn new(kind: RuleKind, brain: Side) -> GameInPlay
+    pub(crate) fn new(kind: RuleKind, brain: Side) -> SessionGame
         ensures begun { result ≡ record { kind = kind; brain = brain; ended = false; guide = None } }
     {
-        GameInPlay {
+        SessionGame {
             kind,
             brain,
             ended: false,
@@ -164,9 +164,9 @@ impl GameInPlay {
         if let Some(at) = self.follow(held, played) {
             return Ok(at);
         }
-        let picked = choose(alloc, held, self, played)?;
-        self.guide = picked.guide;
-        Ok(picked.at)
+        let found = choose(alloc, held, self, played)?;
+        self.guide = found.guide;
+        Ok(found.at)
     }
 
     /// The move by what was followed before the opponent's last move, if anything was and goes on after it.

@@ -6,7 +6,6 @@
 #![tactic(auto)]
 
 mod batch;
-mod begun_board;
 mod brain;
 mod choice;
 mod game;
@@ -15,6 +14,7 @@ mod laws;
 mod moves_on_board;
 mod own_win;
 mod plain_move;
+mod session_board;
 mod sessions;
 mod under_rule;
 

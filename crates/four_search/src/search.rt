@@ -39,7 +39,7 @@ pub(crate) struct Limits {
     pub(crate) budget: u64,
 }
 
-/// A four, and the one block that answers it.
+/// A four, and a five point that it makes, where the defender may reply.
 #[derive(Clone, Copy)]
 pub(crate) struct Exchange {
     pub(crate) four: Point,
@@ -58,8 +58,8 @@ pub(crate) enum Found {
     Spent,
 }
 
-/// Searches a win by fours within so many moves, at least 1, with at most `budget` positions. The first position is looked at
-/// already. The view is as before, also where memory ran out.
+/// Searches a win by fours within so many moves, at least 1, looking at no more positions than the budget. The first position is
+/// looked at already. The view is as before, also where memory ran out.
 pub(crate) fn search<R: Rule, V: Seen<R>>(
     view: &mut V,
     root: &Root,

@@ -1,4 +1,4 @@
--- DoubleThreat threats: a move after which the attacker has two five points and the defender none.
+-- Double threats: a move after which the attacker has two five points and the defender none.
 use Rattle.std.specs.Prelude.{◌≡◌, ℕ, false, true, List}
 use Rattle.game_rules.specs.Grid.{Grid}
 use Rattle.game_rules.specs.Shapes.{five, is_same_point}

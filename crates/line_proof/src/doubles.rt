@@ -1,4 +1,4 @@
-//! DoubleThreat threats: moves after which the attacker has two five points and the defender none, which win in two moves.
+//! Double threats: moves after which the attacker has two five points and the defender none, which win in two moves.
 //!
 //! After a three of the attacker most replies leave it one and the same double threat. Its node plays the same move and takes
 //! the same two points wherever it wins, so it is compiled once, and each further reply is only tested: whether the move goes
@@ -22,7 +22,7 @@ use std::alloc::{AllocError, Global};
 use stone_board::{Board, Point};
 use strategy_compiler::{Compiler, WrittenWin};
 
-/// Two points.
+/// Two five points of one side.
 #[derive(Clone, Copy)]
 pub(crate) struct TwoFives {
     pub(crate) first: Point,

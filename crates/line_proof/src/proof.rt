@@ -40,19 +40,19 @@ pub enum LineAnswer {
 
 /// What is left of a line: the threats whose gains are still to come, within so many moves of the attacker.
 #[derive(Clone, Copy)]
-struct Line<'a> {
+struct LineLeft<'a> {
     /// Where its answers take memory.
     alloc: Global,
     threats: &'a [Threat],
     moves: u32,
 }
 
-/// What won after an earlier reply, or may do so: it is tried before a search.
+/// What may win after a reply, tried before a search.
 #[derive(Clone, Copy)]
 struct Hints {
     /// A five point that the attacker had before the replies.
     five: Option<Point>,
-    /// A double threat that was compiled.
+    /// A double threat that won after an earlier reply, compiled.
     double: Option<DoubleThreat>,
 }
 
@@ -84,7 +84,7 @@ pub fn prove_line<R: Rule, V: Seen<R>>(
 {
     // This tells what holds of every compiler.
     compiler.len();
-    let whole = Line {
+    let whole = LineLeft {
         alloc,
         threats: sequence.as_slice(),
         moves: depth,
@@ -96,7 +96,7 @@ pub fn prove_line<R: Rule, V: Seen<R>>(
 #[cycle(line)]
 fn prove<R: Rule, V: Seen<R>>(
     view: &mut V,
-    line: Line,
+    line: LineLeft,
     compiler: &mut Compiler,
 ) -> Result<LineAnswer, SearchError>
     requires fits { line.moves ≤ MAX_DEPTH }
@@ -112,7 +112,7 @@ fn prove<R: Rule, V: Seen<R>>(
     if let Some(win) = quick_win::<R, V>(line.alloc, view, line.moves, compiler)? {
         return Ok(LineAnswer::Proved(win));
     }
-    let later = Line {
+    let later = LineLeft {
         moves: line.moves - 1,
         ..line
     };
@@ -165,7 +165,7 @@ fn block<R: Rule, V: Seen<R>>(alloc: Global, view: &V) -> Result<Option<Point>, 
 #[cycle(line)]
 fn prove_gain<R: Rule, V: Seen<R>>(
     view: &mut V,
-    line: Line,
+    line: LineLeft,
     compiler: &mut Compiler,
 ) -> Result<LineAnswer, SearchError>
     requires fits { line.moves < MAX_DEPTH }
@@ -181,7 +181,7 @@ fn prove_gain<R: Rule, V: Seen<R>>(
     match line.threats.split_first() {
         None => Ok(LineAnswer::Fails),
         Some((threat, threats)) => {
-            let later = Line { threats, ..line };
+            let later = LineLeft { threats, ..line };
             prove_move::<R, V>(view, threat.gain, later, compiler)
         }
     }
@@ -192,7 +192,7 @@ fn prove_gain<R: Rule, V: Seen<R>>(
 fn prove_move<R: Rule, V: Seen<R>>(
     view: &mut V,
     p: Point,
-    line: Line,
+    line: LineLeft,
     compiler: &mut Compiler,
 ) -> Result<LineAnswer, SearchError>
     requires fits { line.moves < MAX_DEPTH }
@@ -216,7 +216,7 @@ fn prove_move<R: Rule, V: Seen<R>>(
 fn prove_on<R: Rule, V: Seen<R>>(
     view: &mut V,
     p: Point,
-    line: Line,
+    line: LineLeft,
     compiler: &mut Compiler,
 ) -> Result<LineAnswer, SearchError>
     requires fits { line.moves < MAX_DEPTH }
@@ -243,7 +243,7 @@ fn prove_on<R: Rule, V: Seen<R>>(
 #[cycle(line)]
 fn answer_each<R: Rule, V: Seen<R>>(
     view: &mut V,
-    line: Line,
+    line: LineLeft,
     compiler: &mut Compiler,
 ) -> Result<Option<Answering>, SearchError>
     requires fits { line.moves < MAX_DEPTH }
@@ -279,7 +279,7 @@ fn answer_each<R: Rule, V: Seen<R>>(
 fn answer_reply<R: Rule, V: Seen<R>>(
     view: &mut V,
     q: Point,
-    line: Line,
+    line: LineLeft,
     hints: &mut Hints,
     answers: &mut Answering,
     compiler: &mut Compiler,
@@ -321,7 +321,7 @@ fn answer_reply<R: Rule, V: Seen<R>>(
 fn prove_after<R: Rule, V: Seen<R>>(
     view: &mut V,
     q: Point,
-    line: Line,
+    line: LineLeft,
     hints: &mut Hints,
     compiler: &mut Compiler,
 ) -> Result<LineAnswer, SearchError>
@@ -346,7 +346,7 @@ fn prove_after<R: Rule, V: Seen<R>>(
 #[cycle(line)]
 fn prove_reply<R: Rule, V: Seen<R>>(
     view: &mut V,
-    line: Line,
+    line: LineLeft,
     hints: &mut Hints,
     compiler: &mut Compiler,
 ) -> Result<LineAnswer, SearchError>
@@ -372,7 +372,7 @@ fn prove_reply<R: Rule, V: Seen<R>>(
 #[cycle(line)]
 fn prove_double<R: Rule, V: Seen<R>>(
     view: &mut V,
-    line: Line,
+    line: LineLeft,
     hints: &mut Hints,
     compiler: &mut Compiler,
 ) -> Result<LineAnswer, SearchError>

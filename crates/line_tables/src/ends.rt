@@ -64,7 +64,7 @@ pub(crate) fn after_undo<R: Rule>(
     set_ends(own, codes, side, p);
 }
 
-/// Tells the ends of the runs through a point of which a stone of the side came or went.
+/// Sets the ends of the runs through a point of which a stone of the side came or went.
 fn set_ends<R: Rule>(fives: &mut FiveList, codes: &LineCodes<R>, side: Side, p: Point)
     requires on { IsTrue (is_on codes.now p) }
     requires told { TellsButEnds R.KIND codes.now side p 0 fives.old.points.items (vec_capacity fives.old.points) }
@@ -80,7 +80,7 @@ fn set_ends<R: Rule>(fives: &mut FiveList, codes: &LineCodes<R>, side: Side, p: 
     set_end(fives, codes, side, Axis::Up, Way::Behind, p);
 }
 
-/// Tells the first point in that way that holds no stone of the side, where those before it are right.
+/// Sets the first point in that way that holds no stone of the side, where those before it are right.
 fn set_end<R: Rule>(
     fives: &mut FiveList,
     codes: &LineCodes<R>,

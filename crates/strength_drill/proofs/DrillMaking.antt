@@ -13,7 +13,7 @@ use Rattle.game_rules.specs.declared.Outcome.TheVariants.{GoesOn}
 use Rattle.game_rules.specs.declared.Point.{Point}
 use Rattle.game_rules.proofs.Positions.{IsPosition-after}
 use Rattle.brain_session.specs.States.{empty_board}
-use Rattle.brain_session.proofs.BegunBoards.{empty-lawful}
+use Rattle.brain_session.proofs.SessionBoards.{empty-lawful}
 use Rattle.strength_drill.specs.declared.positions.TheConstants.{SIDE, MOST_STONES}
 use Rattle.strength_drill.specs.Draws.{next_number, number_after, draw_at, middle_point, all_stones, with_point, board_drawn}
 

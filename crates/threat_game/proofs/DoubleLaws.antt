@@ -1,4 +1,4 @@
--- DoublePoint points: the two five points that a stone leaves, and the win that they are. A double point is a double threat, whatever the
+-- Double points: the two five points that a stone leaves, and the win that they are. A double point is a double threat, whatever the
 -- reply,
 -- and its node a win by threats. Where no point makes two five points, a stone makes double points only on the lines through it: in the
 -- runs of any other point it plays no part.

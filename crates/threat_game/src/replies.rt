@@ -202,7 +202,7 @@ fn is_same_double(d: DoublePoint, e: DoublePoint) -> bool
     d.at.is(e.at) && d.first.is(e.first) && d.second.is(e.second)
 }
 
-/// DoublePoint points of the side, if it has no five point. It has so many.
+/// Double points of the side, if it has no five point. It has so many.
 fn doubles_for<R: Rule>(
     alloc: Global,
     board: &mut Board,
@@ -221,7 +221,7 @@ fn doubles_for<R: Rule>(
 
 /// What is known before the replies.
 #[derive(Clone, Copy)]
-struct Known<'a> {
+struct BeforeReplies<'a> {
     /// Whether it is known that each move on an empty point goes on.
     free: bool,
     /// The five points of the attacker.
@@ -253,7 +253,7 @@ fn each_reply<R: Rule, V: Seen<R>>(
     ensures same_board { board.new ≡ board.old }
 {
     let mut all = Vec::new(alloc);
-    let known = Known {
+    let known = BeforeReplies {
         free: each_goes_on::<R, V>(view),
         fives,
         doubles,
@@ -284,7 +284,7 @@ fn judge<R: Rule, V: Seen<R>>(
     alloc: Global,
     view: &mut V,
     board: &mut Board,
-    known: Known,
+    known: BeforeReplies,
     q: Point,
     moves: u32,
 ) -> Result<Judgement, AllocError>

@@ -17,8 +17,8 @@ use Rattle.position_table.proofs.Remembering.{value_under-kept, looked_up-before
 use Rattle.threat_moves.specs.declared.threat_list.Threat.{Threat}
 use Rattle.threat_moves.specs.Threats.{threats_of}
 use Rattle.threat_moves.proofs.ThreatLists.{last_added, Final, Lists, after_path}
-use Rattle.threat_space.specs.declared.walk.ListSearch.{ListSearch}
-use Rattle.threat_space.specs.declared.walk.ListSearch.TheVariants.{NoSequence, Spent}
+use Rattle.threat_space.specs.declared.walk.FoundInLists.{FoundInLists}
+use Rattle.threat_space.specs.declared.walk.FoundInLists.TheVariants.{NoSequence, Spent}
 use Rattle.threat_space.specs.Sequences.{with_stone, with_stones, played, played_all, lists_from, lists_of, final_of, is_final_point}
 use Rattle.threat_space.specs.Sequences.{all_needed, is_sequence}
 use Rattle.threat_space.specs.Looking.{found_or, looked, looked_on}
@@ -26,7 +26,7 @@ use Rattle.threat_space.specs.Lines.{HasFarPairs, HasPairsAfter, EndsNear}
 use Rattle.threat_space.specs.Barren.{EndsAlike, IsNearAfter, HasNoFinal, passed, AreBarren, IsBarren}
 use Rattle.threat_space.specs.Barren.{BarrenMemory, IsBarrenEntry, IsTrueBarrenMemory}
 use Rattle.threat_space.proofs.FarFinals.{ends-near}
-use Rattle.threat_space.proofs.ListSearch.{from_threats, threat-next, lists-more, played-more}
+use Rattle.threat_space.proofs.FoundInLists.{from_threats, threat-next, lists-more, played-more}
 
 -- ---- counts
 
@@ -200,7 +200,7 @@ module _ (rule : RuleKind) (s : Side) (b : Grid) where
         let after : played b s t ≡ played_all start s (us ++ t ∷ []) =
         ap (λ (w : Grid). played w s t) leads ∙ sym (played-more start s us t) in
         threat-next final us lists s b budget i ts t low at
-        ∙ ap (λ (x : ListSearch). looked_on x (λ m. from_threats final us lists s b m (drop (i + 1) ts)))
+        ∙ ap (λ (x : FoundInLists). looked_on x (λ m. from_threats final us lists s b m (drop (i + 1) ts)))
         (one.passes start (us ++ t ∷ []) (alike-added path us longer t is) after budget)
         ∙ ap (looked_on (passed one.count budget)) (λ j m. rest.passes start us alike leads m j)
         ∙ passed-both one.count rest.count budget;
@@ -219,7 +219,7 @@ module _ (rule : RuleKind) (s : Side) (b : Grid) where
   barren-found ts more count h = record { count = count; passes = λ start us alike is budget. h start us is budget }
 
   -- and lists that are barren may be remembered, with what of the budget is gone
-  pub barren-kept : (start : Grid) (path : List Threat) (more budget left : ℕ) (found : ListSearch) → b ≡ played_all start s path
+  pub barren-kept : (start : Grid) (path : List Threat) (more budget left : ℕ) (found : FoundInLists) → b ≡ played_all start s path
       → AreBarren rule s b [] (lists_of rule s more b)
       → found ≡ looked (final_of rule s start) budget (after_path path (lists_of rule s more b)) → found ≡ NoSequence left
       → (left ≤ budget) × IsBarren rule s b more (budget - left)

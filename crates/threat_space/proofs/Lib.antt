@@ -3,6 +3,6 @@
 -- final points that are on no line with the last gain
 mod FarFinals
 -- the lists that a search looks at
-mod ListSearch
+mod FoundInLists
 -- lists that have no final point wherever they began
 mod BarrenLists

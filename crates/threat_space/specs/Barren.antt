@@ -8,8 +8,8 @@ use Rattle.game_rules.specs.declared.Point.{Point}
 use Rattle.position_table.specs.Packing.{Packed, packed}
 use Rattle.position_table.specs.Lateness.{Late}
 use Rattle.threat_moves.specs.declared.threat_list.Threat.{Threat}
-use Rattle.threat_space.specs.declared.walk.ListSearch.{ListSearch}
-use Rattle.threat_space.specs.declared.walk.ListSearch.TheVariants.{NoSequence, Spent}
+use Rattle.threat_space.specs.declared.walk.FoundInLists.{FoundInLists}
+use Rattle.threat_space.specs.declared.walk.FoundInLists.TheVariants.{NoSequence, Spent}
 use Rattle.threat_space.specs.Sequences.{final_of, is_sequence, lists_of, played_all}
 use Rattle.threat_space.specs.Looking.{looked}
 use Rattle.threat_space.specs.Lines.{EndsNear}
@@ -44,7 +44,7 @@ HasNoFinal rule s b ts = (start : Grid) (us : List Threat) → EndsAlike ts us �
 -- ---- lists without a sequence among them
 
 -- what is found where n lists are looked at, and none of them has a final point
-abbrev pub passed : ℕ → ℕ → ListSearch
+abbrev pub passed : ℕ → ℕ → FoundInLists
 passed n budget = if nat_le n budget then NoSequence (budget - n) else Spent
 
 -- so many lists of threats go on from b, and none of them has a final point, wherever a list began that leads to b and ends as this one

@@ -9,7 +9,7 @@ ghost use Rattle.threat_space.specs.declared.TheConstants.{MAX_LENGTH};
 ghost use Rattle.threat_space.specs.Sequences.{space_answer};
 
 use crate::barren::BarrenBoards;
-use crate::walk::{ListSearch, Origin, ToCome, Trail, walk};
+use crate::walk::{FoundInLists, Origin, ToCome, Trail, walk};
 use row_shapes::Rule;
 use std::alloc::{AllocError, Global};
 use stone_board::{Board, Point, Side};
@@ -64,14 +64,16 @@ pub fn threat_space<R: Rule>(
         let walked = walk::<R>(&origin, board, &to_come, &mut trail, left)?;
         let found = walked.found;
         match found {
-            ListSearch::Sequence(threats, last) => return Ok(SpaceAnswer::Sequence(threats, last)),
-            ListSearch::NoSequence(rest) => {
+            FoundInLists::Sequence(threats, last) => return Ok(SpaceAnswer::Sequence(
+                threats, last,
+            )),
+            FoundInLists::NoSequence(rest) => {
                 if rest == left {
                     return Ok(SpaceAnswer::None);
                 }
                 left = rest;
             }
-            ListSearch::Spent => return Ok(SpaceAnswer::Spent),
+            FoundInLists::Spent => return Ok(SpaceAnswer::Spent),
         }
     }
     Ok(SpaceAnswer::None)

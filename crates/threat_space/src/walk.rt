@@ -12,7 +12,7 @@ ghost use Rattle.threat_space.specs.Sequences.{played_all, final_of as final_of_
 ghost use Rattle.threat_space.specs.Lines.{HasPairsAfter, HasPairsOf};
 ghost use Rattle.threat_space.specs.Looking.{looked};
 ghost use Rattle.threat_space.specs.Barren.{AreBarren, IsBarren, passed as passed_lem};
-ghost use Rattle.threat_space.specs.declared.walk.ListSearch.TheVariants.{NoSequence};
+ghost use Rattle.threat_space.specs.declared.walk.FoundInLists.TheVariants.{NoSequence};
 
 use crate::barren::BarrenBoards;
 use crate::boards::played;
@@ -25,7 +25,7 @@ use threat_moves::{Threat, Threats, threats_at};
 
 /// What is found among some lists, with what is left of the budget.
 #[derive(Drop)]
-pub(crate) enum ListSearch {
+pub(crate) enum FoundInLists {
     /// The first sequence among them: its threats, and its final point.
     Sequence(Threats, Point),
     /// None of them is one; so much of the budget is left.
@@ -38,7 +38,7 @@ pub(crate) enum ListSearch {
 #[derive(Drop)]
 pub(crate) struct Walked {
     /// What is found among them.
-    pub(crate) found: ListSearch,
+    pub(crate) found: FoundInLists,
     /// True only where none of them has a final point, wherever they began.
     pub(crate) barren: bool,
 }
@@ -178,19 +178,19 @@ fn remember<R: Rule>(
     if !walked.barren {
         return;
     }
-    if let ListSearch::NoSequence(left) = &walked.found {
+    if let FoundInLists::NoSequence(left) = &walked.found {
         let _ = memory.keep(board, more, budget - *left);
     }
 }
 
 /// What is found where so many lists are looked at within this budget, and none of them has a final point.
-fn passed(count: u64, budget: u64) -> ListSearch
+fn passed(count: u64, budget: u64) -> FoundInLists
     ensures passed { result ≡ passed_lem count budget }
 {
     if count <= budget {
-        return ListSearch::NoSequence(budget - count);
+        return FoundInLists::NoSequence(budget - count);
     }
-    ListSearch::Spent
+    FoundInLists::Spent
 }
 
 /// Looks at the lists that begin with those of the path, go on with one of these threats, and then with so many more. Where these
@@ -225,7 +225,7 @@ fn walk_from<R: Rule>(
         trail.path.drop_last();
         barren &= walked.barren;
         match walked.found {
-            ListSearch::NoSequence(rest) => left = rest,
+            FoundInLists::NoSequence(rest) => left = rest,
             found => {
                 return Ok(Walked {
                     found,
@@ -235,7 +235,7 @@ fn walk_from<R: Rule>(
         }
     }
     Ok(Walked {
-        found: ListSearch::NoSequence(left),
+        found: FoundInLists::NoSequence(left),
         barren,
     })
 }
@@ -264,18 +264,18 @@ fn look_at<R: Rule>(
 {
     if budget == 0 {
         return Ok(Walked {
-            found: ListSearch::Spent,
+            found: FoundInLists::Spent,
             barren: false,
         });
     }
     let finals = finals_of::<R>(origin.start, board, origin.side, path.as_slice(), far)?;
     match finals.least {
         Some(last) => Ok(Walked {
-            found: ListSearch::Sequence(path.copy(origin.alloc)?, last),
+            found: FoundInLists::Sequence(path.copy(origin.alloc)?, last),
             barren: false,
         }),
         None => Ok(Walked {
-            found: ListSearch::NoSequence(budget - 1),
+            found: FoundInLists::NoSequence(budget - 1),
             barren: finals.barren,
         }),
     }

@@ -7,12 +7,12 @@ use Rattle.brain_session.specs.ChosenMoves.{Choice, plain_move}
 use Rattle.brain_session.specs.Kept.{Moves, game_of}
 use Rattle.brain_session.specs.declared.guide.Guide.TheVariants.{HeldNode as HeldGuide, OwnWin as OwnGuide}
 use Rattle.brain_session.specs.States.{board_of}
-use Rattle.brain_session.proofs.GamesInPlay.{along-lawful}
+use Rattle.brain_session.proofs.SessionGames.{along-lawful}
 use Rattle.brain_session.proofs.HeldNodes.{first-accepted}
 use Rattle.brain_session.proofs.LegalMoves.{plain-is_empty}
 use Rattle.brain_session.proofs.Guiding.{node-legal}
 use Rattle.brain_session.proofs.OwnWins.{own_table-stands, own_table-moves}
-use Rattle.brain_session.proofs.Choosing.{chosen-held, chosen-own, chosen-plain, picked-chosen, picked-stands, found-own, found-nothing}
+use Rattle.brain_session.proofs.Choosing.{chosen-held, chosen-own, chosen-plain, move-chosen, move-stands, found-own, found-nothing}
 use Rattle.brain_session.proofs.choice.choose.Goals as goal
 
 -- a held root leads to a node
@@ -30,7 +30,7 @@ returns-in-Some-clause-chosen c =
     let h = c.args.held.now in
     let g = game_of c.args.played.now c.args.game.now in
     let stands = first-accepted h c.held_node.ensures.held g c.requires.along c.in-Some.node (sym c.in-Some.ensures.node) in
-    picked-chosen h g c.by_following.result _ c.by_following.ensures.guide
+    move-chosen h g c.by_following.result _ c.by_following.ensures.guide
     (chosen-held h g c.in-Some.node c.by_following.result.at (sym c.in-Some.ensures.node)
     (c.by_following.ensures.follows g.rule (board_of g) stands))
 
@@ -39,7 +39,7 @@ returns-in-Some-clause-stands c =
     let h = c.args.held.now in
     let g = game_of c.args.played.now c.args.game.now in
     let stands = first-accepted h c.held_node.ensures.held g c.requires.along c.in-Some.node (sym c.in-Some.ensures.node) in
-    picked-stands h g c.by_following.result _ c.by_following.ensures.guide g.rule (board_of g) c.by_following.ensures.table stands
+    move-stands h g c.by_following.result _ c.by_following.ensures.guide g.rule (board_of g) c.by_following.ensures.table stands
 
 pub returns-in-Some-clause-empty : goal.returns-in-Some-clause-empty
 returns-in-Some-clause-empty c =
@@ -80,7 +80,7 @@ returns-in-Some-2-clause-chosen c =
     let is = found-own g.rule (board_of g) c.board.result.now c.in_ok-own.field-0 c.in-Some-2.own c.in-Some-2.is same
     c.in_ok-own.ensures.found in
     let stands = own_table-stands g.rule (board_of g) c.in-Some-2.own is in
-    picked-chosen h g c.by_following-in-Some-2.result _ c.by_following-in-Some-2.ensures.guide
+    move-chosen h g c.by_following-in-Some-2.result _ c.by_following-in-Some-2.ensures.guide
     (chosen-own h g c.in-Some-2.own.moves c.by_following-in-Some-2.result.at (sym c.held_node.ensures.node ∙ c.in_default.is) is.fewest
     (c.by_following-in-Some-2.ensures.follows g.rule (board_of g) stands))
 
@@ -91,7 +91,7 @@ returns-in-Some-2-clause-stands c =
     let g = game_of c.args.played.now c.args.game.now in
     let is = found-own g.rule (board_of g) c.board.result.now c.in_ok-own.field-0 c.in-Some-2.own c.in-Some-2.is same
     c.in_ok-own.ensures.found in
-    picked-stands h g c.by_following-in-Some-2.result _ c.by_following-in-Some-2.ensures.guide g.rule (board_of g)
+    move-stands h g c.by_following-in-Some-2.result _ c.by_following-in-Some-2.ensures.guide g.rule (board_of g)
     c.by_following-in-Some-2.ensures.table (own_table-stands g.rule (board_of g) c.in-Some-2.own is)
 
 pub returns-in-Some-2-clause-empty : goal.returns-in-Some-2-clause-empty

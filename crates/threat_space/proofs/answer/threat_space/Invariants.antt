@@ -1,6 +1,6 @@
 use Rattle.std.proofs.Common.{◌≡◌, ◌+◌, ◌-◌, []}
 use Rattle.threat_space.specs.Sequences.{final_of}
-use Rattle.threat_space.proofs.ListSearch.{from_length}
+use Rattle.threat_space.proofs.FoundInLists.{from_length}
 use Rattle.threat_space.proofs.answer.threat_space.Given as goal
 
 -- the board is as before, the path empty, and what is remembered is of the side; what is found with the lengths left is what is found with

@@ -13,8 +13,8 @@ use Rattle.threat_space.specs.Looking.{looked}
 use Rattle.threat_space.specs.Barren.{AreBarren, IsBarren, BarrenMemory}
 use Rattle.threat_space.proofs.FarFinals.{pairs-after}
 use Rattle.threat_space.proofs.BarrenLists.{barren-all, barren-any, barren-found, barren-kept, barren-next, barren-none}
-use Rattle.threat_space.proofs.ListSearch.{from_threats, from_threat, lists-none, lists-zero, played-more, threats-all, threat-goes_on}
-use Rattle.threat_space.proofs.ListSearch.{threat-ends}
+use Rattle.threat_space.proofs.FoundInLists.{from_threats, from_threat, lists-none, lists-zero, played-more, threats-all, threat-goes_on}
+use Rattle.threat_space.proofs.FoundInLists.{threat-ends}
 use Rattle.threat_space.proofs.walk.+walk.Goals as goal
 
 pub walk-returns-then-to_come-eq0-clause-looked : goal.walk-returns-then-to_come-eq0-clause-looked

@@ -2,7 +2,7 @@ use Rattle.std.proofs.Common.{◌≡◌, ◌++◌, List, false, ap, sym, ◌∙�
 use Rattle.game_rules.specs.Grid.{Grid, is_empty}
 use Rattle.threat_moves.specs.declared.threat_list.Threat.{Threat}
 use Rattle.threat_moves.specs.Threats.{threats_at}
-use Rattle.threat_space.proofs.ListSearch.{more-threats, taken-none}
+use Rattle.threat_space.proofs.FoundInLists.{more-threats, taken-none}
 use Rattle.threat_space.proofs.walk.all_threats.Goals as goal
 
 -- the threats of one gain more

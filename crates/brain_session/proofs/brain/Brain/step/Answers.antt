@@ -18,7 +18,7 @@ returns-then-is_spoiled_by-clause-next c =
     let s : State = record {
       wish = c.self.inside.wish;
       held = c.self.inside.held;
-      place = place_in c.self.inside.begun_board;
+      place = place_in c.self.inside.session_board;
       batch = c.self.inside.batch;
     } in
     let view : s ≡ c.args.self.now = c.self.view_is in

@@ -11,7 +11,7 @@ add-requires-clause-room c =
     let s : State = record {
       wish = c.self.inside.wish;
       held = c.self.inside.held;
-      place = place_in c.self.inside.begun_board;
+      place = place_in c.self.inside.session_board;
       batch = c.self.inside.batch;
     } in
     let view : s ≡ c.args.self.now = c.self.view_is in
@@ -23,7 +23,7 @@ invariant_of-self c =
     let s : State = record {
       wish = c.self.inside.wish;
       held = c.self.inside.held;
-      place = place_in c.self.inside.begun_board;
+      place = place_in c.self.inside.session_board;
       batch = c.self.inside.batch;
     } in
     let view : s ≡ c.args.self.now = c.self.view_is in
@@ -36,7 +36,7 @@ returns-clause-running c =
     let s : State = record {
       wish = c.self.inside.wish;
       held = c.self.inside.held;
-      place = place_in c.self.inside.begun_board;
+      place = place_in c.self.inside.session_board;
       batch = c.self.inside.batch;
     } in
     let view : s ≡ c.args.self.now = c.self.view_is in

@@ -1,0 +1,24 @@
+use Rattle.std.proofs.Common.{◌≡◌, false, ap, sym, subst, ◌∙◌}
+use Rattle.std.specs.Prelude.{Option}
+use Rattle.game_rules.specs.declared.Point.{Point}
+use Rattle.gomocup_text.specs.declared.Answer.TheVariants.{Error}
+use Rattle.gomocup_text.specs.declared.ErrorText.TheVariants.{BadMove}
+use Rattle.brain_session.specs.declared.Reaction.TheVariants.{Says}
+use Rattle.brain_session.specs.States.{Place}
+use Rattle.brain_session.specs.ChosenMoves.{last_move}
+use Rattle.brain_session.specs.Steps.{board_in, placed, takeback_row}
+use Rattle.brain_session.specs.Running.{IsPlace}
+use Rattle.brain_session.specs.Kept.{IsPointOn, Takes, are_one, place_of}
+use Rattle.brain_session.proofs.SessionBoards.{takeback-bad}
+use Rattle.brain_session.proofs.session_board.SessionBoard.take_back.Goals as goal
+
+pub returns-then-not-are_one-clause-row : goal.returns-then-not-are_one-clause-row
+returns-then-not-are_one-clause-row c = λ s p here unread place point.
+    let m = c.self.inside.played in
+    let o = c.self.inside.game in
+    let view : place_of m o ≡ c.args.self.now = c.self.view_is in
+    let e : are_one (last_move m.moves) c.args.at ≡ false =
+    ap (λ (x : Option Point). are_one x c.args.at) (sym c.last.ensures.last) ∙ sym c.are_one.ensures.one ∙ c.if-not-are_one.true in
+    subst (λ (w : Place). s.place ≡ w → IsPlace s.held w → IsPointOn (board_in w) p c.args.at
+    → Takes (takeback_row s w p) s (Says (Error BadMove)) (placed s w)) view
+    (λ a b d. takeback-bad m o s p c.args.at a unread b d e) here place point
