@@ -102,4 +102,3 @@ pub enum ErrorText {
     /// The board is full.
     GameDrawn,
 }
-
