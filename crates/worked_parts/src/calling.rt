@@ -19,8 +19,6 @@ ghost use Rattle.table_book.specs.Holding.{IsAccepted};
 ghost use Rattle.game_referee.specs.Verdicts.{verdict};
 ghost use Rattle.game_referee.specs.declared.GameVerdict.TheVariants.{Won};
 
-#[cfg(test)]
-use crate::TWO_ENTRIES;
 // The boards and positions that the tests begin with.
 #[cfg(test)]
 use crate::positions::{board_with, position_of, position_with};
@@ -291,6 +289,10 @@ fn accepted_book(alloc: Global, bytes: &[u8], work: u64) -> Result<Option<Book>,
         Err(_) => Ok(None),
     }
 }
+
+/// A book of two entries that share two nodes: a win in two moves, and one that begins with the opponent's move.
+pub const TWO_ENTRIES: &str =
+    "renju-book 1\nnodes 3\n3,7 wins\n8,7 wins\n4,7 rest 0 3,7>1\nentries 2\nrule freestyle\nsize 15\nblack 5,7 6,7 7,7\nwhite 0,0 2,0 4,0\nmoves 2\nroot 2\nrule freestyle\nsize 15\nblack 4,7 5,7 6,7 7,7\nwhite 0,0 2,0 4,0\nmoves 1\nstart rest 1 8,7>0\n";
 
 #[test]
 fn both_entries_of_a_book_are_accepted(rt: HostRuntime) -> Result<(), Fail> {

@@ -22,6 +22,4 @@ mod positions;
 #[cfg(test)]
 mod sessions;
 
-/// A book of two entries that share two nodes: a win in two moves, and one that begins with the opponent's move.
-pub const TWO_ENTRIES: &str =
-    "renju-book 1\nnodes 3\n3,7 wins\n8,7 wins\n4,7 rest 0 3,7>1\nentries 2\nrule freestyle\nsize 15\nblack 5,7 6,7 7,7\nwhite 0,0 2,0 4,0\nmoves 2\nroot 2\nrule freestyle\nsize 15\nblack 4,7 5,7 6,7 7,7\nwhite 0,0 2,0 4,0\nmoves 1\nstart rest 1 8,7>0\n";
+pub use calling::TWO_ENTRIES;

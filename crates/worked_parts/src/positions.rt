@@ -45,8 +45,11 @@ pub fn position_with<R: Rule>(
     lawful(board_with(alloc, black, white)?)
 }
 
-/// The position of the text.
+/// The position of the text, which has to be of this rule.
 pub fn position_of<R: Rule>(alloc: Global, text: &[u8]) -> Result<Position<R>, Fail> {
     let file = read_position(alloc, text)?;
+    if file.kind != R::KIND {
+        return Err(Fail::from("the text is of another rule"));
+    }
     lawful(file.board)
 }
