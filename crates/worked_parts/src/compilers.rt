@@ -163,16 +163,11 @@ fn rest_and_listed(table: &Table) -> Option<(u8, usize)> {
     Some((table.node(rest).attack.x, listed))
 }
 
-/// The same of the table of a node whose answers are by these numbers of winning nodes.
-fn compiled_by(
-    rt: &impl Abort,
-    alloc: Global,
-    numbers: &[u32],
-) -> Result<Option<(u8, usize)>, Fail> {
+/// The table of a node whose answers are by these numbers of winning nodes.
+fn compiled_by(rt: &impl Abort, alloc: Global, numbers: &[u32]) -> Result<Table, Fail> {
     let mut compiler = with_wins(alloc, 3)?;
     let root = put_by(rt, alloc, &mut compiler, point(7, 7), numbers)?;
-    let table = finished(rt, compiler, root)?;
-    Ok(rest_and_listed(&table))
+    Ok(finished(rt, compiler, root)?)
 }
 
 /// A compiler with the wins at 3,7 and at 8,7, and with node 2, which plays 4,7, answers 3,7 by the second and every other point by
@@ -201,19 +196,26 @@ fn compiles_a_win_in_two_moves(rt: HostRuntime) -> Result<(), Fail> {
 }
 
 /// Answers by these numbers, and then the column of the attack of the rest and how many replies are listed.
-const RESTS: [(&[u32], Option<(u8, usize)>); 5] = [
-    (&[], None),
-    (&[1, 0], Some((1, 1))),
-    (&[2, 0, 0, 2], Some((2, 2))),
-    (&[2, 0, 1, 0, 1, 0], Some((0, 3))),
-    (&[2, 1, 0, 1, 0, 2, 1], Some((1, 4))),
+const RESTS: [(&[u32], (u8, usize)); 4] = [
+    (&[1, 0], (1, 1)),
+    (&[2, 0, 0, 2], (2, 2)),
+    (&[2, 0, 1, 0, 1, 0], (0, 3)),
+    (&[2, 1, 0, 1, 0, 2, 1], (1, 4)),
 ];
 
 #[test]
 fn the_rest_is_the_commonest_and_the_earliest_on_a_tie(rt: HostRuntime) -> Result<(), Fail> {
     for (numbers, rest) in RESTS {
-        assert_eq!(rt; compiled_by(&rt, rt.alloc(), numbers)?, rest, "{numbers:?}");
+        let table = compiled_by(&rt, rt.alloc(), numbers)?;
+        assert_eq!(rt; rest_and_listed(&table), Some(rest), "{numbers:?}");
     }
+    Ok(())
+}
+
+#[test]
+fn a_node_without_answers_has_no_rest(rt: HostRuntime) -> Result<(), Fail> {
+    let table = compiled_by(&rt, rt.alloc(), &[])?;
+    assert_eq!(rt; last_rest(&table), Some(Rest::Nothing));
     Ok(())
 }
 
@@ -361,20 +363,17 @@ fn full_chain(rt: &impl Abort, alloc: Global) -> Result<Compiler, CompileError> 
     Ok(compiler)
 }
 
-#[test]
-fn a_full_compiler_finds_its_nodes_and_refuses_others(rt: HostRuntime) -> Result<(), Fail> {
-    let alloc = rt.alloc();
-    let mut compiler = full_chain(&rt, alloc)?;
-    let found = put_after(&rt, &mut compiler, MAX_NODES - 2);
-    assert_eq!(rt; found, Ok(MAX_NODES - 1));
-    let refused = put_after(&rt, &mut compiler, MAX_NODES - 1);
-    assert_eq!(rt; refused, Err(CompileError::Full));
-    let found = adopt_win(&mut compiler, alloc, point(4, 7));
-    assert_eq!(rt; found, Ok(0));
-    let refused = adopt_win(&mut compiler, alloc, point(0, 0));
-    assert_eq!(rt; refused, Err(CompileError::Full));
-    assert_eq!(rt; compiler.len(), MAX_NODES);
-    Ok(())
+/// Asserts that the compiler of the chain finds the nodes that it has, refuses others, and stays full.
+fn assert_full(rt: &impl Abort, alloc: Global, compiler: &mut Compiler) {
+    let last = MAX_NODES - 1;
+    for (next, expected) in [(last - 1, Ok(last)), (last, Err(CompileError::Full))] {
+        assert_eq!(rt; put_after(rt, compiler, next), expected);
+        assert_eq!(rt; compiler.len(), MAX_NODES);
+    }
+    for (x, y, expected) in [(4, 7, Ok(0)), (0, 0, Err(CompileError::Full))] {
+        assert_eq!(rt; adopt_win(compiler, alloc, point(x, y)), expected);
+        assert_eq!(rt; compiler.len(), MAX_NODES);
+    }
 }
 
 /// How many nodes the table has, and how many moves the last takes, if there is one.
@@ -387,9 +386,12 @@ fn len_and_depth(table: &Table) -> Result<(u32, u32), Fail> {
 }
 
 #[test]
-fn a_chain_of_a_million_nodes_is_finished(rt: HostRuntime) -> Result<(), Fail> {
-    let compiler = full_chain(&rt, rt.alloc())?;
+fn a_full_compiler_finds_its_nodes_refuses_others_and_is_finished(
+    rt: HostRuntime,
+) -> Result<(), Fail> {
+    let mut compiler = full_chain(&rt, rt.alloc())?;
     assert_eq!(rt; compiler.len(), MAX_NODES);
+    assert_full(&rt, rt.alloc(), &mut compiler);
     let table = finished(&rt, compiler, MAX_NODES - 1)?;
     assert_eq!(rt; len_and_depth(&table)?, (MAX_NODES, MAX_NODES));
     Ok(())
