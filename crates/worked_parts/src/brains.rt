@@ -167,8 +167,8 @@ fn a_double_three_of_the_opponent_is_a_foul_under_renju(rt: HostRuntime) -> Resu
     tell(&rt, rt.alloc(), &DOUBLE_THREE)
 }
 
-// The first allocation is the room for a batch: where it fails (`rt try --test --fail-alloc 1`) there is no brain, and the next
-// one that is asked for has room.
+// The middle of a board of 5 is 2,2, and 1,1 is the first point round it. The first allocation is the room for a batch: where it
+// fails (`rt try --test --fail-alloc 1`) there is no brain, and the next one that is asked for takes the batch.
 const SMALL_BATCH: [(Command, Reaction); 5] = [
     (Command::Board, fails!(NoBoard)),
     (Command::Start(5), OK),
@@ -178,6 +178,6 @@ const SMALL_BATCH: [(Command, Reaction); 5] = [
 ];
 
 #[test]
-fn a_brain_without_room_for_a_batch_is_refused(rt: HostRuntime) -> Result<(), Fail> {
+fn a_small_board_takes_a_batch(rt: HostRuntime) -> Result<(), Fail> {
     tell(&rt, rt.alloc(), &SMALL_BATCH)
 }
