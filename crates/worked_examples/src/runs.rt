@@ -114,14 +114,14 @@ fn run_beside<I: Source>(
     Ok(Run { status, output })
 }
 
-/// The same beside no files.
+/// The same beside no files, on a shelf that fails so too.
 pub fn run_over<I: Source>(
     alloc: Global,
     words: &str,
     source: &mut I,
     failing: &Failing<'_>,
 ) -> Result<Run, AllocError> {
-    let mut shelf = MemoryShelf::new(Vec::new(alloc), Vec::new(alloc));
+    let mut shelf = MemoryShelf::new(Vec::new(alloc), Vec::from_slice(alloc, failing.loads)?);
     run_beside(alloc, words, source, &mut shelf, failing)
 }
 
