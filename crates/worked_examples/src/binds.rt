@@ -102,7 +102,7 @@ fn files(alloc: Global) -> Result<Vec<MemoryFile>, AllocError>
 }
 
 /// Runs the program with these words, separated by single spaces, over the files and an input that it is to leave.
-fn run_bind(alloc: Global, words: &str, failing: &Failing<'_>) -> Result<Served, AllocError> {
+fn run_bind(alloc: Global, words: &str, failing: &Failing<'_>) -> Result<Served, Fail> {
     let mut shelf = MemoryShelf::new(files(alloc)?, Vec::from_slice(alloc, failing.loads)?);
     run_and_read_on(alloc, words, INPUT.as_bytes(), &mut shelf, failing)
 }

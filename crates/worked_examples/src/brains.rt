@@ -185,7 +185,7 @@ fn shelf_of(alloc: Global, text: &str, failing: &Failing<'_>) -> Result<MemorySh
 }
 
 /// Runs a session over devices that fail so.
-fn serve(alloc: Global, session: &Session, failing: &Failing<'_>) -> Result<Served, AllocError> {
+fn serve(alloc: Global, session: &Session, failing: &Failing<'_>) -> Result<Served, Fail> {
     serve_lines(alloc, session, session.lines.as_bytes(), failing)
 }
 
@@ -195,7 +195,7 @@ fn serve_lines(
     session: &Session,
     lines: &[u8],
     failing: &Failing<'_>,
-) -> Result<Served, AllocError> {
+) -> Result<Served, Fail> {
     let mut shelf = shelf_of(alloc, session.file, failing)?;
     run_and_read_on(alloc, session.words, lines, &mut shelf, failing)
 }
@@ -263,7 +263,7 @@ fn with_returns(alloc: Global, lines: &str) -> Result<Vec<u8>, AllocError> {
 }
 
 /// Runs a session whose lines have carriage returns.
-fn serve_returns(alloc: Global, session: &Session) -> Result<Served, AllocError> {
+fn serve_returns(alloc: Global, session: &Session) -> Result<Served, Fail> {
     let lines = with_returns(alloc, session.lines)?;
     serve_lines(alloc, session, lines.as_slice(), &SOUND)
 }

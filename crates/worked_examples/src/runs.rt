@@ -91,11 +91,8 @@ fn source_of(
 }
 
 /// What a source has left. It promises nothing, as `status_of` does.
-fn left_in(alloc: Global, source: &mut MemorySource) -> Result<Vec<u8>, AllocError> {
-    match read_all(alloc, source) {
-        Ok(left) => Ok(left),
-        Err(_) => Err(AllocError),
-    }
+fn left_in(alloc: Global, source: &mut MemorySource) -> Result<Vec<u8>, Fail> {
+    Ok(read_all(alloc, source)?)
 }
 
 /// Runs the program with these words, separated by single spaces, over any input and beside these files, with an output that
@@ -148,7 +145,7 @@ pub fn run_and_read_on(
     input: &[u8],
     shelf: &mut MemoryShelf,
     failing: &Failing<'_>,
-) -> Result<Served, AllocError> {
+) -> Result<Served, Fail> {
     let mut source = source_of(alloc, input, failing)?;
     let run = run_beside(alloc, words, &mut source, shelf, failing)?;
     let left = left_in(alloc, &mut source)?;
