@@ -110,9 +110,10 @@ fn run_bind(alloc: Global, words: &str, failing: &Failing<'_>) -> Result<Served,
 #[test]
 fn files_are_bound_or_the_earliest_that_is_not_is_told(rt: HostRuntime) -> Result<(), Fail> {
     for wanted in &RUNS {
-        let served = run_bind(rt.alloc(), wanted.words, &SOUND)?;
-        assert_answer(&rt, &served.run, wanted.status, wanted.output, wanted.words);
-        assert_eq!(rt; served.left.as_slice(), INPUT.as_bytes());
+        let words = wanted.words;
+        let served = run_bind(rt.alloc(), words, &SOUND)?;
+        assert_answer(&rt, &served.run, wanted.status, wanted.output, words);
+        assert_eq!(rt; served.left.as_slice(), INPUT.as_bytes(), "{words}");
     }
     Ok(())
 }
@@ -129,7 +130,7 @@ fn a_file_that_cannot_be_loaded_is_told(rt: HostRuntime) -> Result<(), Fail> {
             ..SOUND
         };
         let served = run_bind(rt.alloc(), "bind a b", &failing)?;
-        assert_answer(&rt, &served.run, status, output, "a load that fails");
+        assert_answer(&rt, &served.run, status, output, output);
     }
     Ok(())
 }

@@ -229,7 +229,8 @@ pub fn serves_as_worked_out(
 pub fn leaves_the_lines(rt: &impl Abort, alloc: Global, session: &Session) -> Result<(), Fail> {
     let served = serve(alloc, session, &SOUND)?;
     assert_served(rt, &served, session);
-    assert_eq!(rt; served.left.as_slice(), session.lines.as_bytes());
+    let name = session.name;
+    assert_eq!(rt; served.left.as_slice(), session.lines.as_bytes(), "{name}");
     Ok(())
 }
 
@@ -243,7 +244,9 @@ pub fn serve_failing(
     output: &str,
 ) -> Result<(), Fail> {
     let served = serve(alloc, session, failing)?;
-    assert_answer(rt, &served.run, status, output, session.name);
+    let name = session.name;
+    let name = format!(in alloc; "{name}: {status} {output}")?;
+    assert_answer(rt, &served.run, status, output, name.as_str());
     Ok(())
 }
 
@@ -359,7 +362,8 @@ fn a_session_has_at_most_67108864_bytes(rt: HostRuntime) -> Result<(), Fail> {
     for (count, status) in [(67_108_864, 0), (67_108_865, 11)] {
         let lines = vec![in rt.alloc(); b'\n'; count]?;
         let run = run_sound(rt.alloc(), "brain", lines.as_slice())?;
-        assert_answer(&rt, &run, status, "", "empty lines");
+        let name = format!(in rt.alloc(); "{count} empty lines")?;
+        assert_answer(&rt, &run, status, "", name.as_str());
     }
     Ok(())
 }
@@ -374,7 +378,8 @@ fn a_file_is_loaded_once(rt: HostRuntime) -> Result<(), Fail> {
                 ..SOUND
             };
             let served = serve(rt.alloc(), session, &failing)?;
-            assert_eq!(rt; served.run.status, status);
+            let name = session.name;
+            assert_eq!(rt; served.run.status, status, "{name}, load {load}");
         }
     }
     Ok(())

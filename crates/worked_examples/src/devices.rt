@@ -6,6 +6,7 @@ use crate::runs::{Failing, Run, SOUND, assert_answer, run_failing, run_over};
 use renju_io::RealSource;
 use std::alloc::{AllocError, Global};
 use std::io;
+use std::process::Abort;
 use std::test::Fail;
 
 const ACCEPTED: &str = "accepted in 2 moves, 219 arrivals\n";
@@ -26,12 +27,22 @@ fn run_to(
     run_failing(alloc, words, input.as_bytes(), &failing)
 }
 
-/// The run of `check` over a table with such an input.
-fn run_to_read(alloc: Global, piece: usize, read: u64) -> Result<Run, AllocError> {
-    run_to(alloc, "check 219", TWO_MOVES_TABLE, piece, read)
+/// Compares the run of `check` over a table with such an input with what is wanted.
+fn check_to(
+    rt: &impl Abort,
+    alloc: Global,
+    piece: usize,
+    read: u64,
+    status: u8,
+    output: &str,
+) -> Result<(), Fail> {
+    let run = run_to(alloc, "check 219", TWO_MOVES_TABLE, piece, read)?;
+    let name = format!(in alloc; "{piece} {read}")?;
+    assert_answer(rt, &run, status, output, name.as_str());
+    Ok(())
 }
 
-/// The same run with an output that fails at this write, and keeps so many bytes of its piece.
+/// The run of `check` over the table with an output that fails at this write, and keeps so many bytes of its piece.
 fn run_to_write(alloc: Global, write: u64, kept: usize) -> Result<Run, AllocError> {
     let failing = Failing {
         piece: 3,
@@ -47,8 +58,7 @@ fn a_failing_read_writes_nothing(rt: HostRuntime) -> Result<(), Fail> {
     // The first read, one in the midst, and the one that tells the end.
     let last = TWO_MOVES_TABLE.len() as u64 + 1;
     for (piece, read) in [(65_536, 1), (1, 11), (65_536, 2), (1, last)] {
-        let run = run_to_read(rt.alloc(), piece, read)?;
-        assert_answer(&rt, &run, 7, "", "a read that fails");
+        check_to(&rt, rt.alloc(), piece, read, 7, "")?;
     }
     Ok(())
 }
@@ -58,8 +68,7 @@ fn nothing_is_read_after_the_end(rt: HostRuntime) -> Result<(), Fail> {
     // One read more than those of the pieces and the one that tells the end.
     let after = TWO_MOVES_TABLE.len() as u64 + 2;
     for (piece, read) in [(65_536, 3), (1, after)] {
-        let run = run_to_read(rt.alloc(), piece, read)?;
-        assert_answer(&rt, &run, 0, ACCEPTED, "a read after the end would fail");
+        check_to(&rt, rt.alloc(), piece, read, 0, ACCEPTED)?;
     }
     Ok(())
 }

@@ -80,11 +80,13 @@ fn a_chain_of_a_million_nodes_is_read(rt: HostRuntime) -> Result<(), Fail> {
     check_1(&rt, rt.alloc(), text.as_slice(), 0, accepted)
 }
 
-/// Checks a table that is cut off, of which this line is the first that is missing.
+/// Checks a table that is cut off, of which this line is the first that is missing. A cut is named by the bytes that it leaves.
 fn check_cut(rt: &impl Abort, alloc: Global, text: &[u8], line: u32) -> Result<(), Fail> {
     let refused = format!(in alloc; "refused line {line}\n")?;
     let run = run_sound(alloc, "check 219", text)?;
-    assert_answer(rt, &run, 3, refused.as_str(), "a text that is cut off");
+    let len = text.len();
+    let name = format!(in alloc; "{len} bytes")?;
+    assert_answer(rt, &run, 3, refused.as_str(), name.as_str());
     Ok(())
 }
 
