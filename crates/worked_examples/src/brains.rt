@@ -225,7 +225,7 @@ pub fn serves_as_worked_out(
     Ok(())
 }
 
-/// The same, and all of the lines are left.
+/// Runs a session over sound devices, compares what it answers and writes with what is wanted, and finds all of its lines left.
 pub fn leaves_the_lines(rt: &impl Abort, alloc: Global, session: &Session) -> Result<(), Fail> {
     let served = serve(alloc, session, &SOUND)?;
     assert_served(rt, &served, session);

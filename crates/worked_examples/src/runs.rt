@@ -170,7 +170,7 @@ fn answers_over(
     Ok(())
 }
 
-/// The same for each of the examples.
+/// The same for each of the examples over devices that do not fail.
 pub fn answers_as_worked_out(
     rt: &impl Abort,
     alloc: Global,

@@ -90,7 +90,7 @@ fn verdict<R: Rule>(
     Ok(check(alloc, table, len - 1, &mut position, work)?)
 }
 
-/// The verdict on that table at the open three.
+/// The verdict on `four_table` at the open three.
 fn four_verdict(alloc: Global, reply: Option<Reply>, work: u64) -> Result<Verdict, Fail> {
     let table = four_table(alloc, reply)?;
     verdict(alloc, &table, open_three(alloc)?, work)
@@ -119,7 +119,7 @@ fn verdict_on(
     Ok(check_start(alloc, table, start, &mut position, work)?)
 }
 
-/// The verdict on that start at the straight four.
+/// The verdict on `block_start` at the straight four, with `four_table`.
 fn start_verdict(alloc: Global, reply: Option<Reply>, work: u64) -> Result<Verdict, Fail> {
     let table = four_table(alloc, None)?;
     let start = block_start(alloc, reply)?;

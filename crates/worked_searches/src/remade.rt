@@ -84,7 +84,7 @@ fn compare_shape<R: Rule>(
     same_shapes(rt, told, walked, reach::<R>(side));
 }
 
-/// Compares both.
+/// Compares the code and the shape of an empty point with those made from scratch.
 fn compare_at<R: Rule>(
     rt: &impl Abort,
     tables: &LineTables<R>,
