@@ -135,8 +135,8 @@ fn position<R: Rule>(alloc: Global, case: &Case) -> Result<Position<R>, Fail> {
         return Err(Fail::from("no board"));
     }
     let mut board = Board::empty(alloc, side, side)?;
-    put_all(&mut board, Side::Black, case.black);
-    put_all(&mut board, Side::White, case.white);
+    put_all(&mut board, Side::Black, case.black)?;
+    put_all(&mut board, Side::White, case.white)?;
     lawful::<R>(board)
 }
 

@@ -8,7 +8,7 @@ ghost use Rattle.four_search.specs.Answers.{IsFewestByFours};
 ghost use Rattle.four_search.specs.declared.TheConstants.{MAX_DEPTH};
 
 #[cfg(test)]
-use crate::boards::position_of;
+use crate::boards::position_with;
 use foul_judge::Position;
 use four_search::{FourAnswer, four_search};
 #[cfg(test)]
@@ -45,7 +45,7 @@ fn fewest_by_fours<R: Rule>(
 fn an_open_three_wins_in_two_moves(rt: HostRuntime) -> Result<(), Fail> {
     let black = [(5, 7), (6, 7), (7, 7)];
     let white = [(0, 0), (2, 0), (4, 0)];
-    let mut position = position_of::<Freestyle>(rt.alloc(), &black, &white)?;
+    let mut position = position_with::<Freestyle>(rt.alloc(), &black, &white)?;
     for (depth, moves) in [(5, Some(2)), (2, Some(2)), (1, None)] {
         assert_eq!(rt;
             fewest_by_fours(rt.alloc(), &mut position, depth, 100)?,

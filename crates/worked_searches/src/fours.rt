@@ -1,7 +1,7 @@
 //! Wins by fours on worked positions, with the tables of their plans as text.
 
 use crate::answers::{add_fours, add_win};
-use crate::boards::position_of;
+use crate::boards::position_with;
 use foul_judge::Position;
 use four_search::{FourAnswer, FourMemory, MAX_DEPTH, four_search_with};
 use row_shapes::{ExactFive, Freestyle, Renju, Rule, RuleKind};
@@ -138,7 +138,7 @@ const CLOSED_THREES: Case = Case {
 };
 
 fn answer_text<R: Rule>(alloc: Global, case: &Case) -> Result<String, Fail> {
-    let mut view = position_of::<R>(alloc, case.black, case.white)?;
+    let mut view = position_with::<R>(alloc, case.black, case.white)?;
     let mut text = String::new(alloc);
     add_fours::<R, Position<R>>(alloc, &mut view, case.depth, case.budget, &mut text)?;
     Ok(text)
@@ -266,7 +266,7 @@ fn answer_with<R: Rule>(
     if depth < 1 || depth > MAX_DEPTH || budget < 1 {
         return Err(Fail::from("out of range"));
     }
-    let mut view = position_of::<R>(alloc, case.black, case.white)?;
+    let mut view = position_with::<R>(alloc, case.black, case.white)?;
     let mut compiler = Compiler::new(alloc);
     let answer = four_search_with::<R, Position<R>>(
         alloc,

@@ -3,7 +3,7 @@
 ghost use Rattle.std.specs.Prelude.{◌≤◌};
 ghost use Rattle.line_proof.specs.declared.TheConstants.{MAX_DEPTH};
 
-use crate::boards::{at, board_of, position_of, threats_of_black};
+use crate::boards::{at, board_with, position_with, threats_of_black};
 use foul_judge::Position;
 use line_proof::{LineAnswer, SearchError, prove_line};
 use row_shapes::Freestyle;
@@ -48,7 +48,7 @@ const CORNERS: [(u8, u8); 4] = [(0, 0), (14, 0), (0, 14), (14, 14)];
 
 /// The first of the two threes that a stone in the middle of the diamond makes.
 fn first_three(rt: &impl Abort, alloc: Global) -> Result<Threats, Fail> {
-    let mut board = board_of(alloc, &DIAMOND, &CORNERS)?;
+    let mut board = board_with(alloc, &DIAMOND, &CORNERS)?;
     let mut threats = threats_of_black::<Freestyle>(alloc, &mut board, at(7, 7))?;
     assert_eq!(rt; threats.len(), 2);
     threats.drop_last();
@@ -58,7 +58,7 @@ fn first_three(rt: &impl Abort, alloc: Global) -> Result<Threats, Fail> {
 #[test]
 fn a_double_three_wins_in_three_moves(rt: HostRuntime) -> Result<(), Fail> {
     let threats = first_three(&rt, rt.alloc())?;
-    let mut view = position_of::<Freestyle>(rt.alloc(), &DIAMOND, &CORNERS)?;
+    let mut view = position_with::<Freestyle>(rt.alloc(), &DIAMOND, &CORNERS)?;
     assert_eq!(rt; proved(rt.alloc(), &mut view, &threats)?, (None, Some(3)));
     Ok(())
 }
@@ -70,7 +70,7 @@ const FOUR: [(u8, u8); 5] = [(3, 7), (4, 7), (5, 7), (6, 7), (0, 1)];
 
 #[test]
 fn the_five_point_of_the_defender_is_taken_first(rt: HostRuntime) -> Result<(), Fail> {
-    let mut view = position_of::<Freestyle>(rt.alloc(), &CROSS, &FOUR)?;
+    let mut view = position_with::<Freestyle>(rt.alloc(), &CROSS, &FOUR)?;
     let threats = Threats::new(rt.alloc());
     assert_eq!(rt; proved(rt.alloc(), &mut view, &threats)?, (None, Some(3)));
     Ok(())
@@ -78,7 +78,7 @@ fn the_five_point_of_the_defender_is_taken_first(rt: HostRuntime) -> Result<(), 
 
 #[test]
 fn without_a_threat_there_is_no_line(rt: HostRuntime) -> Result<(), Fail> {
-    let mut view = position_of::<Freestyle>(rt.alloc(), &DIAMOND, &CORNERS)?;
+    let mut view = position_with::<Freestyle>(rt.alloc(), &DIAMOND, &CORNERS)?;
     let threats = Threats::new(rt.alloc());
     assert_eq!(rt; proved(rt.alloc(), &mut view, &threats)?, (None, None));
     Ok(())

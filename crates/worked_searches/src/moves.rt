@@ -1,9 +1,9 @@
 //! Five points, four moves and their fates on worked positions. Expected values are from the rules by hand.
 
-use crate::boards::{at, compare_three, position_of, put_all, threats_of_black};
+use crate::boards::{at, compare_three, position_with, put_all, threats_of_black};
 use foul_judge::{Outcome, Position, Seen};
 use row_shapes::{ExactFive, Freestyle, Renju, Rule};
-use std::alloc::{AllocError, Global};
+use std::alloc::Global;
 use std::test::Fail;
 use stone_board::{Axis, Board, Point, Side};
 use threat_moves::{
@@ -17,7 +17,7 @@ const THREE_APART: [(u8, u8); 3] = [(0, 0), (2, 0), (4, 0)];
 
 /// Three stones of Black in a row, with Black to move.
 fn three_in_a_row(alloc: Global) -> Result<Position<Freestyle>, Fail> {
-    position_of::<Freestyle>(alloc, &THREE_IN_A_ROW, &THREE_APART)
+    position_with::<Freestyle>(alloc, &THREE_IN_A_ROW, &THREE_APART)
 }
 
 #[test]
@@ -52,7 +52,7 @@ fn a_four_move_is_within_two_points_of_the_three(rt: HostRuntime) -> Result<(), 
 fn five_points_come_in_reading_order(rt: HostRuntime) -> Result<(), Fail> {
     let black = [(4, 7), (5, 7), (6, 7), (7, 7)];
     let white = [(0, 0), (2, 0), (4, 0), (6, 0)];
-    let view = position_of::<Freestyle>(rt.alloc(), &black, &white)?;
+    let view = position_with::<Freestyle>(rt.alloc(), &black, &white)?;
     let points = fives::<Freestyle, Position<Freestyle>>(rt.alloc(), &view, Side::Black)?;
     let expected = [at(3, 7), at(8, 7)];
     assert_eq!(rt; points.as_slice(), expected.as_slice());
@@ -71,7 +71,7 @@ fn fate<R: Rule>(alloc: Global, view: &mut Position<R>, four: Point) -> Result<B
 fn blocked<R: Rule>(alloc: Global) -> Result<BlockAnswer, Fail> {
     let black = [(7, 0), (7, 1), (7, 2), (2, 3), (7, 4), (7, 5)];
     let white = [(3, 3), (4, 3), (5, 3), (12, 14), (14, 14)];
-    let mut view = position_of::<R>(alloc, &black, &white)?;
+    let mut view = position_with::<R>(alloc, &black, &white)?;
     fate::<R>(alloc, &mut view, at(6, 3))
 }
 
@@ -131,7 +131,7 @@ const CORNERS: [(u8, u8); 4] = [(0, 0), (14, 0), (0, 14), (14, 14)];
 
 #[test]
 fn a_double_three_is_a_three_move(rt: HostRuntime) -> Result<(), Fail> {
-    let mut view = position_of::<Freestyle>(rt.alloc(), &DIAMOND, &CORNERS)?;
+    let mut view = position_with::<Freestyle>(rt.alloc(), &DIAMOND, &CORNERS)?;
     let points = three_moves::<Freestyle, Position<Freestyle>>(rt.alloc(), &mut view)?;
     assert!(rt; points.as_slice().contains(&at(7, 7)));
     Ok(())
@@ -139,7 +139,7 @@ fn a_double_three_is_a_three_move(rt: HostRuntime) -> Result<(), Fail> {
 
 #[test]
 fn a_double_three_is_no_double_point(rt: HostRuntime) -> Result<(), Fail> {
-    let view = position_of::<Freestyle>(rt.alloc(), &DIAMOND, &CORNERS)?;
+    let view = position_with::<Freestyle>(rt.alloc(), &DIAMOND, &CORNERS)?;
     let mut board = view.into_board();
     assert!(rt; !is_double_point::<Freestyle>(&mut board, Side::Black, at(7, 7)));
     Ok(())
@@ -163,10 +163,10 @@ const ROUND_A_COLUMN: [(u8, u8); 14] = [
 ];
 
 /// A board of 11 with a three of Black in the column 5 once the point 5,2 is taken.
-fn before_a_three(alloc: Global) -> Result<Board, AllocError> {
+fn before_a_three(alloc: Global) -> Result<Board, Fail> {
     let mut board = Board::empty(alloc, 11, 11)?;
-    put_all(&mut board, Side::Black, &ROUND_A_COLUMN);
-    put_all(&mut board, Side::White, &[(10, 3), (1, 5)]);
+    put_all(&mut board, Side::Black, &ROUND_A_COLUMN)?;
+    put_all(&mut board, Side::White, &[(10, 3), (1, 5)])?;
     Ok(board)
 }
 

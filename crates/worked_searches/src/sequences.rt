@@ -2,7 +2,7 @@
 
 ghost use Rattle.std.specs.Prelude.{◌≤◌};
 
-use crate::boards::{at, board_of, compare_three};
+use crate::boards::{at, board_with, compare_three};
 use row_shapes::Freestyle;
 use std::alloc::Global;
 use std::test::Fail;
@@ -14,7 +14,7 @@ use threat_space::{SpaceAnswer, threat_space};
 fn sequence(alloc: Global, black: &[(u8, u8)], budget: u64) -> Result<(Threats, Point), Fail>
     requires some_budget { 1 ≤ budget }
 {
-    let mut board = board_of(alloc, black, &[])?;
+    let mut board = board_with(alloc, black, &[])?;
     match threat_space::<Freestyle>(alloc, &mut board, Side::Black, 1, budget)? {
         SpaceAnswer::Sequence(threats, last) => Ok((threats, last)),
         _ => Err(Fail::from("no sequence")),
@@ -44,7 +44,7 @@ fn with_two_five_points_other_points_are_final(rt: HostRuntime) -> Result<(), Fa
 
 #[test]
 fn an_empty_board_has_none(rt: HostRuntime) -> Result<(), Fail> {
-    let mut board = board_of(rt.alloc(), &[], &[])?;
+    let mut board = board_with(rt.alloc(), &[], &[])?;
     match threat_space::<Freestyle>(rt.alloc(), &mut board, Side::White, 30, 1)? {
         SpaceAnswer::None => Ok(()),
         _ => Err(Fail::from("some sequence")),

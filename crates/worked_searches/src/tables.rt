@@ -1,7 +1,7 @@
 //! Line tables against what is made from scratch, over long random lists of plays and undos.
 ghost use Rattle.std.specs.Prelude.{◌<◌};
 
-use crate::boards::{at, lawful, position_of};
+use crate::boards::{at, lawful, position_with};
 use crate::remade::{compare, undo};
 use foul_judge::{Foul, Outcome, Position, Seen};
 use line_tables::LineTables;
@@ -124,7 +124,7 @@ fn replays_on_large_boards(rt: HostRuntime) -> Result<(), Fail> {
 fn two_threes_leave_no_five_point(rt: HostRuntime) -> Result<(), Fail> {
     let threes = [(7, 6), (6, 7), (8, 7), (7, 8)];
     let corners = [(0, 0), (14, 0), (0, 14), (14, 14)];
-    let position = position_of::<Renju>(rt.alloc(), &threes, &corners)?;
+    let position = position_with::<Renju>(rt.alloc(), &threes, &corners)?;
     let mut tables = LineTables::<Renju>::new(rt.alloc(), &position)?;
     let none: &[Point] = &[];
     assert_eq!(&rt; tables.five_points(Side::Black)?.as_slice(), none);

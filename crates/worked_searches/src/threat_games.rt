@@ -3,7 +3,7 @@
 ghost use Rattle.std.specs.Prelude.{◌≤◌};
 ghost use Rattle.proof_number.specs.declared.TheConstants.{MAX_DEPTH, MAX_BUDGET};
 
-use crate::boards::position_of;
+use crate::boards::position_with;
 use foul_judge::Position;
 use proof_number::{ProofAnswer, proof_number};
 use proof_tree::{INFINITE, Numbers, ProofTree};
@@ -57,7 +57,7 @@ fn searched<R: Rule>(
     requires some_budget { 1 ≤ budget }
     requires budget_fits { budget ≤ MAX_BUDGET }
 {
-    let mut view = position_of::<R>(alloc, black, white)?;
+    let mut view = position_with::<R>(alloc, black, white)?;
     let mut tree = ProofTree::new(alloc)?;
     let mut compiler = Compiler::new(alloc);
     let found = proof_number::<R, Position<R>>(

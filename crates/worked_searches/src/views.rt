@@ -6,7 +6,7 @@
 #![tactic(auto)]
 
 use crate::answers::{add_fours, add_replies, add_win};
-use crate::boards::{board_of, lawful};
+use crate::boards::{board_with, lawful};
 use defence_finder::{DefenceAnswer, defences};
 use foul_judge::{Position, Seen};
 use line_proof::{LineAnswer, prove_line};
@@ -216,7 +216,7 @@ fn told_alike<R: Rule>(
 fn all_alike<R: Rule>(rt: &(impl Abort + AllocGlobal)) -> Result<(), Fail> {
     let mut shapes = LineShapes::<R>::new(rt.alloc())?;
     for stones in &WORKED {
-        let board = board_of(rt.alloc(), stones.black, stones.white)?;
+        let board = board_with(rt.alloc(), stones.black, stones.white)?;
         shapes = told_alike::<R>(rt, shapes, board)?;
     }
     for seed in 0..10 {
