@@ -1,5 +1,5 @@
 //! What boards answer on small examples.
-use crate::setup::{AXES, put_all};
+use crate::setup::{AXES, at, put_all};
 use std::test::Fail;
 use stone_board::{Axis, Board, Cell, Look, Point, Points, Side, Way, line_of, place_on};
 
@@ -62,63 +62,102 @@ fn points_stand_to_each_other(rt: HostRuntime) -> Result<(), Fail> {
     Ok(())
 }
 
+// Points along lines through a point, if it is on the board.
+fn points_along(board: &Board, p: Point) -> Option<[Option<Point>; 4]> {
+    if !board.on(p) {
+        return None;
+    }
+    Some([
+        board.step(p, Axis::Up, 2),
+        board.step(p, Axis::Up, 3),
+        board.along(p, Axis::Column, 0, 2),
+        board.step_towards(Way::Behind, Axis::Down, p, 2),
+    ])
+}
+
+// What stands along lines through a point, if it is on the board.
+fn looks_along(board: &Board, p: Point) -> Option<[Look; 3]> {
+    if !board.on(p) {
+        return None;
+    }
+    Some([
+        board.at(p, Axis::Up, 2),
+        board.at(p, Axis::Row, -1),
+        board.at(p, Axis::Row, 4),
+    ])
+}
+
+// Runs through a stone, and stones ahead of it and behind it, if there is one.
+fn counts_along(board: &Board, p: Point) -> Option<[u32; 5]> {
+    if !board.holds(Side::Black, p) {
+        return None;
+    }
+    Some([
+        board.run(p, Axis::Up),
+        board.run(p, Axis::Down),
+        board.stones_ahead(Side::Black, Axis::Up, p),
+        board.stones_behind(Side::White, Axis::Up, p),
+        board.stones_towards(Way::Ahead.opposite(), Side::Black, Axis::Up, p),
+    ])
+}
+
 #[test]
 fn looks_along_a_line(rt: HostRuntime) -> Result<(), Fail> {
     let mut board = Board::empty(rt.alloc(), 6, 5)?;
     put_all(&rt, &mut board, Side::Black, &[(1, 3), (2, 2), (3, 1)]);
     put_all(&rt, &mut board, Side::White, &[(4, 0)]);
-    let p = Point { x: 2, y: 2 };
-    assert!(rt; board.holds(Side::Black, p));
-    assert_eq!(rt; board.step(p, Axis::Up, 2), Some(Point { x: 4, y: 0 }));
-    assert_eq!(rt; board.step(p, Axis::Up, 3), None);
-    assert_eq!(rt;
-        board.along(p, Axis::Column, 0, 2),
-        Some(Point { x: 2, y: 0 })
-    );
-    assert_eq!(rt;
-        board.step_towards(Way::Behind, Axis::Down, p, 2),
-        Some(Point { x: 0, y: 0 })
-    );
-    assert_eq!(rt; board.at(p, Axis::Up, 2), Look::Holds(Cell::White));
-    assert_eq!(rt; board.at(p, Axis::Row, -1), Look::Holds(Cell::Empty));
-    assert_eq!(rt; board.at(p, Axis::Row, 4), Look::Off);
-    assert_eq!(rt; board.run(p, Axis::Up), 3);
-    assert_eq!(rt; board.run(p, Axis::Down), 1);
-    assert_eq!(rt; board.stones_ahead(Side::Black, Axis::Up, p), 1);
-    assert_eq!(rt; board.stones_behind(Side::White, Axis::Up, p), 0);
-    assert_eq!(rt;
-        board.stones_towards(Way::Ahead.opposite(), Side::Black, Axis::Up, p),
-        1
-    );
+    let points = [Some(at(4, 0)), None, Some(at(2, 0)), Some(at(0, 0))];
+    assert_eq!(rt; points_along(&board, at(2, 2)), Some(points));
+    let looks = [
+        Look::Holds(Cell::White),
+        Look::Holds(Cell::Empty),
+        Look::Off,
+    ];
+    assert_eq!(rt; looks_along(&board, at(2, 2)), Some(looks));
+    assert_eq!(rt; counts_along(&board, at(2, 2)), Some([3, 1, 1, 0, 1]));
     Ok(())
+}
+
+// The bits of lines through a point, and of two rows, if it is on the board.
+fn bits_along(board: &Board, p: Point) -> Option<[u32; 5]> {
+    if !board.on(p) {
+        return None;
+    }
+    Some([
+        board.line_through(Side::Black, Axis::Up, p),
+        board.line_through(Side::White, Axis::Up, p),
+        board.line_through(Side::Black, Axis::Column, p),
+        board.line(Side::Black, Axis::Row, 4),
+        board.line(Side::Black, Axis::Row, 2),
+    ])
+}
+
+// Whether the axis has a line through a point of the board, on which the point is empty of Black.
+fn is_off_its_line(board: &Board, axis: Axis, p: Point) -> bool {
+    if !board.on(p) {
+        return false;
+    }
+    let (first, past) = board.lines(axis);
+    let n = line_of(axis, p);
+    first <= n
+        && n < past
+        && board.line_through(Side::Black, axis, p) & (1 << place_on(axis, p)) == 0
 }
 
 #[test]
 fn lines_are_told_as_bits(rt: HostRuntime) -> Result<(), Fail> {
     let mut board = Board::empty(rt.alloc(), 32, 5)?;
-    put_all(
-        &rt,
-        &mut board,
-        Side::Black,
-        &[(1, 3), (2, 2), (4, 0), (31, 4)],
-    );
+    let black = [(1, 3), (2, 2), (4, 0), (31, 4)];
+    put_all(&rt, &mut board, Side::Black, &black);
     put_all(&rt, &mut board, Side::White, &[(3, 1)]);
-    let p = Point { x: 2, y: 2 };
+    let bits = [0b1_0110, 0b1000, 0b100, 1 << 31, 0b100];
+    assert_eq!(rt; bits_along(&board, at(2, 2)), Some(bits));
+    assert_eq!(rt; bits_along(&board.copy()?, at(2, 2)), Some(bits));
+    let p = at(2, 2);
     assert!(rt; board.holds(Side::Black, p));
-    assert_eq!(rt; board.line_through(Side::Black, Axis::Up, p), 0b1_0110);
-    assert_eq!(rt; board.line_through(Side::White, Axis::Up, p), 0b1000);
-    assert_eq!(rt; board.line_through(Side::Black, Axis::Column, p), 0b100);
-    assert_eq!(rt; board.line(Side::Black, Axis::Row, 4), 1 << 31);
-    assert_eq!(rt; board.copy()?.line(Side::Black, Axis::Row, 2), 0b100);
     board.lift(p);
     for axis in AXES.iter() {
-        let (first, past) = board.lines(*axis);
-        assert!(rt; first <= line_of(*axis, p) && line_of(*axis, p) < past);
-        assert!(rt; board.on(p));
-        assert_eq!(rt;
-            board.line_through(Side::Black, *axis, p) & (1 << place_on(*axis, p)),
-            0
-        );
+        assert!(rt; is_off_its_line(&board, *axis, p), "{axis:?}");
     }
     Ok(())
 }

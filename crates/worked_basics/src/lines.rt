@@ -32,16 +32,32 @@ fn reads_points_within_bounds(rt: HostRuntime) {
 }
 
 #[test]
-fn reads_words_and_lines(rt: HostRuntime) {
+fn reads_words(rt: HostRuntime) {
     assert!(rt; is_text(b"only", b"only") && !is_text(b"only ", b"only"));
-    assert!(rt; matches!(cut(b"a b c", b' '), (b"a", Some(b"b c"))));
-    assert!(rt; matches!(after(b"rule renju", b"rule "), Some(b"renju")));
-    assert!(rt; matches!(line(b"size 9\r\nrest"), Some((b"size 9\r", b"rest"))));
-    assert!(rt; line(b"size 9").is_none());
-    assert!(rt; matches!(prefixed(b"size 9\n\n", b"size "), Some((b"9", b"\n"))));
-    assert!(rt; matches!(number_line(b"moves 7\n", b"moves ", 1, 7), Some((7, b""))));
-    assert!(rt; number_line(b"moves 0\n", b"moves ", 1, 7).is_none());
-    assert!(rt; number_line(b"moves 8\n", b"moves ", 1, 7).is_none());
+    let words = (b"a".as_slice(), Some(b"b c".as_slice()));
+    assert_eq!(rt; cut(b"a b c", b' '), words);
+    assert_eq!(rt; after(b"rule renju", b"rule "), Some(b"renju".as_slice()));
+}
+
+#[test]
+fn reads_lines(rt: HostRuntime) {
+    let first = (b"size 9\r".as_slice(), b"rest".as_slice());
+    assert_eq!(rt; line(b"size 9\r\nrest"), Some(first));
+    assert_eq!(rt; line(b"size 9"), None);
+    let size = (b"9".as_slice(), b"\n".as_slice());
+    assert_eq!(rt; prefixed(b"size 9\n\n", b"size "), Some(size));
+}
+
+#[test]
+fn reads_a_number_within_bounds(rt: HostRuntime) {
+    let cases: [(&[u8], Option<(u32, &[u8])>); 3] = [
+        (b"moves 7\n", Some((7, b""))),
+        (b"moves 0\n", None),
+        (b"moves 8\n", None),
+    ];
+    for (text, found) in cases {
+        assert_eq!(rt; number_line(text, b"moves ", 1, 7), found);
+    }
 }
 
 #[test]
