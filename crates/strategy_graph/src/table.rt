@@ -7,7 +7,7 @@
 
 ghost use Rattle.std.specs.Prelude.{◌≡◌, ◌↔◌, ◌<◌, ◌++◌, [], ◌∷◌, IsTrue, true, false, List, length, slice_get, Some, IfOk, IfSome, IsOk, OnOk, OnErr, IsErrOf};
 ghost use Rattle.strategy_graph.specs.Roots.{root_below, root_depth};
-ghost use Rattle.strategy_graph.specs.Tables.{IsTable, answer_at, is_rising, is_winning, names_below, names_nodes_of, depth, start_depth};
+ghost use Rattle.strategy_graph.specs.Tables.{IsNode, IsTable, answer_at, is_rising, is_winning, names_below, names_nodes_of, depth, start_depth};
 
 use crate::depths::deepest;
 use crate::replies::{answer_among, are_all_below};
@@ -132,16 +132,30 @@ impl Table {
         if number == MAX_NODES {
             return Err(PushError::Full);
         }
+        match self.push_node(node) {
+            Ok(()) => Ok(number),
+            Err(_) => Err(PushError::Memory),
+        }
+    }
+
+    /// Adds a node that is known to be one of a table, for which there is room, at the end. `Err` says that memory ran out:
+    /// then the table is as it was, and the node is gone.
+    pub fn push_node(&mut self, node: Node) -> Result<(), AllocError>
+        requires node { IsNode node (length self.old) }
+        requires room { length self.old < MAX_NODES }
+        ensures pushed { OnOk result (self.new ≡ self.old ++ node ∷ []) }
+        ensures unchanged { OnErr result (self.new ≡ self.old) }
+    {
         let below = deepest(node.replies.as_slice(), node.rest, self.depths.as_slice());
         if self.depths.push(below + 1).is_err() {
-            return Err(PushError::Memory);
+            return Err(AllocError);
         }
         if self.nodes.push(node).is_err() {
             // The depth goes again, so that the table is as it was.
             self.depths.pop();
-            return Err(PushError::Memory);
+            return Err(AllocError);
         }
-        Ok(number)
+        Ok(())
     }
 
     /// The depth of node `i`: 1 for a node that names no other, else 1 more than the greatest depth of those that it

@@ -1,35 +1,13 @@
-use Rattle.std.proofs.Common.{◌≡◌, true, not, length, map, refl, sym, ap, ◌∙◌, arith, is_ok, slice_index}
-use Rattle.strategy_graph.specs.Tables.{answers_of, greatest, named, names_below}
-use Rattle.strategy_graph.proofs.Filling.{IsTableWithDepths-push, greatest-le, greatest-read}
+use Rattle.std.proofs.Common.{◌≡◌, ℕ, true, length, sym, subst, ap, ◌∙◌, arith}
+use Rattle.strategy_graph.specs.Tables.{answers_of, names_below}
 use Rattle.strategy_graph.proofs.table.Table.push.Goals as goal
 
-pub overflow_add-below : goal.overflow_add-below
-overflow_add-below c =
+pub push_node-requires-clause-node : goal.push_node-requires-clause-node
+push_node-requires-clause-node c =
     let number : c.len-number.result ≡ length c.self.inside.nodes.items = omega arith in
-    let below : names_below (answers_of c.args.node) c.len-number.result ≡ true =
-    sym c.are_all_below.ensures.below ∙ c.if-not-are_all_below.false in
-    let value : c.deepest-below.result ≡ greatest (map (λ j. slice_index c.self.inside.depths.items j) (named (answers_of c.args.node))) =
-    greatest-read c.self.inside.depths.items c.as_slice-2.result.now (answers_of c.args.node) c.as_slice.result.now c.args.node.rest
-    c.deepest-below.result
-    c.as_slice-2.ensures.value c.as_slice.ensures.items refl c.deepest-below.ensures.greatest in
-    let low = greatest-le c.self.inside.nodes.items c.self.inside.depths.items c.self.invariant.counted (answers_of c.args.node)
-    (rw (← number) below) in
-    omega (arith, value, low, c.self.invariant.table.size)
-
-pub invariant_of-self-else-is_err-2 : goal.invariant_of-self-else-is_err-2
-invariant_of-self-else-is_err-2 c =
-    let counted : is_ok c.push.result ≡ true = c.is_err.ensures.negation ∙ ap not c.if-is_err.false in
-    let added : is_ok c.push-2.result ≡ true = c.is_err-2.ensures.negation ∙ ap not c.if-is_err-2.false in
-    let number : c.len-number.result ≡ length c.self.inside.nodes.items = omega arith in
-    let below : names_below (answers_of c.args.node) c.len-number.result ≡ true =
-    sym c.are_all_below.ensures.below ∙ c.if-not-are_all_below.false in
-    rw (c.push.ensures.items, counted, c.push-2.ensures.items, added)
-    (IsTableWithDepths-push c.self.inside.nodes.items c.self.inside.depths.items c.args.node c.deepest-below.result c.self.invariant
-    (record {
-      below = rw (← number) below;
+    record {
+      below = subst (λ (n : ℕ). names_below (answers_of c.args.node) n ≡ true) (number ∙ ap length c.self.view_is)
+          (sym c.are_all_below.ensures.below ∙ c.if-not-are_all_below.false);
       rising = sym c.is_rising.ensures.rising ∙ c.if-not-is_rising.false;
       winning = c.requires.winning;
-    }) (let size = c.self.invariant.table.size in omega (arith, number, size))
-    (greatest-read c.self.inside.depths.items c.as_slice-2.result.now (answers_of c.args.node) c.as_slice.result.now c.args.node.rest
-    c.deepest-below.result
-    c.as_slice-2.ensures.value c.as_slice.ensures.items refl c.deepest-below.ensures.greatest))
+    }
