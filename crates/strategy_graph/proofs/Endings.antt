@@ -12,7 +12,7 @@ use Rattle.strategy_graph.specs.declared.Rest.{Rest}
 use Rattle.strategy_graph.specs.declared.Rest.TheVariants.{Wins}
 use Rattle.strategy_graph.specs.declared.Node.{Node}
 use Rattle.strategy_graph.proofs.Common.{answers_of, answer, is_winning, node_depth, depth_within, depth}
-use Rattle.strategy_graph.proofs.Common.{AcceptedNode, AcceptedWithin, Accepted, End, Won, NoMove, Open, IllegalReply, after_attack}
+use Rattle.strategy_graph.proofs.Common.{AcceptedNode, AcceptedWithin, Accepted, End, Won, NoMove, Open, after_attack}
 use Rattle.strategy_graph.proofs.Common.{after_reply, one_later, if_node, end_at, game, EndsWell, attacks, points_on, attacks_at}
 use Rattle.strategy_graph.proofs.Answering.{answer-greatest}
 
@@ -82,52 +82,22 @@ none_on GoesOn false = refl
 none_on _ r = refl
 
 module _ (rule : RuleKind) (t : List Node) (i : ℕ) (b : Grid) (n : Node) (at : slice_get t i ≡ Some n) where
-  -- an attack that wins ends the game, whatever the replies
-  pub game-wins : (qs : List Point) → outcome rule b n.attack ≡ WinsNow → game rule t i b qs ≡ Won 1
-  unfolding game
-  game-wins [] o = rw (at, o) refl
-  game-wins (q ∷ qs) o = rw (at, o) refl
-
-  pub attacks-wins : (qs : List Point) → outcome rule b n.attack ≡ WinsNow → attacks rule t i b qs ≡ n.attack ∷ []
-  unfolding attacks
-  attacks-wins [] o = rw (at, o) refl
-  attacks-wins (q ∷ qs) o = rw (at, o) refl
-
   -- with no reply left, the attack is the last
   pub attacks-open : attacks rule t i b [] ≡ n.attack ∷ []
   unfolding attacks
   attacks-open = rw at (ap (λ (ps : List Point). n.attack ∷ ps) (none_on (outcome rule b n.attack) (is_winning n.rest)))
 
-  module _ (o : outcome rule b n.attack ≡ GoesOn) (r : is_winning n.rest ≡ false) where
-    -- and the game is open
-    pub game-open : game rule t i b [] ≡ Open
-    unfolding game
-    game-open = rw (at, o, r) refl
+  module _ (o : outcome rule b n.attack ≡ GoesOn) (r : is_winning n.rest ≡ false) (q : Point) (qs : List Point) where
+    -- a reply that fouls, or is no move, ends the game
+    pub attacks-foul : (f : Foul) → outcome rule (after b n.attack) q ≡ Fouls f → attacks rule t i b (q ∷ qs) ≡ n.attack ∷ []
+    unfolding attacks
+    attacks-foul f e = rw (at, o, r, e) refl
 
-    module _ (q : Point) (qs : List Point) where
-      -- a reply that fouls, or is no move, ends the game
-      pub game-foul : (f : Foul) → outcome rule (after b n.attack) q ≡ Fouls f → game rule t i b (q ∷ qs) ≡ Won 1
-      unfolding game
-      game-foul f e = rw (at, o, r, e) refl
-
-      pub attacks-foul : (f : Foul) → outcome rule (after b n.attack) q ≡ Fouls f → attacks rule t i b (q ∷ qs) ≡ n.attack ∷ []
-      unfolding attacks
-      attacks-foul f e = rw (at, o, r, e) refl
-
-      pub game-no_move : outcome rule (after b n.attack) q ≡ Refused → game rule t i b (q ∷ qs) ≡ IllegalReply
-      unfolding game
-      game-no_move e = rw (at, o, r, e) refl
-
-      -- a reply that goes on leads to the answer to it
-      pub game-next : (j : ℕ) → outcome rule (after b n.attack) q ≡ GoesOn → answer (answers_of n) q ≡ Some j
-          → game rule t i b (q ∷ qs) ≡ one_later (game rule t j (after (after b n.attack) q) qs)
-      unfolding game
-      game-next j e w = rw (at, o, r, e, w) refl
-
-      pub attacks-next : (j : ℕ) → outcome rule (after b n.attack) q ≡ GoesOn → answer (answers_of n) q ≡ Some j
-          → attacks rule t i b (q ∷ qs) ≡ n.attack ∷ attacks rule t j (after (after b n.attack) q) qs
-      unfolding attacks
-      attacks-next j e w = rw (at, o, r, e, w) refl
+    -- a reply that goes on leads to the answer to it
+    pub attacks-next : (j : ℕ) → outcome rule (after b n.attack) q ≡ GoesOn → answer (answers_of n) q ≡ Some j
+        → attacks rule t i b (q ∷ qs) ≡ n.attack ∷ attacks rule t j (after (after b n.attack) q) qs
+    unfolding attacks
+    attacks-next j e w = rw (at, o, r, e, w) refl
 
 pub first_at : (rule : RuleKind) (b : Grid) (o : Option Node) (n : Node) (next : Node → List Point) → o ≡ Some n
     → (rest : List Point) × (attacks_at rule o b next ≡ n.attack ∷ rest)

@@ -1,5 +1,5 @@
 -- Nodes at their places in a table, and in one that grows. The nodes that answers name, and the greatest of their depths.
-use Rattle.std.proofs.Common.{◌≡◌, ℕ, zero, suc, ◌<◌, List, [], ◌∷◌, ◌++◌, length, arith, refl, Some, slice_get, ◌+◌, max, Bool, true}
+use Rattle.std.proofs.Common.{◌≡◌, ℕ, zero, suc, ◌<◌, List, [], ◌∷◌, ◌++◌, length, arith, refl, Some, slice_get, max, Bool, true}
 use Rattle.std.proofs.Common.{false, ◌&&◌, map, get_or, sym, ap, ◌∙◌, subst, nat_lt, None, All}
 use Rattle.std.specs.List.{list_all}
 use Rattle.std.proofs.lemmas.Option.{same_Some}
