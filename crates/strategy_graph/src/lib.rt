@@ -5,7 +5,7 @@
 //! opponent moves first. Several boards may share a node.
 //!
 //! `specs/` says when a node is accepted at a board, how many arrivals that takes, how a game against it goes, and
-//! which line leads to a fault. The functions of `theorems` prove that an accepted node wins within its depth, that
+//! which line leads to a fault. The functions of `laws` prove that an accepted node wins within its depth, that
 //! games against it end well, and that all this stays as it is however the table grows.
 #![tactic(auto)]
 
@@ -14,21 +14,21 @@ ghost use Rattle.std.specs.List.{list_all};
 ghost use Rattle.strategy_graph.specs.Tables.{is_winning, rest_node};
 
 mod depths;
+mod laws;
 mod replies;
 mod roots;
 mod start;
 mod table;
-mod theorems;
 
 use game_rules::Point;
+pub use laws::{
+    accepted_start_wins, accepted_wins, faults_refute, faults_refute_start, games_end_well,
+    growth_keeps, growth_keeps_start, nodes_go_by_node,
+};
 pub use replies::{Replies, answer_among};
 pub use roots::Root;
 pub use start::Start;
 pub use table::{PushError, Table};
-pub use theorems::{
-    accepted_start_wins, accepted_wins, faults_refute, faults_refute_start, games_end_well,
-    growth_keeps, growth_keeps_start, nodes_go_by_node,
-};
 
 /// The most nodes that a table has.
 pub const MAX_NODES: u32 = 1_000_000;

@@ -1,6 +1,6 @@
 use Rattle.strategy_graph.proofs.Fuel.{depth-step, accepted-step, arrivals-step}
 use Rattle.strategy_graph.proofs.Copies.{iff_by}
-use Rattle.strategy_graph.proofs.theorems.nodes_go_by_node.Goals as goal
+use Rattle.strategy_graph.proofs.laws.nodes_go_by_node.Goals as goal
 
 pub returns : goal.returns
 returns c = record {
