@@ -16,3 +16,9 @@ abbrev pub takes : FivePoints → Point → Bool
 takes None p = true
 takes (One w) p = is_same_point w p
 takes Several p = false
+
+-- whether there are two or more
+abbrev pub is_several : FivePoints → Bool
+is_several None = false
+is_several (One w) = false
+is_several Several = true

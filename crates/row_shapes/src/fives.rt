@@ -8,7 +8,7 @@ ghost use Rattle.std.specs.Prelude.{◌≡◌, ◌++◌, IfOk};
 ghost use Rattle.game_rules.specs.Grid.{IsBoard};
 ghost use Rattle.game_rules.specs.Games.{five_points as five_points_lem, has_five as has_five_lem};
 ghost use Rattle.game_rules.specs.Shapes.{five};
-ghost use Rattle.row_shapes.specs.FivePoints.{in_short, takes as takes_lem};
+ghost use Rattle.row_shapes.specs.FivePoints.{in_short, is_several as is_several_lem, takes as takes_lem};
 ghost use Rattle.row_shapes.specs.Windows.{AreWindowLines};
 
 use crate::windows::{WindowLines, window_lines};
@@ -25,6 +25,15 @@ pub enum FivePoints {
     One(Point),
     /// Two or more.
     Several,
+}
+
+impl FivePoints {
+    /// Whether there are two five points or more.
+    pub fn is_several(self) -> bool
+        ensures several { result ≡ is_several_lem self }
+    {
+        matches!(self, FivePoints::Several)
+    }
 }
 
 /// Whether a stone of the other side on the point takes all of these five points: there is none, or it is the only one.
@@ -101,12 +110,12 @@ fn is_five<R: Rule>(board: &Board, side: Side, lines: WindowLines, p: Point) -> 
     requires lines { AreWindowLines board.now side lines }
     ensures five { result ≡ five R.KIND board.now side p }
 {
-    lines.hold(p) && is_any_five::<R>(board, side, p)
+    lines.hold(p) && is_five_point::<R>(board, side, p)
 }
 
-/// The same of a side that may win on any line. Few points come as far, so it stands apart from its callers.
+/// Whether the point is a five point of the side. A scan asks it of few points, so it stands apart from its callers.
 #[inline(never)]
-fn is_any_five<R: Rule>(board: &Board, side: Side, p: Point) -> bool
+pub fn is_five_point<R: Rule>(board: &Board, side: Side, p: Point) -> bool
     ensures five { result ≡ five R.KIND board.now side p }
 {
     board.is_empty(p) && five_at::<R>(board, side, p)

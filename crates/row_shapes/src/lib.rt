@@ -21,7 +21,7 @@ mod windows;
 mod wins;
 
 pub use codes::line_code;
-pub use fives::{FivePoints, five_points, fives_in_short, has_five, takes};
+pub use fives::{FivePoints, five_points, fives_in_short, has_five, is_five_point, takes};
 pub use fours::{fours_through, straight_through};
 pub use game_rules::RuleKind;
 pub use laws::shapes_have_reach;

@@ -6,7 +6,7 @@
 
 ghost use Rattle.std.specs.Prelude.{◌≡◌, ◌<◌, ℕ, Bool, true, false, refl};
 ghost use Rattle.game_rules.specs.Shapes.{row_wins};
-ghost use Rattle.game_rules.specs.Play.{has_fouls};
+ghost use Rattle.game_rules.specs.Play.{has_fouls as has_fouls_lem};
 ghost use Rattle.row_shapes.specs.Rule.{reach_of};
 ghost use Rattle.game_rules.specs.declared.RuleKind.{RuleKind};
 ghost use Rattle.game_rules.specs.declared.Side.{Side};
@@ -36,7 +36,17 @@ pub trait Rule {
     fn wins(side: Side, length: u32) -> bool
         ensures wins { result ≡ row_wins KIND side length };
 
-    ghost fouls: { BLACK_FOULS ≡ has_fouls KIND Side.Black };
+    /// Whether the side has fouls: Black alone, and under renju alone.
+    fn has_fouls(side: Side) -> bool
+        ensures fouls { result ≡ has_fouls_lem KIND side }
+    {
+        match side {
+            Side::Black => Self::BLACK_FOULS,
+            Side::White => false,
+        }
+    }
+
+    ghost fouls: { BLACK_FOULS ≡ has_fouls_lem KIND Side.Black };
 
     ghost five_wins: { (s : Side) → row_wins KIND s 5 ≡ true };
 
