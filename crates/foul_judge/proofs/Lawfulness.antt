@@ -1,5 +1,5 @@
 -- A board is lawful exactly where nothing is said against it.
-use Rattle.std.proofs.Common.{◌≡◌, ◌⊎◌, inl, inr, ℕ, ◌+◌, ◌<◌, Bool, true, false, cond, ◌||◌, not, refl, sym, ◌∙◌, arith, nat_eq, eq-eqb}
+use Rattle.std.proofs.Common.{◌≡◌, ◌↔◌, ◌⊎◌, inl, inr, ℕ, ◌+◌, ◌<◌, Bool, true, false, cond, ◌||◌, not, refl, sym, ◌∙◌, arith, nat_eq, eq-eqb}
 use Rattle.std.specs.List.{find}
 use Rattle.std.specs.Prelude.{Option, Some, None}
 use Rattle.std.proofs.lemmas.Bool.{or_right, or_cases, and_from, false_from_ne_true}
@@ -92,3 +92,7 @@ module _ (rule : RuleKind) (b : Grid) where
   none_from_lawful lawful =
       let some : nat_eq (empties_of b) 0 ≡ false = let n = lawful.open_points in grind (arith, nat_tests) in
       rw (named_mover (stones_of b Black) (stones_of b White) lawful.turns, none_from_unwon lawful.unwon, some) refl
+
+  -- nothing is said against the board exactly where it is a lawful position
+  pub lawful-exactly : (o : Option PositionError) → IsBoard b → o ≡ refusal rule b → (o ≡ None) ↔ IsPosition rule b
+  lawful-exactly o ok said = (λ none. lawful_from_none ok (sym said ∙ none), λ lawful. said ∙ none_from_lawful lawful)

@@ -13,5 +13,5 @@ mod short_cut;
 pub use foul::foul_at;
 pub use game_rules::{Foul, Outcome};
 pub use outcome::{mover, outcome_at};
-pub use position::{Position, PositionError};
+pub use position::{Position, PositionError, refusal};
 pub use seen::Seen;

@@ -8,12 +8,12 @@ ghost use Rattle.std.specs.Prelude.{◌≡◌, ◌↔◌, IsTrue, Some, None, If
 ghost use Rattle.std.specs.List.{find};
 ghost use Rattle.game_rules.specs.Grid.{IsBoard, points_of};
 ghost use Rattle.game_rules.specs.Play.{IsPosition};
-ghost use Rattle.foul_judge.specs.Lawful.{refusal, names_mover as names_mover_lem, is_on_winning_run as is_on_winning_run_lem, wins_through as wins_through_lem};
+ghost use Rattle.foul_judge.specs.Lawful.{refusal as refusal_lem, names_mover as names_mover_lem, is_on_winning_run as is_on_winning_run_lem, wins_through as wins_through_lem};
 
 use crate::Seen;
 use crate::outcome::{mover, outcome_at};
-use game_rules::Outcome;
-use row_shapes::{FivePoints, Rule, five_at};
+use game_rules::{Outcome, RuleKind};
+use row_shapes::{FivePoints, Rule, five_at, under_rule};
 use std::alloc::{AllocError, Global};
 use std::marker::{Model, PhantomData};
 use stone_board::{Axis, Board, Point, Points, Side};
@@ -57,11 +57,11 @@ impl<R: Rule> Position<R> {
     pub fn from_board(board: Board) -> Result<Position<R>, (PositionError, Board)>
         ensures ok { IfOk result (λ p. p ≡ board) }
         ensures lawful { IsOk result ↔ IsPosition R.KIND board }
-        ensures unrefused { IsOk result → refusal R.KIND board ≡ None }
-        ensures refused { IfErr result (λ e. refusal R.KIND board ≡ Some e.0) }
+        ensures unrefused { IsOk result → refusal_lem R.KIND board ≡ None }
+        ensures refused { IfErr result (λ e. refusal_lem R.KIND board ≡ Some e.0) }
         ensures returned { IfErr result (λ e. e.1 ≡ board) }
     {
-        match refused::<R>(&board) {
+        match refusal_under::<R>(&board) {
             Some(error) => Err((error, board)),
             None => Ok(Position {
                 board,
@@ -154,10 +154,27 @@ impl<R: Rule> Seen<R> for Position<R> {
     }
 }
 
-/// The first reason that a board is no lawful position.
+/// The first reason that the board is no lawful position under the rule of this kind, if there is one: the counts, then a winning
+/// run, then a full board. No memory is taken.
+pub fn refusal(kind: RuleKind, board: &Board) -> Option<PositionError>
+    ensures refusal { result ≡ refusal_lem kind board.now }
+    ensures lawful { result ≡ None ↔ IsPosition kind board.now }
+{
+    under_rule!(kind, refusal_under(board))
+}
+
+/// The same under a rule that is a type.
+fn refusal_under<R: Rule>(board: &Board) -> Option<PositionError>
+    ensures refusal { result ≡ refusal_lem R.KIND board.now }
+    ensures lawful { result ≡ None ↔ IsPosition R.KIND board.now }
+{
+    first_refusal::<R>(board)
+}
+
+/// The first of the three reasons that holds.
 #[tactic(auto, unfolding(crate::specs::Lawful::refusal))]
-fn refused<R: Rule>(board: &Board) -> Option<PositionError>
-    ensures refusal { result ≡ refusal R.KIND board.now }
+fn first_refusal<R: Rule>(board: &Board) -> Option<PositionError>
+    ensures refusal { result ≡ refusal_lem R.KIND board.now }
     ensures board { IsBoard board.now }
 {
     let black = board.count(Side::Black);
