@@ -20,7 +20,7 @@ ghost use Rattle.strategy_compiler.specs.Forks.{WinsAtOnce, WinsByAnswers};
 ghost use Rattle.strategy_compiler.specs.Nodes.{IsCompiled, NamesOnly, PutsIn, answering_node, winning_node};
 
 use crate::WrittenWin;
-use crate::renumbering::{add, made_from};
+use crate::renumbering::made_from;
 use crate::rests::answering;
 use crate::starts::start_from;
 use game_rules::Point;
@@ -169,7 +169,7 @@ impl Compiler {
         let Compiler { nodes } = self;
         let mut table = Table::new(*nodes.allocator());
         for node in nodes {
-            add(&mut table, node)?;
+            table.push_node(node)?;
         }
         Ok(table)
     }

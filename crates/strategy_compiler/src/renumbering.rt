@@ -3,10 +3,11 @@
 //! Each node comes after all that it names, so its copy names only lower ones, and is pushed onto the table as it is read.
 #![tactic(auto)]
 
-ghost use Rattle.std.specs.Prelude.{◌≡◌, ◌<◌, ◌≤◌, ◌++◌, ◌∷◌, [], ℕ, true, nat_lt, map, length, slice_get, slice_index, Some, All, IfOk, OnOk};
+ghost use Rattle.std.specs.Prelude.{◌≡◌, ◌<◌, ◌≤◌, ℕ, true, nat_lt, map, length, slice_get, slice_index, Some, All, IfOk};
 ghost use Rattle.std.specs.Prelude.{option_to_list};
 ghost use Rattle.std.specs.List.{list_all};
-ghost use Rattle.strategy_graph.specs.Tables.{IsNode, IsTable, answers_of, names_below, rest_node};
+ghost use Rattle.strategy_graph.specs.declared.TheConstants.{MAX_NODES};
+ghost use Rattle.strategy_graph.specs.Tables.{IsTable, answers_of, names_below, rest_node};
 ghost use Rattle.strategy_graph.specs.Renumbered.{renumbered_node, renumbered_reply, renumbered_rest as renumbered_rest_lem};
 ghost use Rattle.strategy_compiler.specs.Walks.{Renumbers, completed_from};
 ghost use Rattle.strategy_compiler.specs.Orders.{ArePlaces, IsMadeFrom, IsOrder};
@@ -14,7 +15,7 @@ ghost use Rattle.strategy_compiler.specs.Nodes.{IsCompiled};
 
 use crate::walk::completed_order;
 use std::alloc::{AllocError, Global};
-use strategy_graph::{MAX_NODES, Node, PushError, Replies, Reply, Rest, Table};
+use strategy_graph::{Node, Replies, Reply, Rest, Table};
 
 /// For each number of the order its place there, as a list by number; for other numbers it says nothing.
 fn places_in(alloc: Global, order: &[u32], len: usize) -> Result<Vec<u32>, AllocError>
@@ -76,19 +77,6 @@ pub fn renumbered(alloc: Global, node: &Node, places: &[u32]) -> Result<Node, Al
     })
 }
 
-/// Adds the node at the end of the table, which has room for it.
-pub(crate) fn add(table: &mut Table, node: Node) -> Result<(), AllocError>
-    requires node { IsNode node (length table.old) }
-    requires room { length table.old < MAX_NODES }
-    ensures added { OnOk result (table.new ≡ table.old ++ node ∷ []) }
-{
-    match table.push(node) {
-        Ok(_) => Ok(()),
-        Err(PushError::Memory) => Err(AllocError),
-        Err(_) => unreachable!(),
-    }
-}
-
 /// The table of the nodes with these numbers, in this order, where each number has its place.
 fn table_of(
     alloc: Global,
@@ -105,7 +93,7 @@ fn table_of(
     let mut table = Table::new(alloc);
     for number in order {
         let node = renumbered(alloc, &nodes[*number as usize], places)?;
-        add(&mut table, node)?;
+        table.push_node(node)?;
     }
     Ok(table)
 }

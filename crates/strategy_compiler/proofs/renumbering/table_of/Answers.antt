@@ -14,8 +14,8 @@ renumbered-requires c = record {
       (length c.args.places.now) c.requires.count;
 }
 
-pub add-requires-clause-node : goal.add-requires-clause-node
-add-requires-clause-node c =
+pub push_node-requires-clause-node : goal.push_node-requires-clause-node
+push_node-requires-clause-node c =
     node-next c.args.nodes.now c.args.order.now c.requires.table c.requires.order c.loop-number.number-index c.loop-number-test.true
     c.index-nodes-number.result c.index-nodes-number.is
     c.args.places.now c.requires.places c.in_ok-node.node c.in_ok-node.ensures.node c.loop-number.table c.loop-number.invariant
@@ -25,7 +25,7 @@ loop-number-preserved c =
     renumbers-next c.args.nodes.now c.args.order.now c.requires.table c.requires.order c.loop-number.number-index c.loop-number-test.true
     c.index-nodes-number.result c.index-nodes-number.is
     c.args.places.now c.requires.places c.in_ok-node.node c.in_ok-node.ensures.node c.loop-number.table c.loop-number.invariant
-    c.add.new.table c.in_ok-add.ensures.added
+    c.push_node.new.self c.in_ok-push_node.ensures.pushed
 
 pub returns : goal.returns
 returns c = record {

@@ -10,20 +10,20 @@ loop-node-init c =
     ap (λ (ns : List Node). ns ++ c.into_iter-node-iterator.result) c.new-table.ensures.empty
     ∙ c.into_iter-node-iterator.ensures.into_iter_gives.0 ∙ c.self.view_is
 
-pub add-requires-clause-node : goal.add-requires-clause-node
-add-requires-clause-node c =
+pub push_node-requires-clause-node : goal.push_node-requires-clause-node
+push_node-requires-clause-node c =
     next-is_node c.self.inside.nodes.keys c.loop-node.table c.loop-node.node-iterator c.next.new.self c.in-Some.node c.self.invariant.table
     (c.loop-node.invariant ∙ sym c.self.view_is) c.in-Some.ensures.steps
 
-pub add-requires-clause-room : goal.add-requires-clause-room
-add-requires-clause-room c =
+pub push_node-requires-clause-room : goal.push_node-requires-clause-room
+push_node-requires-clause-room c =
     next-has_room c.self.inside.nodes.keys c.loop-node.table c.loop-node.node-iterator c.next.new.self c.in-Some.node c.self.invariant.table
     (c.loop-node.invariant ∙ sym c.self.view_is) c.in-Some.ensures.steps
 
 pub loop-node-preserved : goal.loop-node-preserved
 loop-node-preserved c =
     next-done c.self.inside.nodes.keys c.loop-node.table c.loop-node.node-iterator c.next.new.self c.in-Some.node c.self.invariant.table
-    (c.loop-node.invariant ∙ sym c.self.view_is) c.in-Some.ensures.steps c.add.new.table c.in_ok-add.ensures.added
+    (c.loop-node.invariant ∙ sym c.self.view_is) c.in-Some.ensures.steps c.push_node.new.self c.in_ok-push_node.ensures.pushed
     ∙ c.self.view_is
 
 pub returns-clause-nodes : goal.returns-clause-nodes
