@@ -16,7 +16,7 @@ ghost use Rattle.four_search.specs.Searching.{four_line, line_behind};
 ghost use Rattle.four_search.specs.Plans.{four_plan, answers_for};
 
 use crate::SearchError;
-use crate::search::{Exchange, has_fouls, no_five_outcome};
+use crate::search::{Exchange, no_five_outcome};
 use foul_judge::{Outcome, Seen};
 use row_shapes::Rule;
 use std::alloc::{AllocError, Global};
@@ -273,7 +273,7 @@ fn goes_on<R: Rule, V: Seen<R>>(view: &mut V, q: Point) -> bool
     ensures on { result ≡ goes_on_lem (outcome_lem R.KIND (V.position view.old) q) }
     ensures same { V.position view.new ≡ V.position view.old }
 {
-    if has_fouls::<R>(view.side()) {
+    if R::has_fouls(view.side()) {
         return matches!(view.outcome(q), Outcome::GoesOn);
     }
     if !view.board().is_empty(q) {

@@ -9,7 +9,7 @@
 
 ghost use Rattle.std.specs.Prelude.{◌≡◌, ◌<◌, ◌≤◌, ◌+◌, ◌-◌, if◌then◌else◌, nat_le, [], ◌∷◌, ◌++◌, true, false, IfOk, IsTrue, Some};
 ghost use Rattle.game_rules.specs.Grid.{is_empty};
-ghost use Rattle.game_rules.specs.Play.{IsPosition, after, outcome, mover, other as other_lem, has_fouls as has_fouls_lem};
+ghost use Rattle.game_rules.specs.Play.{IsPosition, after, outcome, mover, other as other_lem};
 ghost use Rattle.game_rules.specs.Games.{has_five as has_five_lem, five_points};
 ghost use Rattle.threat_moves.specs.FourMoves.{is_four_move};
 ghost use Rattle.threat_moves.specs.OneBlock.{all_foul as all_foul_lem, won_within as won_within_lem};
@@ -25,7 +25,7 @@ use crate::root::Root;
 use foul_judge::{Outcome, Seen};
 use row_shapes::{Rule, takes};
 use std::alloc::AllocError;
-use stone_board::{Point, Points, Side};
+use stone_board::{Point, Points};
 use threat_moves::{BlockAnswer, FivePoints, by_block};
 
 /// The least number of points that make a five point with which a position is looked up. Where fewer than three fours stand apart,
@@ -334,7 +334,7 @@ fn after_block<R: Rule, V: Seen<R>>(
         return Ok(Found::Spent);
     }
     let defender = view.side();
-    if limits.moves == 1 && !has_fouls::<R>(defender) {
+    if limits.moves == 1 && !R::has_fouls(defender) {
         return Ok(Found::NoWin {
             left: limits.budget - 1,
         });
@@ -369,7 +369,7 @@ pub(crate) fn no_five_outcome<R: Rule, V: Seen<R>>(view: &mut V, p: Point) -> Ou
     ensures outcome { result ≡ outcome R.KIND (V.position view.old) p }
     ensures same { V.position view.new ≡ V.position view.old }
 {
-    if has_fouls::<R>(view.side()) {
+    if R::has_fouls(view.side()) {
         return view.outcome(p);
     }
     if view.board().empties() == 1 {
@@ -409,14 +409,4 @@ fn all_foul<R: Rule, V: Seen<R>>(view: &mut V) -> bool
         }
     }
     true
-}
-
-/// Whether the side has fouls.
-pub(crate) fn has_fouls<R: Rule>(side: Side) -> bool
-    ensures fouls { result ≡ has_fouls_lem R.KIND side }
-{
-    match side {
-        Side::Black => R::BLACK_FOULS,
-        Side::White => false,
-    }
 }

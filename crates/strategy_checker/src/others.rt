@@ -9,13 +9,13 @@ ghost use Rattle.std.specs.List.{count_by, list_any};
 ghost use Rattle.game_rules.specs.Grid.{IsBoard, is_empty, empties_of, points_of};
 ghost use Rattle.game_rules.specs.Games.{has_five};
 ghost use Rattle.game_rules.specs.Shapes.{is_same_point};
-ghost use Rattle.game_rules.specs.Play.{outcome, mover, goes_on, has_fouls as has_fouls_lem};
+ghost use Rattle.game_rules.specs.Play.{outcome, mover, goes_on};
 ghost use Rattle.strategy_graph.specs.Tables.{is_rising};
 ghost use Rattle.strategy_checker.specs.Walks.{is_apart as is_apart_lem};
 
 use foul_judge::{Outcome, Position, Seen};
 use row_shapes::Rule;
-use stone_board::{Board, Point, Side};
+use stone_board::{Board, Point};
 use strategy_graph::Replies;
 
 /// How many replies go on that are neither listed nor on `w`.
@@ -32,20 +32,10 @@ pub(crate) fn others_going_on<R: Rule>(
         ≡ count_by (λ q. goes_on (outcome R.KIND position.old q) && not (is_apart_lem replies.now w q)) (points_of position.old) }
     ensures same { position.new ≡ position.old }
 {
-    if has_fouls::<R>(position.side()) {
+    if R::has_fouls(position.side()) {
         asked_others(position, replies, w)
     } else {
         empty_others(position.board(), replies, w)
-    }
-}
-
-/// Whether the side has fouls under the rule.
-pub(crate) fn has_fouls<R: Rule>(side: Side) -> bool
-    ensures fouls { result ≡ has_fouls_lem R.KIND side }
-{
-    match side {
-        Side::Black => R::BLACK_FOULS,
-        Side::White => false,
     }
 }
 

@@ -8,7 +8,6 @@ ghost use Rattle.strategy_graph.specs.Tables.{rest_node};
 ghost use Rattle.strategy_checker.specs.Walks.{AreFives, IsOutlook, IsQuick, IsSure, TellsFives, fives_after, is_sure_after};
 ghost use Rattle.strategy_checker.specs.Walks.{leaves_none as leaves_none_lem};
 
-use crate::others::has_fouls;
 use foul_judge::{Outcome, Position, Seen};
 use row_shapes::{FivePoints, Rule};
 use stone_board::Point;
@@ -109,7 +108,7 @@ fn is_quick<R: Rule>(free: bool, position: &Position<R>) -> bool
 {
     if free {
         if position.board().empties() > 1 {
-            return !has_fouls::<R>(position.side());
+            return !R::has_fouls(position.side());
         }
     }
     false

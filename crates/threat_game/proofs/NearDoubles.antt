@@ -46,7 +46,7 @@ use Rattle.row_shapes.specs.FiveEnds.{end_five, with_more}
 use Rattle.row_shapes.specs.declared.fives.FivePoints.TheVariants.{None as NoPoint, One, Several}
 use Rattle.row_shapes.proofs.NewFives.{end_wins}
 use Rattle.row_shapes.proofs.FiveLaws.{none-short}
-use Rattle.threat_moves.specs.ThreeMoves.{is_several}
+use Rattle.row_shapes.specs.FivePoints.{is_several}
 use Rattle.threat_moves.specs.ThreeMoves.{has_double_point}
 use Rattle.threat_moves.proofs.GainLaws.{several, few-double, double-empty, threat-by_double, taken-no_gain, no_gain-double}
 use Rattle.threat_game.specs.NearDoubles.{AreNearStones, DoublesAreNear, IsInReach, is_double_on, makes_on, makes_two, reach, some_has}

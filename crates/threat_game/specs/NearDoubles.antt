@@ -16,7 +16,7 @@ use Rattle.row_shapes.specs.FivePoints.{in_short}
 use Rattle.row_shapes.specs.FiveEnds.{with_axis}
 use Rattle.row_shapes.specs.declared.fives.FivePoints.{FivePoints}
 use Rattle.row_shapes.specs.declared.fives.FivePoints.TheVariants.{None as NoPoint, One, Several}
-use Rattle.threat_moves.specs.ThreeMoves.{is_several}
+use Rattle.row_shapes.specs.FivePoints.{is_several}
 use Rattle.threat_game.specs.declared.near_stones.NearStones.{NearStones}
 
 -- whether there is a five point

@@ -13,7 +13,6 @@ ghost use Rattle.game_rules.specs.Shapes.{is_same_point};
 ghost use Rattle.game_rules.specs.Play.{IsPosition, outcome as outcome_lem, mover, other, after, goes_on as goes_on_lem};
 ghost use Rattle.game_rules.specs.Games.{has_five as has_five_lem, five_points as five_points_lem, has_threat};
 ghost use Rattle.row_shapes.specs.FivePoints.{in_short};
-ghost use Rattle.threat_moves.specs.ThreeMoves.{is_several as is_several_lem};
 ghost use Rattle.threat_game.specs.ThreatGame.{is_threat_move as is_threat_move_lem};
 ghost use Rattle.threat_game.specs.FreeMoves.{EachGoesOn};
 ghost use Rattle.threat_game.specs.NearDoubles.{AreNearStones, is_some_point as is_some_point_lem, makes_two as makes_two_lem};
@@ -22,7 +21,6 @@ ghost use Rattle.threat_game.specs.Attacks.{AreAttacks, IsAttempt, IsDoubleTold,
 ghost use Rattle.threat_game.specs.Attacks.{best_reply as best_reply_lem};
 
 use crate::doubles::{DoublePoint, double_at};
-use crate::last_moves::has_fouls;
 use crate::near_doubles::leaves_double;
 use crate::near_stones::{NearStones, near_stones};
 use crate::quiet_points::is_quiet;
@@ -143,7 +141,7 @@ fn makes_two<R: Rule, V: Seen<R>>(view: &V, p: Point) -> bool
         return false;
     }
     let near = near_stones(view.board(), view.side(), p);
-    is_several(fives_by::<R, V>(view, near, p))
+    fives_by::<R, V>(view, near, p).is_several()
 }
 
 /// The five points that the side to move has after its stone on an empty point, where it has none before it and at most so many
@@ -160,13 +158,6 @@ pub(crate) fn fives_by<R: Rule, V: Seen<R>>(view: &V, near: NearStones, p: Point
         return FivePoints::None;
     }
     view.fives_made(p)
-}
-
-/// Whether there are two five points or more.
-fn is_several(fives: FivePoints) -> bool
-    ensures several { result ≡ is_several_lem fives }
-{
-    matches!(fives, FivePoints::Several)
 }
 
 /// Whether there is a five point.
@@ -251,7 +242,7 @@ fn is_quiet_move<R: Rule, V: Seen<R>>(view: &V, p: Point) -> bool
     ensures on { IsTrue result → outcome_lem R.KIND (V.position view.now) p ≡ Outcome.GoesOn }
     ensures lawful { IsPosition R.KIND (V.position view.now) }
 {
-    if !has_fouls::<R>(view.side()) {
+    if !R::has_fouls(view.side()) {
         return false;
     }
     let board = view.board();
@@ -264,7 +255,7 @@ pub fn each_goes_on<R: Rule, V: Seen<R>>(view: &V) -> bool
     requires none { has_five_lem R.KIND (V.position view.now) (mover (V.position view.now)) ≡ false }
     ensures each { IsTrue result → EachGoesOn R.KIND (V.position view.now) }
 {
-    !has_fouls::<R>(view.side()) && view.board().empties() >= 2
+    !R::has_fouls(view.side()) && view.board().empties() >= 2
 }
 
 /// Whether the move goes on, where it may be told that each on an empty point does.

@@ -17,7 +17,6 @@ ghost use Rattle.threat_game.specs.Replies.{answer_nodes, has_reply_at, has_repl
 ghost use Rattle.threat_game.specs.Wins.{IsThreatWin};
 
 use crate::attacks::{each_goes_on, goes_on, goes_on_where};
-use crate::last_moves::has_fouls;
 use foul_judge::Seen;
 use game_rules::RuleKind;
 use row_shapes::Rule;
@@ -169,7 +168,7 @@ pub(crate) fn answers_to_win<R: Rule, V: Seen<R>>(view: &mut V, double: DoublePo
     ensures few { result ≤ 2 }
     ensures same { V.position view.new ≡ V.position view.old }
 {
-    if !has_fouls::<R>(view.side().other()) && view.board().empties() >= 3 {
+    if !R::has_fouls(view.side().other()) && view.board().empties() >= 3 {
         return 2;
     }
     answers_of::<R, V>(view, double)

@@ -4,7 +4,7 @@
 #![tactic(auto)]
 
 ghost use Rattle.std.specs.Prelude.{◌≡◌, true, false, IfSome, IfNone};
-ghost use Rattle.game_rules.specs.Play.{mover, after, outcome as outcome_lem, has_fouls as has_fouls_lem};
+ghost use Rattle.game_rules.specs.Play.{mover, after, outcome as outcome_lem};
 ghost use Rattle.game_rules.specs.Games.{WinsByThreats, has_five as has_five_lem};
 ghost use Rattle.game_rules.specs.declared.Outcome.{Outcome};
 ghost use Rattle.threat_moves.specs.OneBlock.{all_foul};
@@ -14,7 +14,7 @@ use crate::attacks::{BestReply, best_reply_to, goes_on, is_threat_move};
 use crate::quiet_points::has_two_quiet;
 use foul_judge::Seen;
 use row_shapes::Rule;
-use stone_board::{Board, Point, Side};
+use stone_board::{Board, Point};
 
 /// A move of the game of threats after which each reply fouls, if there is one. The attacker has no five point. The view is as
 /// before, and so is the board, a copy of its own.
@@ -27,7 +27,7 @@ pub fn last_move<R: Rule, V: Seen<R>>(view: &mut V, board: &mut Board) -> Option
     ensures same_board { board.new ≡ board.old }
 {
     let defender = view.side().other();
-    if !has_fouls::<R>(defender) {
+    if !R::has_fouls(defender) {
         return None;
     }
     if has_two_quiet(view.board()) {
@@ -71,14 +71,4 @@ fn is_fouled(best: BestReply) -> bool
     ensures fouled { result ≡ is_fouled_lem best }
 {
     matches!(best, BestReply::Fouls)
-}
-
-/// Whether the side has fouls.
-pub fn has_fouls<R: Rule>(side: Side) -> bool
-    ensures fouls { result ≡ has_fouls_lem R.KIND side }
-{
-    match side {
-        Side::Black => R::BLACK_FOULS,
-        Side::White => false,
-    }
 }

@@ -7,8 +7,6 @@ use Rattle.game_rules.specs.Games.{has_five, is_double_point}
 use Rattle.game_rules.specs.declared.RuleKind.{RuleKind}
 use Rattle.game_rules.specs.declared.Side.{Side}
 use Rattle.game_rules.specs.declared.Point.{Point}
-use Rattle.row_shapes.specs.declared.fives.FivePoints.{FivePoints}
-use Rattle.row_shapes.specs.declared.fives.FivePoints.TheVariants.{None as NoPoint, One, Several}
 
 -- whether the side has a double point
 abbrev pub has_double_point : RuleKind → Grid → Side → Bool
@@ -21,12 +19,6 @@ has_double_point_alone rule b s = not (has_five rule b s) && has_double_point ru
 -- whether a stone of the side on p leaves it no five point but a double point
 abbrev pub makes_double_point : RuleKind → Grid → Side → Point → Bool
 makes_double_point rule b s p = has_double_point_alone rule (put b s p) s
-
--- whether there are two five points or more
-abbrev pub is_several : FivePoints → Bool
-is_several NoPoint = false
-is_several (One w) = false
-is_several Several = true
 
 -- a three move: it goes on, and after it the side that made it has no five point but a double point
 unfoldable pub is_three_move : RuleKind → Grid → Point → Bool

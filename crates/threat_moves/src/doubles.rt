@@ -4,15 +4,14 @@
 //! or more. It is a threat to win by a straight four or by two fours.
 #![tactic(auto)]
 
-ghost use Rattle.std.specs.Prelude.{◌≡◌, ◌≤◌, false, IfOk, IsTrue, length, nat_le};
+ghost use Rattle.std.specs.Prelude.{◌≡◌, false, IfOk, IsTrue};
 ghost use Rattle.game_rules.specs.Grid.{is_empty, put};
-ghost use Rattle.game_rules.specs.Games.{five_points, has_five as has_five_lem, is_double_point as is_double_point_lem};
-ghost use Rattle.row_shapes.specs.FivePoints.{in_short};
-ghost use Rattle.threat_moves.specs.ThreeMoves.{has_double_point as has_double_point_lem, is_three_move as is_three_move_lem, makes_double_point as makes_double_point_lem, has_double_point_alone as has_double_point_alone_lem, is_several as is_several_lem, three_moves as three_moves_lem};
+ghost use Rattle.game_rules.specs.Games.{has_five as has_five_lem, is_double_point as is_double_point_lem};
+ghost use Rattle.threat_moves.specs.ThreeMoves.{has_double_point as has_double_point_lem, is_three_move as is_three_move_lem, makes_double_point as makes_double_point_lem, has_double_point_alone as has_double_point_alone_lem, three_moves as three_moves_lem};
 
 use crate::gains::is_gain;
 use foul_judge::{Outcome, Seen};
-use row_shapes::{FivePoints, Rule, fives_in_short, fives_made, has_five};
+use row_shapes::{Rule, fives_in_short, fives_made, has_five};
 use std::alloc::{AllocError, Global};
 use stone_board::{Board, Point, Points, Side};
 
@@ -25,7 +24,7 @@ pub fn is_double_point<R: Rule>(board: &mut Board, side: Side, p: Point) -> bool
         return false;
     }
     board.put(p, side);
-    let two = is_several(fives_in_short::<R>(board, side));
+    let two = fives_in_short::<R>(board, side).is_several();
     board.lift(p);
     two
 }
@@ -39,17 +38,10 @@ pub fn is_new_double_point<R: Rule>(board: &mut Board, side: Side, p: Point) -> 
     if !board.is_empty(p) {
         return false;
     }
-    if !is_several(fives_made::<R>(board, side, p)) {
+    if !fives_made::<R>(board, side, p).is_several() {
         return false;
     }
     is_gain::<R>(board, side, p)
-}
-
-/// Whether there are two five points or more.
-fn is_several(fives: FivePoints) -> bool
-    ensures several { result ≡ is_several_lem fives }
-{
-    matches!(fives, FivePoints::Several)
 }
 
 /// Whether the side, which has no five point, has a double point. The board is as before.

@@ -17,7 +17,7 @@ mod threat_list;
 pub use block::{BlockAnswer, by_block, forced};
 pub use doubles::{is_double_point, is_new_double_point, is_three_move, three_moves};
 pub use five_points::{fives, fives_in_short, fives_made, has_five};
-pub use gains::{has_fouls, is_gain, is_threat, stays_free, threats_at};
+pub use gains::{is_gain, is_threat, stays_free, threats_at};
 pub use laws::{block_decides, others_leave_five};
 pub use moves::{four_moves, is_four_move};
 pub use row_shapes::FivePoints;

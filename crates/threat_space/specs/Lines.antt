@@ -10,7 +10,7 @@ use Rattle.game_rules.specs.declared.RuleKind.{RuleKind}
 use Rattle.game_rules.specs.declared.Side.{Side}
 use Rattle.game_rules.specs.declared.Point.{Point}
 use Rattle.row_shapes.specs.FivePoints.{in_short}
-use Rattle.threat_moves.specs.ThreeMoves.{is_several}
+use Rattle.row_shapes.specs.FivePoints.{is_several}
 use Rattle.threat_moves.specs.declared.threat_list.Threat.{Threat}
 use Rattle.threat_space.specs.Sequences.{is_sequence}
 

@@ -13,14 +13,13 @@ ghost use Rattle.threat_space.specs.Lines.{HasPairsOf, has_point as has_point_le
 use row_shapes::{FivePoints, Rule, fives_made, has_five};
 use std::alloc::{AllocError, Global};
 use stone_board::{Board, Point, Points, Side};
-use threat_moves::has_fouls;
 
 /// The points at which a stone of the side leaves it two five points or more, or all empty ones where it has one already, if the
 /// side has fouls. Else none are asked for. `Err` says that memory ran out.
 pub(crate) fn pairs<R: Rule>(alloc: Global, board: &Board, side: Side) -> Result<Points, AllocError>
     ensures pairs { IfOk result (λ found. HasPairsOf R.KIND board.now side found) }
 {
-    if has_fouls::<R>(side) {
+    if R::has_fouls(side) {
         return all_pairs::<R>(alloc, board, side);
     }
     Ok(Points::new(alloc))

@@ -5,7 +5,7 @@ use Rattle.game_rules.proofs.Boards.{is_empty-on}
 use Rattle.threat_game.specs.NearDoubles.{AreNearStones}
 use Rattle.game_rules.proofs.Common.{Grid, is_empty, mover, after, five_points}
 use Rattle.row_shapes.specs.FivePoints.{in_short}
-use Rattle.threat_moves.specs.ThreeMoves.{is_several}
+use Rattle.row_shapes.specs.FivePoints.{is_several}
 use Rattle.threat_game.proofs.attacks.makes_two.Goals as goal
 
 pub returns-then-not-is_empty : goal.returns-then-not-is_empty

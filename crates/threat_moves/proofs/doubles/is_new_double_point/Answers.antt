@@ -1,5 +1,5 @@
 use Rattle.std.proofs.Common.{sym, ap, ◌∙◌}
-use Rattle.threat_moves.specs.ThreeMoves.{is_several}
+use Rattle.row_shapes.specs.FivePoints.{is_several}
 use Rattle.threat_moves.proofs.GainLaws.{taken-no_gain, no_gain-double, few-double, several-double}
 use Rattle.threat_moves.proofs.doubles.is_new_double_point.Goals as goal
 
