@@ -8,7 +8,6 @@ ghost use Rattle.std.specs.Prelude.{◌≡◌, IfOk, IsTrue};
 ghost use Rattle.threat_moves.specs.FourMoves.{is_four_move};
 ghost use Rattle.threat_moves.specs.Blocks.{by_block as by_block_lem, fate as fate_lem, block_answer};
 
-use crate::five_points::{fives, has_five};
 use foul_judge::{Outcome, Seen};
 use row_shapes::Rule;
 use std::alloc::{AllocError, Global};
@@ -50,10 +49,10 @@ fn fate<R: Rule, V: Seen<R>>(alloc: Global, view: &mut V) -> Result<BlockAnswer,
     ensures same { V.position view.new ≡ V.position view.old }
 {
     let defender = view.side();
-    if has_five::<R, V>(view, defender) {
+    if view.has_five(defender) {
         return Ok(BlockAnswer::Lost);
     }
-    let points = fives::<R, V>(alloc, view, defender.other())?;
+    let points = view.five_points(alloc, defender.other())?;
     match points.as_slice() {
         [] => Ok(BlockAnswer::Lost),
         [block] => {

@@ -7,8 +7,9 @@
 #![tactic(auto)]
 
 mod block;
+mod costs;
 mod doubles;
-mod five_points;
+mod free_points;
 mod gains;
 mod laws;
 mod moves;
@@ -16,9 +17,9 @@ mod threat_list;
 
 pub use block::{BlockAnswer, by_block, forced};
 pub use doubles::{is_double_point, is_new_double_point, is_three_move, three_moves};
-pub use five_points::{fives, fives_in_short, fives_made, has_five};
-pub use gains::{is_gain, is_threat, stays_free, threats_at};
+pub use free_points::stays_free;
+pub use gains::{is_gain, is_threat, threats_at};
 pub use laws::{block_decides, others_leave_five};
-pub use moves::{four_moves, is_four_move};
+pub use moves::{fives, four_moves, is_four_move};
 pub use row_shapes::FivePoints;
 pub use threat_list::{Threat, ThreatKind, Threats};

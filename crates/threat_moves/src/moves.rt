@@ -1,16 +1,24 @@
-//! Moves that make fours.
+//! Five points, and the moves that make fours.
 //!
-//! A four is told by its five point after the move, not by the look of its line: so overlines and fouls are judged by the rule itself.
+//! A four is told by its five point after the move, not by the look of its line: so overlines and fouls are judged by the rule
+//! itself. The view knows the five points: a plain one looks for them on its board, and another may answer at once.
 #![tactic(auto)]
 
 ghost use Rattle.std.specs.Prelude.{◌≡◌, IfOk};
+ghost use Rattle.game_rules.specs.Games.{five_points};
 ghost use Rattle.threat_moves.specs.FourMoves.{is_four_move as is_four_move_lem, four_moves as four_moves_lem};
 
-use crate::five_points::has_five;
 use foul_judge::{Outcome, Seen};
 use row_shapes::Rule;
 use std::alloc::{AllocError, Global};
-use stone_board::{Point, Points};
+use stone_board::{Point, Points, Side};
+
+/// All five points of the side, in reading order. `Err` says that memory ran out.
+pub fn fives<R: Rule, V: Seen<R>>(alloc: Global, view: &V, side: Side) -> Result<Points, AllocError>
+    ensures fives { IfOk result (λ points. points ≡ five_points R.KIND (V.position view.now) side) }
+{
+    view.five_points(alloc, side)
+}
 
 /// The moves of the side to move that go on and leave it a five point, in reading order. The view is as before, also
 /// where memory ran out, which `Err` says.
@@ -37,7 +45,7 @@ pub fn is_four_move<R: Rule, V: Seen<R>>(view: &mut V, p: Point) -> bool
         Outcome::GoesOn => {
             let side = view.side();
             view.play(p);
-            let four = has_five::<R, V>(view, side);
+            let four = view.has_five(side);
             view.undo(p);
             four
         }

@@ -7,8 +7,7 @@ use std::alloc::Global;
 use std::test::Fail;
 use stone_board::{Axis, Board, Point, Side};
 use threat_moves::{
-    BlockAnswer, FivePoints, fives, fives_in_short, fives_made, forced, four_moves, has_five,
-    is_double_point, is_four_move, three_moves,
+    BlockAnswer, FivePoints, fives, forced, four_moves, is_double_point, is_four_move, three_moves,
 };
 
 const THREE_IN_A_ROW: [(u8, u8); 3] = [(5, 7), (6, 7), (7, 7)];
@@ -23,7 +22,7 @@ fn three_in_a_row(alloc: Global) -> Result<Position<Freestyle>, Fail> {
 #[test]
 fn a_three_leaves_no_five_point(rt: HostRuntime) -> Result<(), Fail> {
     let view = three_in_a_row(rt.alloc())?;
-    assert!(rt; !has_five::<Freestyle, Position<Freestyle>>(&view, Side::Black));
+    assert!(rt; !view.has_five(Side::Black));
     assert_eq!(rt;
         fives::<Freestyle, Position<Freestyle>>(rt.alloc(), &view, Side::Black)?.len(),
         0
@@ -104,14 +103,14 @@ fn two_five_points_win(rt: HostRuntime) -> Result<(), Fail> {
 /// What a move of the side to move makes, told before it is played, and told again once it is.
 fn told<R: Rule>(view: &mut Position<R>, p: Point) -> Option<(FivePoints, FivePoints)> {
     let side = view.side();
-    if has_five::<R, Position<R>>(view, side) || !view.board().is_empty(p) {
+    if view.has_five(side) || !view.board().is_empty(p) {
         return None;
     }
-    let made = fives_made::<R, Position<R>>(view, p);
+    let made = view.fives_made(p);
     match view.outcome(p) {
         Outcome::GoesOn => {
             view.play(p);
-            Some((made, fives_in_short::<R, Position<R>>(view, side)))
+            Some((made, view.fives_in_short(side)))
         }
         _ => None,
     }

@@ -1,6 +1,6 @@
 use Rattle.game_rules.specs.declared.Side.TheVariants.{Black}
 use Rattle.foul_judge.proofs.MayFoul.{line_by_bits}
-use Rattle.threat_moves.proofs.gains.some_three.Goals as goal
+use Rattle.threat_moves.proofs.free_points.some_three.Goals as goal
 
 pub returns : goal.returns
 returns g c = record {

@@ -4,7 +4,7 @@ use Rattle.game_rules.specs.declared.Side.TheVariants.{Black}
 use Rattle.game_rules.proofs.Boards.{is_empty-on, holds-put_same, lift-put}
 use Rattle.stone_board.specs.Steps.{holds_stone}
 use Rattle.stone_board.proofs.Stones.{put-holds_stone}
-use Rattle.threat_moves.proofs.gains.has_few_threes.Goals as goal
+use Rattle.threat_moves.proofs.free_points.has_few_threes.Goals as goal
 
 pub line_threes-few-requires : goal.line_threes-few-requires
 line_threes-few-requires g c =

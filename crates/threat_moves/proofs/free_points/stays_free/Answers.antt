@@ -3,7 +3,7 @@ use Rattle.game_rules.specs.Grid.{put}
 use Rattle.game_rules.proofs.Common.{other}
 use Rattle.game_rules.proofs.Outcomes.{no_foul}
 use Rattle.threat_moves.proofs.FarStones.{stays-free}
-use Rattle.threat_moves.proofs.gains.stays_free.Goals as goal
+use Rattle.threat_moves.proofs.free_points.stays_free.Goals as goal
 
 pub returns-then-not-has_fouls-clause-stays : goal.returns-then-not-has_fouls-clause-stays
 returns-then-not-has_fouls-clause-stays g c = λ told none z free apart.
