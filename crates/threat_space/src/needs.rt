@@ -12,7 +12,7 @@ ghost use Rattle.threat_space.specs.Barren.{HasLastGain, IsNearAfter, CannotEnd,
 
 use crate::boards::{played, without};
 use crate::pairs::has_point;
-use row_shapes::{Rule, five_at, has_five};
+use row_shapes::{Rule, has_five, is_five_point};
 use std::alloc::AllocError;
 use stone_board::{Board, Point, Side};
 use threat_moves::{Threat, is_double_point, is_new_double_point, is_threat};
@@ -136,7 +136,7 @@ fn is_any_final_point<R: Rule>(board: &mut Board, side: Side, p: Point) -> bool
     ensures least { result ≡ is_final_point_lem R.KIND board.old side p }
     ensures same { board.new ≡ board.old }
 {
-    board.is_empty(p) && five_at::<R>(board, side, p) || is_double_point::<R>(board, side, p)
+    is_five_point::<R>(board, side, p) || is_double_point::<R>(board, side, p)
 }
 
 /// Whether each gain of these threats, which follow one another from the board, is one that a later threat or the final
