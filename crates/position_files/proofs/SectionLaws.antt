@@ -11,7 +11,7 @@ use Rattle.game_rules.specs.declared.RuleKind.{RuleKind}
 use Rattle.game_rules.proofs.Common.{Grid}
 use Rattle.text_lines.specs.declared.fault.Fault.{Fault}
 use Rattle.text_lines.specs.declared.fault.Fault.TheVariants.{Bad, Memory}
-use Rattle.text_lines.proofs.TextLaws.{text_of-cons, AreFree, free_take, same_lines, text_of-push, front_parts, front_taken, front_length}
+use Rattle.text_lines.proofs.TextLaws.{text_of-cons, AreFree, free_take, same_lines, text_of-push, front_parts, front_length}
 use Rattle.text_lines.proofs.Common.{line_feed, ended, text_of, LeavesAt, Gives, is_free, GivesLine}
 use Rattle.text_lines.proofs.LineLaws.{same_line}
 use Rattle.text_lines.proofs.FaultLaws.{gives_bad}
@@ -265,15 +265,6 @@ only_fits width height len = record {
   below = refl;
 }
 
--- the first line is that of the start
-pub start_found : (width height below : ℕ) (a : Answers) (bytes rest : List ℕ) → StartFits width height below a
-    → bytes ≡ start_line a ++ line_feed ∷ rest → IsStartOf width height below (record { start = a; taken = length bytes - length rest })
-    bytes
-start_found width height below a bytes rest fits e = record {
-  start = fits;
-  front = front_taken (ended (start_line a)) bytes rest (e ∙ sym (append_assoc (start_line a) (line_feed ∷ []) rest));
-}
-
 -- the first line is that of none
 pub start_left : (width height below : ℕ) (bytes : List ℕ) (fault : Fault)
     → GivesLine (StartFits width height below) start_line (Err fault) bytes
@@ -282,11 +273,15 @@ start_left width height below bytes Bad none =
     (0, refl, leaves_first (StartFits width height below) start_line bytes only_start (only_fits width height below) none)
 start_left width height below bytes Memory none = tt
 
--- the start of the first line, and what comes after the line
+-- the line of the start, and what comes after it
+pub start_text : (a : Answers) (bytes rest : List ℕ) → bytes ≡ ended (start_line a) ++ rest → bytes ≡ start_line a ++ line_feed ∷ rest
+start_text a bytes rest e = e ∙ append_assoc (start_line a) (line_feed ∷ []) rest
+
+-- the start that is counted, and what comes after its line
 pub start_parts : (width height below : ℕ) (found : StartLine) (bytes : List ℕ) → IsStartOf width height below found bytes
     → bytes ≡ start_line found.start ++ line_feed ∷ drop found.taken bytes
-start_parts width height below found bytes h = front_parts (ended (start_line found.start)) bytes found.taken h.front
-    ∙ append_assoc (start_line found.start) (line_feed ∷ []) (drop found.taken bytes)
+start_parts width height below found bytes h = start_text found.start bytes (drop found.taken bytes)
+    (front_parts (ended (start_line found.start)) bytes found.taken h.front)
 
 -- ---- where bytes leave a section that is a part of another
 

@@ -14,9 +14,10 @@ ghost use Rattle.position_files.specs.Boards.{IsSide};
 ghost use Rattle.position_files.specs.Games.{IsTextOfGame, moves_line as moves_line_lem};
 ghost use Rattle.position_files.specs.Faults.{IsGameFault};
 
+use crate::boards::read_board;
 use crate::lawfulness::lawful;
 use crate::lines::stones;
-use crate::{FIRST_LINES, GameError, GameFile, HEAD_LINES, Head, HeadError, read_head};
+use crate::{FIRST_LINES, GameError, GameFile, HEAD_LINES, HeadError};
 use std::alloc::Global;
 use stone_board::Points;
 use text_lines::{Fault, after, line};
@@ -47,16 +48,15 @@ pub fn read_game(alloc: Global, bytes: &[u8]) -> Result<GameFile, GameError>
     let Some(rest) = after(bytes, b"renju-game 1\n") else {
         return Err(GameError::BadLine(1));
     };
-    let head = match read_head(alloc, rest) {
-        Ok(head) => head,
+    let (kind, board, rest) = match read_board(alloc, rest) {
+        Ok(found) => found,
         Err(error) => return Err(GameError::from(error.after(FIRST_LINES))),
     };
-    let Head { kind, board, taken } = head;
-    let (moves, more) = match moves_line(alloc, &rest[taken..], board.width(), board.height()) {
+    let (moves, rest) = match moves_line(alloc, rest, board.width(), board.height()) {
         Ok(found) => found,
         Err(fault) => return Err(GameError::from(HeadError::at(MOVES_LINE, fault))),
     };
-    if !more.is_empty() {
+    if !rest.is_empty() {
         return Err(GameError::BadLine(MOVES_LINE + 1));
     }
     let board = lawful(kind, board)?;

@@ -22,12 +22,16 @@ mod words;
 mod writers;
 mod written;
 
+pub use boards::read_board;
 pub use error::{FileError, GameError, HeadError};
 use game_rules::RuleKind;
 pub use games::read_game;
 pub use lawfulness::lawful;
+pub use nodes::node_lines;
 pub use positions::read_position;
-pub use sections::{HEAD_LINES, Head, Nodes, StartLine, read_head, read_nodes, read_start};
+pub use sections::{
+    HEAD_LINES, Head, Nodes, StartLine, read_head, read_nodes, read_start, read_start_line,
+};
 use stone_board::{Board, Points};
 use strategy_graph::{Root, Table};
 pub use tables::read_table;

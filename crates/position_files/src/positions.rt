@@ -10,8 +10,9 @@ ghost use Rattle.position_files.specs.declared.PositionFile.{PositionFile};
 ghost use Rattle.position_files.specs.Positions.{IsTextOfPosition};
 ghost use Rattle.position_files.specs.Faults.{IsPositionFault};
 
+use crate::boards::read_board;
 use crate::lawfulness::lawful;
-use crate::{FIRST_LINES, FileError, HEAD_LINES, Head, PositionFile, read_head};
+use crate::{FIRST_LINES, FileError, HEAD_LINES, PositionFile};
 use std::alloc::Global;
 use text_lines::after;
 
@@ -26,12 +27,11 @@ pub fn read_position(alloc: Global, bytes: &[u8]) -> Result<PositionFile, FileEr
     let Some(rest) = after(bytes, b"renju-position 1\n") else {
         return Err(FileError::BadLine(1));
     };
-    let head = match read_head(alloc, rest) {
-        Ok(head) => head,
+    let (kind, board, rest) = match read_board(alloc, rest) {
+        Ok(found) => found,
         Err(error) => return Err(FileError::from(error.after(FIRST_LINES))),
     };
-    let Head { kind, board, taken } = head;
-    if taken < rest.len() {
+    if !rest.is_empty() {
         return Err(FileError::BadLine(FIRST_LINES + HEAD_LINES + 1));
     }
     let board = lawful(kind, board)?;

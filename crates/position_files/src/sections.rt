@@ -1,12 +1,16 @@
 //! Sections of texts: the head, the lines of nodes, and the line of a start.
 //!
-//! A section is what bytes begin with, whatever follows it. So texts of several kinds hold the same sections, and each
-//! reader goes on behind the bytes that a section takes. A bad line is counted from 1 at the front of the section.
+//! A section is what bytes begin with, whatever follows it. So texts of several kinds hold the same sections. Their readers
+//! go on with the bytes after a section, which `read_board`, `node_lines` and `read_start_line` hand on; the calls here count
+//! the bytes that it takes. A bad line is counted from 1 at the front of the section.
 #![tactic(auto)]
 
-ghost use Rattle.std.specs.Prelude.{◌≡◌, ◌≤◌, IfOk, IfErr};
+ghost use Rattle.std.specs.Prelude.{◌≡◌, ◌≤◌, ◌++◌, IfOk, IfErr};
+ghost use Rattle.text_lines.specs.Lines.{ended};
+ghost use Rattle.position_files.specs.Answers.{StartFits};
 ghost use Rattle.position_files.specs.Boards.{IsSide};
 ghost use Rattle.position_files.specs.Faults.{IsUpTo};
+ghost use Rattle.position_files.specs.Tables.{start_line as start_line_lem};
 ghost use Rattle.position_files.specs.Sections.{AreNodeLines, IsBoardLines, IsHeadOf, IsNodesOf, IsSectionFault, IsStartLines, IsStartOf};
 ghost use Rattle.position_files.specs.declared.sections.Head.{Head};
 ghost use Rattle.position_files.specs.declared.sections.Nodes.{Nodes};
@@ -97,11 +101,30 @@ pub fn read_start(
     ensures refused { IfErr result (IsSectionFault (IsStartLines width height below) bytes.now) }
     ensures within { IfErr result (IsUpTo 1) }
 {
+    let (start, rest) = read_start_line(alloc, bytes, below, width, height)?;
+    let taken = bytes.len() - rest.len();
+    Ok(StartLine { start, taken })
+}
+
+/// The start of the line that the bytes begin with, which names nodes below `below` and points below the width and the
+/// height, and the bytes after the line.
+pub fn read_start_line(
+    alloc: Global,
+    bytes: &[u8],
+    below: u32,
+    width: u8,
+    height: u8,
+) -> Result<(Start, &[u8]), HeadError>
+    requires wide { IsSide width }
+    requires high { IsSide height }
+    ensures start { IfOk result (λ found. StartFits width height below found.0) }
+    ensures text { IfOk result (λ found. bytes.now
+        ≡ ended (start_line_lem found.0) ++ found.1.now) }
+    ensures refused { IfErr result (IsSectionFault (IsStartLines width height below) bytes.now) }
+    ensures within { IfErr result (IsUpTo 1) }
+{
     match start_line(alloc, bytes, below, width, height) {
-        Ok((start, rest)) => {
-            let taken = bytes.len() - rest.len();
-            Ok(StartLine { start, taken })
-        }
+        Ok(found) => Ok(found),
         Err(fault) => Err(HeadError::at(1, fault)),
     }
 }

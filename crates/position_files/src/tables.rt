@@ -14,11 +14,11 @@ ghost use Rattle.position_files.specs.declared.TableFile.{TableFile};
 ghost use Rattle.position_files.specs.Faults.{IsTableFault, IsUpTo};
 ghost use Rattle.position_files.specs.Sections.{IsSectionFault};
 
+use crate::boards::read_board;
 use crate::lawfulness::lawful;
-use crate::{
-    FIRST_LINES, FileError, HEAD_LINES, Head, HeadError, MAX_MOVES, Nodes, StartLine, TableFile,
-    read_head, read_nodes, read_start,
-};
+use crate::nodes::node_lines;
+use crate::sections::read_start_line;
+use crate::{FIRST_LINES, FileError, HEAD_LINES, HeadError, MAX_MOVES, TableFile};
 use game_rules::RuleKind;
 use std::alloc::Global;
 use stone_board::Board;
@@ -45,26 +45,24 @@ fn read_body(alloc: Global, bytes: &[u8], least: u32) -> Result<(Body, &[u8]), H
     ensures refused { IfErr result (IsSectionFault (IsBodyLines least) bytes.now) }
     ensures within { IfErr result (IsUpTo (BODY_LINES + MAX_NODES)) }
 {
-    let head = read_head(alloc, bytes)?;
-    let Head { kind, board, taken } = head;
-    let Some((moves, rest)) = number_line(&bytes[taken..], b"moves ", least, MAX_MOVES) else {
+    let (kind, board, rest) = read_board(alloc, bytes)?;
+    let Some((moves, rest)) = number_line(rest, b"moves ", least, MAX_MOVES) else {
         return Err(HeadError::BadLine(HEAD_LINES + 1));
     };
     let Some((count, rest)) = number_line(rest, b"nodes ", least, MAX_NODES) else {
         return Err(HeadError::BadLine(HEAD_LINES + 2));
     };
-    let nodes = match read_nodes(alloc, rest, count, board.width(), board.height()) {
-        Ok(nodes) => nodes,
+    let (table, rest) = match node_lines(alloc, rest, count, board.width(), board.height()) {
+        Ok(found) => found,
         Err(error) => return Err(error.after(BODY_LINES)),
     };
-    let Nodes { table, taken } = nodes;
     let body = Body {
         kind,
         board,
         table,
         moves,
     };
-    Ok((body, &rest[taken..]))
+    Ok((body, rest))
 }
 
 /// The table that is entered at this root, which names only nodes of the table.
@@ -129,12 +127,17 @@ fn read_defend(alloc: Global, bytes: &[u8]) -> Result<TableFile, FileError>
     };
     let len = body.table.len();
     let lines = FIRST_LINES + BODY_LINES + len;
-    let line = match read_start(alloc, rest, len, body.board.width(), body.board.height()) {
-        Ok(line) => line,
+    let (start, rest) = match read_start_line(
+        alloc,
+        rest,
+        len,
+        body.board.width(),
+        body.board.height(),
+    ) {
+        Ok(found) => found,
         Err(error) => return Err(FileError::from(error.after(lines))),
     };
-    let StartLine { start, taken } = line;
-    if taken < rest.len() {
+    if !rest.is_empty() {
         return Err(FileError::BadLine(lines + 1 + 1));
     }
     finish(body, Root::Defend(start))

@@ -1,9 +1,7 @@
 use Rattle.std.proofs.Common.{refl, sym, ◌∙◌}
 use Rattle.std.proofs.lemmas.Result.{err_from_is_err_and}
-use Rattle.text_lines.specs.Lines.{text_of}
-use Rattle.text_lines.proofs.TextLaws.{front_rest, no_bytes, some_bytes}
+use Rattle.text_lines.proofs.TextLaws.{no_bytes, some_bytes}
 use Rattle.position_files.specs.declared.GameFile.{GameFile}
-use Rattle.position_files.specs.Positions.{board_lines}
 use Rattle.position_files.specs.Games.{IsTextOfGame}
 use Rattle.position_files.proofs.GameLaws.{sized, no_first_line, board_fault, moves_fault, more_lines_than_six, unlawful_fault, one_game}
 use Rattle.position_files.proofs.GameLaws.{game_found}
@@ -19,60 +17,55 @@ returns-in-Err-clause-refused c =
 
 pub returns-in-Err-moves_line-clause-refused : goal.returns-in-Err-moves_line-clause-refused
 returns-in-Err-moves_line-clause-refused c =
-    let found = c.in-Ok.ensures.found in
     rw (c.from-in-Err-moves_line.ensures, c.at.ensures.error)
-    (moves_fault c.args.bytes.now c.in-Some.rest.now c.in-Some.ensures.rest.1 c.in-Ok.head.kind c.in-Ok.head.board _ found.board
-    (front_rest (text_of (board_lines c.in-Ok.head.kind c.in-Ok.head.board)) c.in-Some.rest.now c.in-Ok.head.taken found.front)
+    (moves_fault c.args.bytes.now c.in-Some.rest.now c.in-Some.ensures.rest.1 c.in-Ok.found.0 c.in-Ok.found.1 _ c.in-Ok.ensures.board
+    c.in-Ok.ensures.text
     c.width.result c.height.result c.width.ensures.width c.height.ensures.height c.in-Err-moves_line.fault
     c.in-Err-moves_line.ensures.moves)
 
 pub returns-then-not-is_empty-clause-refused : goal.returns-then-not-is_empty-clause-refused
 returns-then-not-is_empty-clause-refused c =
-    let found = c.in-Ok.ensures.found in
     let moves = c.in-Ok-moves_line.ensures.moves in
-    more_lines_than_six c.args.bytes.now c.in-Some.rest.now c.in-Some.ensures.rest.1 c.in-Ok.head.kind c.in-Ok.head.board _ found.board
-    (front_rest (text_of (board_lines c.in-Ok.head.kind c.in-Ok.head.board)) c.in-Some.rest.now c.in-Ok.head.taken found.front)
+    more_lines_than_six c.args.bytes.now c.in-Some.rest.now c.in-Some.ensures.rest.1 c.in-Ok.found.0 c.in-Ok.found.1 _ c.in-Ok.ensures.board
+    c.in-Ok.ensures.text
     c.in-Ok-moves_line.found.0 c.in-Ok-moves_line.found.1.now
-    (sized c.in-Ok.head.board c.width.result c.height.result c.in-Ok-moves_line.found.0 c.width.ensures.width c.height.ensures.height
+    (sized c.in-Ok.found.1 c.width.result c.height.result c.in-Ok-moves_line.found.0 c.width.ensures.width c.height.ensures.height
     moves.0) moves.1
     (some_bytes c.in-Ok-moves_line.found.1.now (sym c.is_empty.ensures ∙ c.if-not-is_empty.true))
 
 pub returns-in_err-board-clause-refused : goal.returns-in_err-board-clause-refused
 returns-in_err-board-clause-refused c =
     let p = err_from_is_err_and c.from_residual.result c.from_residual.ensures.1 in
-    let found = c.in-Ok.ensures.found in
     let moves = c.in-Ok-moves_line.ensures.moves in
-    let file : GameFile = record { kind = c.in-Ok.head.kind; board = c.in-Ok.head.board; moves = c.in-Ok-moves_line.found.0 } in
+    let file : GameFile = record { kind = c.in-Ok.found.0; board = c.in-Ok.found.1; moves = c.in-Ok-moves_line.found.0 } in
     let text : IsTextOfGame file c.args.bytes.now =
-    game_found c.in-Ok.head.kind c.in-Ok.head.board c.in-Ok.head.board c.in-Ok-moves_line.found.0 c.args.bytes.now c.in-Some.rest.now _
-    c.in-Ok-moves_line.found.1.now found.board
-    (sized c.in-Ok.head.board c.width.result c.height.result c.in-Ok-moves_line.found.0 c.width.ensures.width c.height.ensures.height
+    game_found c.in-Ok.found.0 c.in-Ok.found.1 c.in-Ok.found.1 c.in-Ok-moves_line.found.0 c.args.bytes.now c.in-Some.rest.now _
+    c.in-Ok-moves_line.found.1.now c.in-Ok.ensures.board
+    (sized c.in-Ok.found.1 c.width.result c.height.result c.in-Ok-moves_line.found.0 c.width.ensures.width c.height.ensures.height
     moves.0) c.in-Some.ensures.rest.1
-    (front_rest (text_of (board_lines c.in-Ok.head.kind c.in-Ok.head.board)) c.in-Some.rest.now c.in-Ok.head.taken found.front) moves.1
+    c.in-Ok.ensures.text moves.1
     (no_bytes c.in-Ok-moves_line.found.1.now (sym c.is_empty.ensures ∙ c.if-not-is_empty.false)) refl in
     rw (p.1, p.2) (unlawful_fault file c.args.bytes.now c.in_err-board.field-0.0 text c.in_err-board.ensures.refused)
 
 pub returns-clause-found : goal.returns-clause-found
 returns-clause-found c =
-    let found = c.in-Ok.ensures.found in
     let moves = c.in-Ok-moves_line.ensures.moves in
-    game_found c.in-Ok.head.kind c.in-Ok.head.board c.in_ok-board.board c.in-Ok-moves_line.found.0 c.args.bytes.now c.in-Some.rest.now _
-    c.in-Ok-moves_line.found.1.now found.board
-    (sized c.in-Ok.head.board c.width.result c.height.result c.in-Ok-moves_line.found.0 c.width.ensures.width c.height.ensures.height
+    game_found c.in-Ok.found.0 c.in-Ok.found.1 c.in_ok-board.board c.in-Ok-moves_line.found.0 c.args.bytes.now c.in-Some.rest.now _
+    c.in-Ok-moves_line.found.1.now c.in-Ok.ensures.board
+    (sized c.in-Ok.found.1 c.width.result c.height.result c.in-Ok-moves_line.found.0 c.width.ensures.width c.height.ensures.height
     moves.0) c.in-Some.ensures.rest.1
-    (front_rest (text_of (board_lines c.in-Ok.head.kind c.in-Ok.head.board)) c.in-Some.rest.now c.in-Ok.head.taken found.front) moves.1
+    c.in-Ok.ensures.text moves.1
     (no_bytes c.in-Ok-moves_line.found.1.now (sym c.is_empty.ensures ∙ c.if-not-is_empty.false)) c.in_ok-board.ensures.same
 
 pub returns-clause-only : goal.returns-clause-only
 returns-clause-only c = λ other is.
-    let found = c.in-Ok.ensures.found in
     let moves = c.in-Ok-moves_line.ensures.moves in
-    let file : GameFile = record { kind = c.in-Ok.head.kind; board = c.in_ok-board.board; moves = c.in-Ok-moves_line.found.0 } in
+    let file : GameFile = record { kind = c.in-Ok.found.0; board = c.in_ok-board.board; moves = c.in-Ok-moves_line.found.0 } in
     let text : IsTextOfGame file c.args.bytes.now =
-    game_found c.in-Ok.head.kind c.in-Ok.head.board c.in_ok-board.board c.in-Ok-moves_line.found.0 c.args.bytes.now c.in-Some.rest.now _
-    c.in-Ok-moves_line.found.1.now found.board
-    (sized c.in-Ok.head.board c.width.result c.height.result c.in-Ok-moves_line.found.0 c.width.ensures.width c.height.ensures.height
+    game_found c.in-Ok.found.0 c.in-Ok.found.1 c.in_ok-board.board c.in-Ok-moves_line.found.0 c.args.bytes.now c.in-Some.rest.now _
+    c.in-Ok-moves_line.found.1.now c.in-Ok.ensures.board
+    (sized c.in-Ok.found.1 c.width.result c.height.result c.in-Ok-moves_line.found.0 c.width.ensures.width c.height.ensures.height
     moves.0) c.in-Some.ensures.rest.1
-    (front_rest (text_of (board_lines c.in-Ok.head.kind c.in-Ok.head.board)) c.in-Some.rest.now c.in-Ok.head.taken found.front) moves.1
+    c.in-Ok.ensures.text moves.1
     (no_bytes c.in-Ok-moves_line.found.1.now (sym c.is_empty.ensures ∙ c.if-not-is_empty.false)) c.in_ok-board.ensures.same in
     one_game file other c.args.bytes.now text is
