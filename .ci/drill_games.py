@@ -81,7 +81,8 @@ class Drill:
             self.moves += (len(moves) + 1) // 2
             verdict = self.run(["referee", file.name], game_text(position, moves)).stdout.decode()
         side, other = ("black", "white") if position.side() == "black" else ("white", "black")
-        wanted = [f"won {side} {len(moves)}"] if len(moves) % 2 else [f"foul {kind} {len(moves)}" for kind in ("overline", "double-four", "double-three") if other == "black"]
+        kinds = ("overline", "double-four", "double-three") if other == "black" else ()
+        wanted = [f"won {side} {len(moves)}"] if len(moves) % 2 else [f"foul {kind} {len(moves)}" for kind in kinds]
         if end != "won" or verdict not in [f"{each}\ntable follows\n" for each in wanted]:
             self.wrong.append(f"position {place}: the game {' '.join(map(spelled, moves))} ends so: {end}; the referee says {verdict!r}")
 
