@@ -6,6 +6,7 @@ import os
 import pty
 import re
 import shutil
+import signal
 import subprocess
 import sys
 import tempfile
@@ -15,7 +16,7 @@ from pathlib import Path
 from trying import TOP, expect, launched, path_with, tried
 
 # The first command of README compiles the program, on a machine that may have other work.
-SECONDS_TO_COMPILE = 400
+SECONDS_TO_COMPILE = 900
 
 
 def unproved():
@@ -73,61 +74,109 @@ def first_command():
 
 
 @contextmanager
-def small_repository(minute):
-    """A repository of two crates with the launcher in it, whose minute is short."""
+def small_repository(minute=60):
+    """A repository with the launcher, whose minute may be short: the program's crate, one below it, and one that it doesn't need."""
     with tempfile.TemporaryDirectory() as folder:
-        top = Path(folder, "repository")
-        for crate in ("low", "renju"):
-            (top / "crates" / crate / "src").mkdir(parents=True)
-            (top / "crates" / crate / "src" / "lib.rt").write_text("")
+        top = Path(folder, "a repository")
+        for crate in ("low", "apart", "renju"):
+            for part, file in (("src", "lib.rt"), ("must-fail", "wrong.edit"), ("out", "kept")):
+                (top / "crates" / crate / part).mkdir(parents=True)
+                (top / "crates" / crate / part / file).write_text("")
         (top / "crates" / "renju" / "stdin").write_text("")
-        (top / "crates.txt").write_text("renju: low std\nlow:\n")
+        (top / "crates.txt").write_text("# the crates\nrenju: low std\napart:\nlow:\n")
+        (top / "HANDLES").write_text("Handles allowed: none.\n")
         (top / "renju").write_text((TOP / "renju").read_text().replace("read -r -t 60", f"read -r -t {minute}"))
         (top / "renju").chmod(0o755)
         yield top
 
 
-TOOLCHAIN = """case $1 in
-all) echo "== low"; sleep {pause}; echo "== renju"; echo "== summary"; echo "low: proved"; echo "renju: {verdict}";;
-run) mkdir -p out && printf '#!/bin/sh\\necho "$@"\\nexit 9\\n' >out/renju && chmod +x out/renju;;
-esac"""
+# A toolchain that tells which files it was given, proves two crates and leaves a program that prints its words.
+TOOLCHAIN = """[ "$*" = ci ] || exit 2
+find . -type f | grep -v '^./.git/' | sort >"$SEEN"
+cat crates.txt >>"$SEEN"
+echo "== low"; echo "fn low::one: proved"; sleep {pause}; echo "rt: low proved"
+{between}
+mkdir -p crates/renju/out
+printf '#!/bin/sh\\necho "$@"\\nexit 9\\n' >crates/renju/out/renju && chmod +x crates/renju/out/renju
+echo "== renju"; echo "rt: renju proved"; echo "rt: renju ran, and wrote what its file stdout has"; echo "2 passed, 0 failed" """
+FAILING = """echo "== low"; echo "fn low::one: proved"; echo "src/lib.rt:7:5: error: it is two"; echo "logic=not-proved"
+echo "rt: low NOT PROVED"; echo "rt: renju NOT PROVED: its library low failed"; echo "rt: FAILED: low renju"
+echo "0 passed, 2 failed"; exit 1"""
+BUILDING = "building renju, which proves its 2 crates: 1 min at most, where \\d+ processors do nothing else\n"
 
 
-def launcher():
-    """The launcher builds where a source is newer and it can, tells how far it is, and else runs what is there."""
-    with small_repository(1) as top, tempfile.TemporaryDirectory() as kept, path_with(rt=TOOLCHAIN.format(pause=1.5, verdict="proved")) as (env, _):
-        env["TMPDIR"] = kept
+@contextmanager
+def builder(pause=0, between=":", toolchain=TOOLCHAIN):
+    """An environment whose toolchain is a script, and whose folder for what is passing is empty, with that folder."""
+    with tempfile.TemporaryDirectory() as kept, tempfile.TemporaryDirectory() as told:
+        with path_with(rt=toolchain.replace("{pause}", str(pause)).replace("{between}", between)) as (env, _):
+            yield {**env, "TMPDIR": kept, "SEEN": f"{told}/seen"}, Path(kept)
+
+
+def built():
+    """The launcher builds where a source is newer: over a copy of what the program needs, telling how far it is."""
+    with small_repository(minute=1) as top, builder(pause=1.5) as (env, kept):
         # A busy machine may have more silence.
         silence = "(at work on {}, \\d+ s\n)"
-        built = f"building renju, which proves its 2 crates\n{silence.format('low')}*1 of 2 low, \\d+ s\n{silence.format('renju')}+2 of 2 renju, \\d+ s\nrenju is built, \\d+ s\n"
+        told = f"{silence.format('low')}+1 of 2 low, \\d+ s\n{silence.format('renju')}*2 of 2 renju, \\d+ s\n"
         status, output, errors = launched(top / "renju", ["drill", "0"], env=env)
-        expect("renju: a build", f"{status} {output}{errors}", re.compile(f"9 drill 0\n{built}"))
-        expect("renju: no build", launched(top / "renju", ["foul"], env=env), (9, "foul\n", ""))
+        expect("renju: a build", f"{status} {output}{errors}", re.compile(f"9 drill 0\n{BUILDING}{told}renju is built, \\d+ s\n"))
+        files = "./HANDLES\n./crates.txt\n./crates/low/src/lib.rt\n./crates/renju/src/lib.rt\n./crates/renju/stdin\n"
+        expect("renju: what a build is given", Path(env["SEEN"]).read_text(), f"{files}low:\nrenju: low std\n")
+        expect("renju: nothing is left behind", [*kept.iterdir()], [])
+        link = kept / "link"
+        link.symlink_to(top / "renju")
+        expect("renju: no build, over a link from another folder", launched(link, ["foul"], env=env, cwd=kept), (9, "foul\n", ""))
+    with small_repository() as top, builder(between=f"touch \"$CHANGED\"") as (env, kept):
+        (top / ".git").mkdir()
+        env["CHANGED"] = str(top / "crates" / "low" / "src" / "lib.rt")
+        for name in ("a source that changes in mid-build", "the build after it"):
+            expect(f"renju: {name}", "building" in launched(top / "renju", ["foul"], env=env)[2], True)
+        expect("renju: nothing is left beside the history", [*(top / ".git").iterdir(), *kept.iterdir()], [])
+
+
+def unbuilt():
+    """Without a toolchain the program that is there runs; and a build that fails says which crates did and why."""
+    with small_repository() as top, builder() as (env, _):
+        launched(top / "renju", ["foul"], env=env)
         os.utime(top / "crates" / "low" / "src" / "lib.rt", (4e9, 4e9))
         without = {**env, "PATH": "/usr/bin:/bin"}
-        if not shutil.which("rt", path=without["PATH"]):
+        if shutil.which("rt", path=without["PATH"]):
+            print("rt is in /usr/bin or /bin here: the launcher is not run without it")
+        else:
             newer = "renju: a source is newer than the program, which runs as it is: the toolchain's command rt is not on the path\n"
             expect("renju: no toolchain", launched(top / "renju", ["foul"], env=without), (9, "foul\n", newer))
             os.remove(top / "crates" / "renju" / "out" / "renju")
-            expect(
-                "renju: no program", launched(top / "renju", ["foul"], env=without),
-                (70, "", "renju is not built: the toolchain's command rt is not on the path\n"),
-            )
-        expect("renju: nothing is left behind", os.listdir(kept), [])
-    with small_repository(60) as top, tempfile.TemporaryDirectory() as kept, path_with(rt=TOOLCHAIN.format(pause=30, verdict="proved")) as (env, _):
-        build = subprocess.Popen([top / "renju", "foul"], stdin=subprocess.DEVNULL, stderr=subprocess.PIPE, env={**env, "TMPDIR": kept})
-        build.stderr.readline(), build.stderr.readline()
-        build.terminate()
-        expect("renju: an end in mid-build", (build.wait(10), build.stderr.read()), (143, b"renju is not built\n"))
-        build.stderr.close()
-        expect("renju: nothing is left behind by an end", os.listdir(kept), [])
-    with small_repository(60) as top, path_with(rt=TOOLCHAIN.format(pause=0, verdict="failed")) as (env, _):
+            nothing = "renju is not built: the toolchain's command rt is not on the path\n"
+            expect("renju: no program", launched(top / "renju", ["foul"], env=without), (70, "", nothing))
+    with small_repository() as top, builder(toolchain=FAILING) as (env, kept):
         status, output, errors = launched(top / "renju", ["foul"], env=env)
-        expect(
-            "renju: a build that fails", f"{status} {output}{errors}",
-            re.compile("70 building .*the crate renju failed:\nrenju is not built\n", re.S),
-        )
+        why = "the crate low failed:\nsrc/lib.rt:7:5: error: it is two\nrt: low NOT PROVED\nrt: FAILED: low renju\n"
+        expect("renju: a build that fails", f"{status} {output}{errors}", re.compile(f"70 {BUILDING}{re.escape(why)}renju is not built\n"))
+        expect("renju: nothing is left behind by a failure", [*kept.iterdir()], [])
+    with small_repository() as top, builder(between="echo 'rt: renju: the program ended with status 1'; exit 1") as (env, _):
+        errors = launched(top / "renju", ["foul"], env=env)[2]
+        expect("renju: a program that fails", errors.splitlines()[2:], ["rt: renju: the program ended with status 1", "renju is not built"])
+
+
+def interrupted():
+    """An end in mid-build leaves nothing, and what a second launcher waits for it takes over."""
+    for send, status in (("terminate", 143), ("send_signal", 130)):
+        with small_repository() as top, builder(pause=30) as (env, kept):
+            build = subprocess.Popen([top / "renju", "foul"], stdin=subprocess.DEVNULL, stderr=subprocess.PIPE, env=env)
+            build.stderr.readline()
+            build.terminate() if send == "terminate" else build.send_signal(signal.SIGINT)
+            expect(f"renju: an end in mid-build with {status}", (build.wait(10), build.stderr.read()), (status, b"renju is not built\n"))
+            build.stderr.close()
+            expect(f"renju: nothing is left behind by an end with {status}", [*kept.iterdir()], [])
+    with small_repository() as top, builder(pause=2) as (env, _):
+        first = subprocess.Popen([top / "renju", "foul"], stdin=subprocess.DEVNULL, stdout=subprocess.PIPE, stderr=subprocess.PIPE, env=env)
+        first.stderr.readline()
+        waits = "renju: another build is at work here, and is waited for\n" if shutil.which("flock") else ""
+        if waits:
+            expect("renju: a second build", launched(top / "renju", ["foul"], env=env), (9, "foul\n", waits))
+        expect("renju: the first of two builds", first.communicate()[0], b"foul\n")
 
 
 if __name__ == "__main__":
-    sys.exit(tried(unproved, first_command, launcher))
+    sys.exit(tried(unproved, first_command, built, unbuilt, interrupted))
