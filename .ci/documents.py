@@ -96,10 +96,21 @@ def readme():
 
 
 def formats():
-    """That the usage line of docs/FORMATS.md is the one that the program prints."""
+    """That the forms in docs/FORMATS.md and docs/help.txt are those of the usage line, and that both tell the same ranges and statuses."""
     done = subprocess.run([PROGRAM], stdin=subprocess.DEVNULL, capture_output=True, timeout=SECONDS)
-    usage = re.findall(r"^usage: .*\n", (TOP / "docs" / "FORMATS.md").read_text(), re.M)
-    expect("FORMATS.md: the usage line", usage, [done.stdout.decode()])
+    text, told = (TOP / "docs" / "FORMATS.md").read_text(), (TOP / "docs" / "help.txt").read_text()
+    expect("FORMATS.md: the usage line", re.findall(r"^usage: .*\n", text, re.M), [done.stdout.decode()])
+    forms = re.findall(r"^  (renju .*?)  .*\n", told, re.M)
+    expect("help.txt: the forms", f"usage: renju {', '.join(it[6:] for it in forms)}\n", done.stdout.decode())
+    parts = re.findall(r"^== (.*)\n(.*?)(?: [<>].*)?\n", told, re.M)
+    expect("help.txt: the form of each command", parts, [(it.split()[1], it) for it in forms])
+    said = dict(re.findall(r"^\| ([A-Z]+) \| (.*? to .*?) \|", text, re.M))
+    wanted = [pair for pair in re.findall(r"^  ([A-Z]+)  +(\S+ to \S+)  ", told, re.M) if pair not in said.items()]
+    expect("help.txt: the ranges that FORMATS.md doesn't have", wanted, [])
+    symmetries = re.findall(r"^\| `([a-z-]+)` \| [HWXY0-9,-]+ \|$", text, re.M)
+    expect("help.txt: the symmetries", re.findall(r"^  SYMMETRY  one of (.*)$", told, re.M), [", ".join(symmetries)])
+    statuses = list(dict.fromkeys(re.findall(r"^\| (\d+) \| ", text.partition("| Status |")[2].partition("\n\n")[0], re.M)))
+    expect("help.txt: the statuses", re.findall(r"^ +(\d+)  ", told, re.M), [*statuses, "70"])
 
 
 def changing(crates):

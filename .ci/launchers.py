@@ -13,10 +13,17 @@ import tempfile
 from contextlib import contextmanager
 from pathlib import Path
 
-from trying import TOP, expect, launched, path_with, tried
+from trying import PROGRAM, SECONDS, TOP, expect, launched, path_with, tried
 
 # The first command of README compiles the program, on a machine that may have other work.
 SECONDS_TO_COMPILE = 900
+# The parts of the help, each with its command, and first that of all of them.
+PARTS = [("", "")]
+for line in (TOP / "docs" / "help.txt").read_text().splitlines(True):
+    if line.startswith("== "):
+        PARTS.append((line[3:].strip(), ""))
+    else:
+        PARTS[-1] = (PARTS[-1][0], PARTS[-1][1] + line)
 
 
 def unproved():
@@ -85,6 +92,8 @@ def small_repository(minute=60):
         (top / "crates" / "renju" / "stdin").write_text("")
         (top / "crates.txt").write_text("# the crates\nrenju: low std\napart:\nlow:\n")
         (top / "HANDLES").write_text("Handles allowed: none.\n")
+        (top / "docs").mkdir()
+        shutil.copy(TOP / "docs" / "help.txt", top / "docs")
         (top / "renju").write_text((TOP / "renju").read_text().replace("read -r -t 60", f"read -r -t {minute}"))
         (top / "renju").chmod(0o755)
         yield top
@@ -178,5 +187,83 @@ def interrupted():
         expect("renju: the first of two builds", first.communicate()[0], b"foul\n")
 
 
+# Words without a form, and what is said of them.
+WRONG_WORDS = [
+    ([], "the first word is a command; ./renju help names them"),
+    (["solv", "5", "5"], "there is no command solv; ./renju help names them"),
+    ([""], "there is no command ; ./renju help names them"),
+    (["solve"], "the form is renju solve DEPTH NODES < POSITION; ./renju help solve tells more"),
+    (["solve", "5", "5", "5"], "the form is renju solve DEPTH NODES < POSITION; ./renju help solve tells more"),
+    (["solve", "1000", "5"], "DEPTH is 1 to 60, not 1000; ./renju help solve tells more"),
+    (["solve", "05", "5"], "DEPTH is 1 to 60, not 05; ./renju help solve tells more"),
+    (["solve", "5", "-1"], "NODES is 1 to 10,000,000, not -1; ./renju help solve tells more"),
+    (["check", "99999999999999999999"], "WORK is 1 to 1,000,000,000,000, not 99999999999999999999; ./renju help check tells more"),
+    (["foul", "5"], "the form is renju foul < POSITION; ./renju help foul tells more"),
+    (["image", "half, flip-x"], re.compile("SYMMETRY is one of identity, .*, not half, flip-x; ./renju help image tells more")),
+    (["brain", ""], "FILE is empty; ./renju help brain tells more"),
+    (["referee", "t", "t"], "the form is renju referee [FILE] < GAME; ./renju help referee tells more"),
+    (["bind"], "FILE is 1 to 64 paths, not 0; ./renju help bind tells more"),
+    (["bind", "t", ""], "FILE is empty; ./renju help bind tells more"),
+    (["bind", *65 * ["t"]], "FILE is 1 to 64 paths, not 65; ./renju help bind tells more"),
+]
+
+
+def helped():
+    """The help is told without a build, and what is said of words without a form, before the program answers them."""
+    with small_repository() as top:
+        without = {**os.environ, "PATH": "/usr/bin:/bin"}
+        parts = dict(PARTS)
+        for name, text in parts.items():
+            expect(f"renju: help {name}", launched(top / "renju", ["help", *name.split()], env=without), (0, text, ""))
+        expect("renju: --help", launched(top / "renju", ["--help"], env=without), (0, parts[""], ""))
+        none = "renju: there is no command tell; ./renju help names them\n"
+        expect("renju: help of no command", launched(top / "renju", ["help", "tell"], env=without), (1, "", none))
+        program = top / "crates" / "renju" / "out" / "renju"
+        shutil.copy(PROGRAM, program)
+        os.utime(program, (4e9, 4e9))
+        for words, said in WRONG_WORDS:
+            status, output, errors = launched(top / "renju", words)
+            expect(f"renju: {words}", (status, output.partition(" ")[0]), (1, "usage:"))
+            wanted = re.compile(f"renju: {said.pattern}\n") if isinstance(said, re.Pattern) else f"renju: {said}\n"
+            expect(f"renju: what is said of {words}", errors, wanted)
+
+
+def bounds():
+    """The ranges that the help tells are those of the program: at their ends it takes a word, and one further it has no form."""
+    for command, text in PARTS[1:]:
+        form, ranges = text.splitlines()[0], dict(re.findall(r"^  ([A-Z]+)  +(\S+(?: \S+)*)", text, re.M))
+        words = re.sub(r" [<>].*| \.\.|[][]", "", form).split()[2:]
+        expect(f"help.txt: the words of {command} that have a range", [*ranges], words)
+        for at, name in enumerate(words):
+            for word, is_taken in ends_of(ranges[name]):
+                given = [word if other == at else ends_of(ranges[it])[0][0] for other, it in enumerate(words)]
+                done = subprocess.run([PROGRAM, command, *given], stdin=subprocess.DEVNULL, capture_output=True, timeout=SECONDS)
+                expect(f"help.txt: {name} of {command} is {word}", done.returncode != 1, is_taken)
+
+
+def ends_of(told):
+    """Words at the ends of a range and past them, each with whether it is in the range."""
+    if told.startswith("one of "):
+        return [(it, True) for it in told[7:].split(", ")] + [("other", False)]
+    if "path" in told:
+        return [("none", True), ("", False)]
+    least, most = (int(it.replace(",", "")) for it in told.split(" to "))
+    return [(str(it), least <= it <= most) for it in (least, most, least - 1, most + 1)]
+
+
+def examples():
+    """The examples of the help end with status 0, and the command's statuses are among those that all have."""
+    numbers = re.findall(r"^ +(\d+)  ", dict(PARTS)[""].partition("Statuses:")[2], re.M)
+    for command, text in PARTS[1:]:
+        told = re.search(r"^Statuses: (.*)\.$", text, re.M | re.S)
+        lost = {*re.findall(r"\b\d+\b", re.sub(r"\(.*?\)", "", told[1]))} - {*numbers} if told else "no statuses"
+        expect(f"help.txt: statuses of {command}", sorted(lost), [])
+        lines = re.findall(r"^  \$ \./renju (.*)", text, re.M)
+        expect(f"help.txt: an example of {command}", [it.split()[0] for it in lines], [command])
+        for line in lines:
+            done = subprocess.run(f"'{PROGRAM}' {line}", shell=True, cwd=TOP, capture_output=True, timeout=SECONDS)
+            expect(f"help.txt: {line}", (done.returncode, done.stdout != b""), (0, True))
+
+
 if __name__ == "__main__":
-    sys.exit(tried(unproved, first_command, built, unbuilt, interrupted))
+    sys.exit(tried(unproved, first_command, built, unbuilt, interrupted, helped, bounds, examples))
