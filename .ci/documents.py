@@ -12,7 +12,7 @@ from trying import PROGRAM, SECONDS, TOP, expect, failed, launched, tried
 def definitions():
     """What docs/definitions.py prints of each clause, how its pages are made, and that a slip changes nothing."""
     sys.path.insert(0, str(TOP / "docs"))
-    from definitions import strays, text_of_clause, unexplained
+    from definitions import strays, text_of_clause, unexplained, unread
     from layout import CALL
     from pages import LIST, Pages
     from repository import Repository
@@ -43,6 +43,8 @@ def definitions():
     expect("definitions.py: the document", document.stat().st_mtime_ns, before)
     pages = Pages(repository)
     reading_order(pages.layout)
+    expect("definitions.py: definitions that no document has", list(unread(pages)), [])
+    on_demand(script, pages)
     pages.public_std = {("std", "unknown_word"), ("", "→")}
     said = ["FAILED docs/toolchain.py: no line says what unknown_word of std means, on which a clause rests"]
     expect("definitions.py: a word without a line", list(unexplained(pages)), said)
@@ -50,6 +52,18 @@ def definitions():
         "definitions.py: a page that is not written", [it.name for it in strays(set(pages.write()) - {"docs/definitions/won.md"})],
         ["won.md"],
     )
+
+
+def on_demand(script, pages):
+    """What is told on demand of the words of crates, and that a definition which only stands there is missed without it."""
+    from definitions import unread
+
+    told = launched(script, ["--text", "crates"])[1]
+    expect("definitions.py: the words of crates", told, "\n".join(pages.of_crates()) + "\n")
+    pages.of_crates = lambda: []
+    lost = re.findall(r"^FAILED docs/pages.py: no document has (.*) of \w+\.specs\.\w+$", "\n".join(unread(pages)), re.M)
+    expect("definitions.py: without the words of crates", (lost != [], {*lost} - {*re.findall(r"^- `(.*?)`: ", told, re.M)}), (True, set()))
+    del pages.of_crates
 
 
 def reading_order(layout):

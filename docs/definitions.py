@@ -2,11 +2,13 @@
 """Works out which definitions a reader has to believe, from the specs and the sources, and writes docs/DEFINITIONS.md and the pages
 in docs/definitions.
 
-    definitions.py [--check | --text [CLAUSE]]
+    definitions.py [--check | --text [CLAUSE | crates | private]]
 
---check compares the documents with what is worked out now, and prints what differs, and each word of the toolchain that a clause rests
-on and that no line of docs/toolchain.py explains. --text prints what a clause of the program's top call rests on, `won` where none is
-named: the clause, the types and limits as they stand in the sources, the definitions in reading order, and the toolchain's words.
+--check compares the documents with what is worked out now, and prints what differs, each definition that no document has, and each
+word of the toolchain that a clause rests on and that no line of docs/toolchain.py explains. --text prints what a clause of the
+program's top call rests on, `won` where none is named: what it says in words, the clause, the types and limits as they stand in the
+sources, the definitions in reading order, and the toolchain's words. Of no clause are the definitions of which only a crate that is
+used alone speaks (crates), and those of private contracts and of proofs (private): each with its comment.
 """
 import os
 import sys
@@ -16,7 +18,7 @@ sys.dont_write_bytecode = True
 
 import toolchain
 from layout import CALL
-from pages import FOLDER, LIST, NO_COMMENT, Pages
+from pages import FOLDER, LIST, NO_COMMENT, Pages, claims_in_words
 from reading import TOP, Unread
 from repository import Repository
 
@@ -30,6 +32,8 @@ def text_of_clause(repository, call, clause):
         raise Unread(f"{call.name} has no clause {clause}; it has {', '.join(name for _, name, _ in call.clauses)}")
     found = repository.closure(repository.in_call(call, lambda name: name == clause))
     yield f"-- The clause `{clause}` of `{call.name}`, in crates/{call.crate}/src, and all that it rests on."
+    for paragraph in claims_in_words().get(clause, "").split("\n\n"):
+        yield from ["--", *textwrap.wrap(paragraph, 130, initial_indent="-- ", subsequent_indent="-- ")]
     for key, text in said:
         yield from ["", *textwrap.wrap(f"{key} {clause} {{ {text} }}", 120, subsequent_indent="    ", break_long_words=False)]
     for crate in repository.crates.values():
@@ -77,6 +81,12 @@ def unexplained(pages):
         yield f"FAILED docs/toolchain.py: no line says what {name} of {place or 'the language'} means, on which a clause rests"
 
 
+def unread(pages):
+    """Says which definitions no document has."""
+    for it in pages.unread():
+        yield f"FAILED docs/pages.py: no document has {it.name} of {it.crate}.specs.{it.module}"
+
+
 def strays(texts):
     """The documents in the folder that are not written."""
     return [path for path in sorted((TOP / FOLDER).glob("*")) if path.relative_to(TOP).as_posix() not in texts]
@@ -84,7 +94,7 @@ def strays(texts):
 
 def checked(pages):
     """Compares the documents, and answers the status to exit with."""
-    texts, found = pages.write(), list(unexplained(pages))
+    texts, found = pages.write(), [*unexplained(pages), *unread(pages)]
     for path, wanted in texts.items():
         there = (TOP / path).read_text() if (TOP / path).exists() else ""
         if there != wanted:
@@ -108,6 +118,9 @@ def written(pages):
 def run(words):
     """Does what the words say, and answers the status to exit with."""
     repository = Repository()
+    if words[:1] == ["--text"] and words[1:] in (["crates"], ["private"]):
+        print(*Pages(repository).on_demand()[words[1]](), sep="\n")
+        return 0
     if words[:1] == ["--text"]:
         print(*text_of_clause(repository, repository.call(*CALL), *(words[1:] or [FIRST])), sep="\n")
         return 0

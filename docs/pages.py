@@ -1,12 +1,16 @@
-"""Writes the documents of definitions: the list of the claims, the chapters, a page for each claim, and what a reader need not read."""
+"""Writes the documents of definitions: the list of the claims, the chapters, and a page for each claim but those that speak of every
+command. What those rest on, and what no claim does, is told on demand. What a claim says in words stands in docs/claims.txt.
+"""
 import re
 import textwrap
 
 import toolchain
 from layout import CALL, LAST, Layout
-from reading import Unread, Word, sentence, tokens_of
+from reading import TOP, Unread, Word, sentence, tokens_of
 
-LIST, FOLDER = "docs/DEFINITIONS.md", "docs/definitions"
+LIST, FOLDER, CLAIMS = "docs/DEFINITIONS.md", "docs/definitions", "docs/claims.txt"
+# The part of docs/claims.txt that is about no claim.
+UNSAID = "what no clause says"
 NO_COMMENT = "(it has no comment)"
 
 
@@ -80,6 +84,12 @@ def table(heads, rows):
     return [f"| {' | '.join(heads)} |", "|" + "---|" * len(heads), *(f"| {' | '.join(row)} |" for row in rows), ""]
 
 
+def claims_in_words():
+    """What each claim says in words, by its name, and what no clause says."""
+    parts = re.split(r"^== (.*)$", (TOP / CLAIMS).read_text(), flags=re.M)[1:]
+    return {name: said.strip() for name, said in zip(parts[::2], parts[1::2])}
+
+
 class Pages:
     """The documents, by their paths."""
 
@@ -88,25 +98,49 @@ class Pages:
         self.public_std = repository.public_std()
         names = [it.name for it in self.layout.home]
         self.of_several = {name for name in names if names.count(name) > 1}
+        self.said, wanted = claims_in_words(), {*(it.name for it in self.layout.claims), UNSAID}
+        if {*self.said} != wanted:
+            raise Unread(f"the parts of {CLAIMS} are not the claims; one has only {', '.join(sorted({*self.said} ^ wanted))}")
 
     def write(self):
-        """The text of each document, by its path."""
-        parts = [("toolchain", self.toolchain()), ("crates", self.of_crates()), ("private", self.private())]
+        """The text of each document that is kept, by its path."""
+        parts = [("toolchain", self.toolchain())]
         parts += [(it.name, self.chapter(it)) for it in self.layout.chapters]
-        parts += [(it.name, self.claim(it)) for it in self.layout.claims]
+        parts += [(it.name, self.claim(it)) for it in self.layout.claims if it.name not in LAST]
         texts = {LIST: self.overview(), **{f"{FOLDER}/{name}.md": lines for name, lines in parts}}
         if len(texts) <= len(parts):
-            raise Unread("two of a chapter, a claim, and the documents toolchain, crates and private have one name")
+            raise Unread("two of a chapter, a claim and the document toolchain have one name")
         return {path: "\n".join(lines).rstrip() + "\n" for path, lines in texts.items()}
+
+    def on_demand(self):
+        """What makes the text of each document that is not kept, by its name."""
+        last = {it.name: lambda it=it: self.claim(it) for it in self.layout.claims if it.name in LAST}
+        return {"crates": self.of_crates, "private": self.private, **last}
+
+    def unread(self):
+        """The definitions that no document has, kept or on demand."""
+        texts = [*self.write().values(), *("\n".join(lines()) for lines in self.on_demand().values())]
+        told = [name for text in texts for name in re.findall(r"^(?:\*\*|- )`([^`]+)`(?:\*\*)?: ", text, re.M)]
+        words = [it for crate in self.repository.crates.values() for words in crate.words.values() for it in words]
+        names = [it.name for it in words]
+        return [it for it in words if told.count(it.name) < names.count(it.name)]
 
     def overview(self):
         """The list of claims and chapters, and how they are read."""
         claims = [(listed(it), it.about, counted(it.rests), str(len(of_words(it.found)))) for it in self.layout.claims]
+        last = [line for name in LAST for line in [f"**`{name}`**. {self.said[name]}", ""]]
         chapters = [(listed(it), it.about, counted(it.found), quoted(self.readers(it))) for it in self.layout.chapters]
         return [
             *HEAD.format(call=CALL[1], place=f"crates/{CALL[0]}/src").strip().splitlines(),
             "",
             *table(("Claim", "What it says", "It rests on", "On its page"), claims),
+            *LAST_HEAD.format(last=" and ".join(f"`{it}`" for it in LAST), first=LAST[0]).strip().splitlines(),
+            "",
+            *last,
+            "## What no clause says",
+            "",
+            self.said[UNSAID],
+            "",
             *CHAPTERS_HEAD.format(last=" and ".join(f"`{it}`" for it in LAST)).strip().splitlines(),
             "",
             *table(("Chapter", "What it has", "In all", "Needed for"), chapters),
@@ -137,7 +171,8 @@ class Pages:
         return [
             f"# The claim {claim.title}",
             "",
-            *([sentence(claim.about), ""] if claim.about else []),
+            self.said[claim.name],
+            "",
             *block(claim.clause),
             f"It rests on {counted(claim.rests)}, and on {many(len(std), 'word')} and signs of the toolchain. Read before:",
             "",
@@ -232,34 +267,33 @@ class Pages:
 
 
 def listed(place):
-    """The link from the list to the page of a place."""
-    return f"[{place.title}](definitions/{place.name}.md)"
+    """The link from the list to the page of a place, if that is kept."""
+    return place.title if place.name in LAST else f"[{place.title}](definitions/{place.name}.md)"
 
 
 HEAD = """
 # Definitions
 
-What an answer of `renju` says is said by clauses, and the clauses by definitions. A reader who believes these and the toolchain need read no body and no proof. The main claims are the clauses of `{call}` in `{place}`, and each has a page of its own here.
+What an answer of `renju` says is said by clauses, and the clauses by definitions. A reader who believes these and the toolchain need read no body and no proof. The main claims are the clauses of `{call}` in `{place}`.
 
 To read a claim:
 
-1. Take its page in the table below. It has the clause, and names the chapters that come before it, with those of their definitions on which the claim does not rest.
+1. Take its page in the table below. It says the claim in words, has the clause, and names the chapters that come before it, with those of their definitions on which the claim does not rest.
 2. Read these chapters from top to bottom, in their order. Each definition stands with its comment and its text, after the definitions that it uses; two that use each other stand together.
 3. Then read the page: what this claim adds to the chapters.
 
 How definitions are written, and a line on each word of the toolchain that they use, is in [toolchain.md](definitions/toolchain.md). Where a name is defined, ``grep -rn '^..`NAME`' docs/definitions`` tells. Begin with `won`, of which the chapters are the ones that most claims need. `docs/definitions.py --text CLAUSE` prints all that a claim rests on as one text, the clause first, with types and limits as they stand in the sources.
 
-Nothing else has to be read to believe a claim: no other claim's page, but where a page names one; no body and no proof; and neither [the words of each crate](definitions/crates.md), of which a crate that is used alone speaks, nor [the words of private contracts](definitions/private.md). The words `pub`, `abbrev` and `unfoldable` before a definition matter to proofs alone.
+Nothing else has to be read to believe a claim: no other claim's page, but where a page names one; no body and no proof. Other definitions are printed on demand: by `docs/definitions.py --text crates` those of which only a crate that is used alone speaks, by `docs/definitions.py --text private` those of private contracts and of proofs. The words `pub`, `abbrev` and `unfoldable` before a definition matter to proofs alone.
 
 Contracts speak of plain values: a board is a width, a height and a list of cells; a table is a list of nodes; a text is a list of bytes; numbers are whole numbers without limit. Sources: the RIF Rules of Renju for fours, straight fours, threes, overlines and fouls; Allis, van den Herik and Huntjens, "Go-Moku and Threat-Space Search", for wins by fours and by threats. Which double-threes are allowed to stand is this program's own rule, and its definition (`is_three`) says so.
 
 ## The claims
-
-[PROVED.md](PROVED.md) tells each of them in words, in full.
+"""
+LAST_HEAD = """
+{last} speak of every command, and so rest on most of what there is; each other claim says what one command shows, or the devices do. These two have no page here: `docs/definitions.py --text {first}` prints what one of them rests on.
 """
 CHAPTERS_HEAD = """
-{last} speak of every command, and so rest on most of what there is; each other claim says what one command shows, or the devices do.
-
 ## The chapters
 
 What two claims or more rest on, where {last} don't count. A chapter comes after those that it uses.
@@ -267,7 +301,7 @@ What two claims or more rest on, where {last} don't count. A chapter comes after
 TAIL = """
 ## How it is kept
 
-These pages are worked out by `docs/definitions.py` from the specs and the sources, and the tests of the repository compare them. It follows each name from the clauses on. What several claims rest on stands in the chapter of its crate and module, by one table in `docs/layout.py`; what one claim alone does stands on its page. A crate that comes later has a chapter of its own until that table names it. The definitions themselves are in `crates/NAME/specs`, a module a file.
+These pages are worked out by `docs/definitions.py` from the specs, the sources and `docs/claims.txt`, and the tests of the repository compare them. It follows each name from the clauses on, and fails where a definition is in none of the documents, kept or on demand. What several claims rest on stands in the chapter of its crate and module, by one table in `docs/layout.py`; what one claim alone does stands on its page. A crate that comes later has a chapter of its own until that table names it. The definitions themselves are in `crates/NAME/specs`, a module a file.
 """
 NOTATION = """
 # How definitions are written

@@ -1,6 +1,6 @@
 #!/usr/bin/env python3
-"""Looks up what docs/PROVED.md names: each crate, each public call and each of its clauses. It prints what isn't there, and each
-crate that has no section. Below each crate's table a line names its must-fail edits, wrong bodies that the prover has to refuse, by
+"""Looks up what docs/PROVED.md names: each crate, each public call and each of its clauses, and each must-fail edit of its table of wrong
+bodies. It prints what isn't there, and each crate that has no section. Below each crate's table a line names its must-fail edits, wrong bodies that the prover has to refuse, by
 the promised call whose code they turn; --write writes these lines, and without it they are compared.
 """
 import re
@@ -11,6 +11,7 @@ sys.dont_write_bytecode = True
 from repository import Repository
 from reading import TOP, Unread
 
+NEVER = "## Wrong bodies that are never let through"
 DOCUMENT = TOP / "docs" / "PROVED.md"
 PROMISED = re.compile(r"`([\w:]+)` \((`\w+`(?:, `\w+`)*)\)")
 REFUSED = "Wrong bodies that the prover refuses, by the call whose code they turn: "
@@ -38,6 +39,17 @@ def lost(repository, named):
         for call, clauses in PROMISED.findall(named[crate.name]):
             there = [clause for it in calls if call == (f"{it.owner}::{it.name}" if it.owner else it.name) for _, clause, _ in it.clauses]
             yield from (f"{crate.name}: {call} has no clause {it}" for it in re.findall(r"\w+", clauses) if it not in there)
+
+
+def lost_edits(text):
+    """The must-fail edits of the table of wrong bodies that aren't there."""
+    rows = re.findall(r"^\| a .* \| (.*) \|$", text.partition(NEVER)[2].partition("\n## ")[0], re.M)
+    named = [it for row in rows for it in re.findall(r"`(\w+)/(\w+)`", row)]
+    if not named:
+        yield f"it has no table under {NEVER}"
+    for crate, edit in named:
+        if not (TOP / "crates" / crate / "must-fail" / f"{edit}.edit").exists():
+            yield f"there is no must-fail edit {edit} of {crate}"
 
 
 class Bodies:
@@ -104,7 +116,7 @@ def main():
         DOCUMENT.write_text(wanted)
         return 0
     try:
-        found = list(lost(Repository(), sections_of(text)))
+        found = [*lost(Repository(), sections_of(text)), *lost_edits(text)]
     except Unread as error:
         found = [str(error)]
     if text != wanted:
