@@ -1,147 +1,303 @@
 #!/usr/bin/env python3
-"""Comments games: asks `solve` at moves of the side that won whether a win was there, and has `check` accept each table.
+"""Comments games: asks `fours` and `solve` at the last moves of both sides whether a win was there, has `check` accept each table, and
+tells who won from where on, who missed a win, and where the loser held for the last time.
 
-    games.py [--depth D] [--nodes N] [--last M] [FILE ..]
+    games.py [--depth D] [--nodes N] [--last M] [--jobs J] [--page FOLDER] FILE ..
+    games.py --check | --write
 
-A game is a text that examples/position.py takes: its rule, its size and its moves. For each of the winner's last M moves a line
-tells what was there before it, and a last one what `referee` says of the whole game. Without a FILE the page and the pictures of
-examples/games are written; --check compares them.
+A FILE has games as examples/judge.py takes them: a manager's log, game texts, a record of Piskvork, or a list of moves. Of each game
+the last M moves of either side are asked, and those before them for as long as the winner has a win. What it says is what the
+program finds within D moves and N positions: `no win` is none by threats within these, and `undecided` that the positions were too
+few. --page writes a page with a picture of each game into a folder. --check compares the page and the pictures of examples/games,
+and --write writes them.
 """
 import argparse
+import os
 import subprocess
 import sys
+from concurrent.futures import ThreadPoolExecutor
+from dataclasses import dataclass
 from pathlib import Path
 
 sys.dont_write_bytecode = True
 
-from boards import PROGRAM, TOP, Wrong, asked, game_text, named, read, saying, spelled
+from boards import PROGRAM, SIDES, TOP, Wrong, asked, named, number, other, read, saying, spelled
 from pictures import picture, words_of
-from position import game_in
+from records import bytes_of, records_in
 
 HERE = TOP / "examples" / "games"
-# The games of the page, and the depth, the positions and the winner's last moves that are asked.
+# The games of the repository's page, and the depth, the positions and the last moves of either side that are asked.
 GAMES = {"first": (9, 1_000_000, 7), "second": (5, 100_000, 8), "third": (5, 100_000, 6)}
 MOST_ARRIVALS = 1_000_000_000_000
+MOST_DEPTH, MOST_POSITIONS = 60, 10_000_000
 SPENT, NONE = 5, 9
+TITLE = "# Games, and where a win was there"
+
+
+@dataclass(frozen=True)
+class Limits:
+    """How far the program is asked."""
+
+    depth: int
+    nodes: int
+
+
+@dataclass(frozen=True)
+class Found:
+    """What was found at a position: the moves of a win and its way, whether fewer may do, and else whether a win is denied."""
+
+    moves: int = 0
+    way: str = ""
+    may_be_fewer: bool = False
+    is_denied: bool = False
+
+    def words(self, depth):
+        if self.moves:
+            return f"a win in {self.moves} move{'' if self.moves == 1 else 's'} by {self.way}" + (", or in fewer" if self.may_be_fewer else "")
+        return f"no win by threats within {depth} moves" if self.is_denied else "undecided"
 
 
 class Game:
-    """The positions of a game and its moves."""
+    """The positions of a game, its moves, and what `referee` says of it."""
 
-    def __init__(self, text):
-        board, self.moves = game_in(text.splitlines())
-        self.positions = [board]
-        for move in self.moves:
+    def __init__(self, record):
+        self.name, self.moves, self.positions = record.name, record.moves, [record.first]
+        self.verdict = asked(["referee"], record.text()).strip()
+        for move in self.moves[: self.played()]:
             self.positions.append(self.positions[-1].after(move))
-        if not self.positions[-1].won_at():
-            raise Wrong("nobody has won at the end of the game")
+        self.winner = {f"{side} wins": side for side in SIDES}.get(record.end_of(self.verdict))
 
-    def winner(self):
-        return self.positions[-2].side().capitalize()
+    def played(self):
+        """How many moves were played as the rule has it, up to an end."""
+        word, *rest = self.verdict.split()
+        count = int(rest[-1])
+        return count - 1 if word in ("illegal", "after", "foul") else count
 
-    def verdict(self):
-        """What `referee` says of the moves, which has to be that the last one wins."""
-        told = asked(["referee"], game_text(self.positions[0], self.moves)).strip()
-        if told != f"won {self.winner().lower()} {len(self.moves)}":
-            raise Wrong(f"the referee says {told}")
-        return told
+    def side(self, move):
+        """Who makes a move, counted from 1."""
+        return self.positions[move - 1].side()
 
-    def asked(self, last):
-        """The numbers of the winner's last moves, counted from 1."""
-        return list(range(len(self.moves), 0, -2))[:last][::-1]
+    def numbers(self):
+        return range(1, len(self.positions))
+
+    def spelled(self, move):
+        return named(self.moves[move - 1], self.positions[0].height)
 
 
-def solved(position, depth, nodes):
-    """The number of moves of a win that is found and accepted, or the word of the program."""
-    done = subprocess.run([PROGRAM, "solve", str(depth), str(nodes)], input=position.text().encode(), stdout=subprocess.PIPE)
+def solved(command, position, depth, nodes):
+    """The number of moves of a win that is found and accepted, or the status of the program."""
+    done = subprocess.run([PROGRAM, command, str(depth), str(nodes)], input=position.text().encode(), stdout=subprocess.PIPE)
     if done.returncode in (SPENT, NONE):
-        return done.stdout.decode().strip()
+        return None, done.returncode
     if done.returncode != 0:
-        raise Wrong(f"solve ended with status {done.returncode}: {done.stdout.decode().strip()}")
+        raise Wrong(f"{command} ended with status {done.returncode}: {done.stdout.decode().strip()}")
     moves = read(done.stdout).moves
     told = subprocess.run([PROGRAM, "check", str(MOST_ARRIVALS)], input=done.stdout, stdout=subprocess.PIPE).stdout.decode()
     if not told.startswith(f"accepted in {moves} moves, "):
         raise Wrong(f"the table of a win within {moves} moves is not accepted: {told.strip()}")
-    return moves
+    return moves, 0
 
 
-def shortest(position, depth, nodes):
-    """What `solve` finds, with the depth lowered until there is no win."""
-    found = solved(position, depth, nodes)
-    while isinstance(found, int) and found > 1:
-        shorter = solved(position, found - 1, nodes)
-        if not isinstance(shorter, int):
-            return found, shorter
-        found = shorter
-    return found, "none"
+def find(position, limits):
+    """The win with the fewest moves that is found."""
+    moves, status = solved("fours", position, limits.depth, limits.nodes)
+    found, below = Found(moves, "fours") if moves else Found(is_denied=status == NONE), NONE
+    most = moves - 1 if moves else limits.depth
+    while most:
+        shorter, below = solved("solve", position, most, limits.nodes)
+        if not shorter:
+            break
+        found, most = Found(shorter, "threats"), shorter - 1
+    if found.moves:
+        return Found(found.moves, found.way, may_be_fewer=below == SPENT)
+    return Found(is_denied=below == NONE)
 
 
-def comments(game, depth, nodes, last):
-    """For each move that is asked, its number, whether a win was there, and words."""
-    for number in game.asked(last):
-        found, below = shortest(game.positions[number - 1], depth, nodes)
-        if not isinstance(found, int):
-            words = f"no win by threats within {depth} moves" if found == "none" else "undecided"
-        else:
-            words = f"a win in {found} move{'' if found == 1 else 's'}" + ("" if below == "none" else ", or in fewer")
-        yield number, isinstance(found, int), words
+class Story:
+    """What was found before the last moves of a game."""
+
+    def __init__(self, game, limits, last, pool):
+        self.game, self.limits = game, limits
+        numbers = game.numbers()[max(len(game.numbers()) - 2 * last, 0) :]
+        self.found = dict(zip(numbers, pool.map(self.find, numbers)))
+        # As long as the winner has a win at the first of its moves that was asked, the one before it is asked too.
+        first = next((move for move in numbers if game.side(move) == game.winner), 0)
+        while first > 2 and self.found[first].moves:
+            first -= 2
+            self.found[first] = self.find(first)
+        self.found = dict(sorted(self.found.items()))
+
+    def find(self, move):
+        return find(self.game.positions[move - 1], self.limits)
+
+    def has_win(self, move):
+        return move in self.found and self.found[move].moves > 0
+
+    def won_from(self):
+        """The winner's first move of those before each of which it has a win, up to the end, or 0."""
+        move = max((move for move in self.found if self.game.side(move) == self.game.winner), default=0)
+        while self.has_win(move - 2):
+            move -= 2
+        return move if self.has_win(move) else 0
+
+    def missed(self):
+        """The moves before which a side has a win, and has none before its next one, or none any more."""
+        for move in self.found:
+            is_last = move == len(self.game.positions) - 1 and self.game.side(move) == self.game.winner
+            if self.has_win(move) and not is_last and not self.has_win(move + 2):
+                yield move
+
+    def comments(self):
+        for move, found in self.found.items():
+            yield f"before move {move}, {self.game.spelled(move)}, {self.game.side(move).capitalize()} has {found.words(self.limits.depth)}"
+
+    def lines(self):
+        """The story in sentences."""
+        first = self.won_from()
+        if first:
+            found = self.found[first]
+            yield f"{self.game.winner.capitalize()} won from move {first} on, with {found.words(self.limits.depth)}"
+            yield from self.held(first)
+        for move in self.missed():
+            later = self.found.get(move + 2)
+            doubt = f" (undecided at {move + 2})" if later and not later.is_denied else ""
+            yield f"{self.game.side(move).capitalize()} missed {self.found[move].words(self.limits.depth)} at move {move}, with {self.game.spelled(move)}{doubt}"
+
+    def held(self, first):
+        """Where the loser held for the last time, as far as it is known."""
+        loser, before = other(self.game.winner).capitalize(), self.found.get(first - 2)
+        if first - 1 in self.game.numbers() and before and before.is_denied:
+            yield f"{loser} held last after move {first - 3 if first > 3 else 0}, and no more after its move {first - 1}, {self.game.spelled(first - 1)}"
+        elif before and not before.moves:
+            yield f"whether {loser} still held after move {first - 3} is undecided"
 
 
-def page():
-    """The page, and the pictures by their names."""
-    parts, pictures = [HEAD.strip()], {}
+def games_of(file):
+    """The games of a file, each named by it."""
+    path = Path(file)
+    records = records_in(bytes_of(file))
+    for record in records:
+        record.name = path.name if len(records) == 1 else f"{path.name} {record.name}"
+        yield Game(record)
+
+
+def section(story, picture_name):
+    """The part of a page that is about one game, and its picture or nothing."""
+    game, first = story.game, story.won_from()
+    end = f"{game.winner.capitalize()} wins at move {len(game.positions) - 1}" if game.winner else f"`{game.verdict}`"
+    parts, drawn = [f"## `{game.name}`: {end}"], None
+    if first:
+        drawn = picture(game.positions[first - 1], words_of(["--play", " ".join(map(spelled, game.moves[first - 1 : len(game.positions) - 1]))]))
+        parts.append(f'<img src="{picture_name}" width="480" alt="The board of {game.name}, with the moves from {first} on as stones numbered from 1">')
+        parts.append(f"The numbered stones are the moves from {first} on.")
+    parts.append("\n".join(f"- {line}." for line in story.lines()) or "- No win was found in its last moves.")
+    limits = story.limits
+    rows = [f"| {move} | {game.side(move).capitalize()} | {found.words(limits.depth)} | {game.spelled(move)} |" for move, found in story.found.items()]
+    parts.append("\n".join([f"| Move | Side | Before it, `solve {limits.depth} {limits.nodes}` | Played |", "|---|---|---|---|", *rows]))
+    parts.append(f"`referee` says of the whole game: `{game.verdict}`.")
+    return parts, drawn
+
+
+def page(head, stories):
+    """A page, and its pictures by their names."""
+    parts, pictures = [TITLE, head], {}
+    for story in stories:
+        name = story.game.name.removesuffix(".txt").replace(" ", "-") + ".svg"
+        told, drawn = section(story, name)
+        parts += told
+        if drawn:
+            if name in pictures:
+                raise Wrong(f"two games would have the picture {name}: name one of their files otherwise")
+            pictures[name] = drawn
+    return {"README.md": "\n\n".join(parts) + "\n", **pictures}
+
+
+HEAD = (
+    "Three games that a program, BSD gomoku, played against itself: freestyle, 19 by 19, from openings that were drawn. Before each of the last moves "
+    "`fours` and `solve` were asked for a win, `solve` with its depth lowered until there was none, each table was accepted by `check`, and the whole "
+    "game was judged by `referee`. `examples/games.py --write` writes this page, and `examples/games.py --depth 8 --nodes 100000 --page FOLDER FILE` one of "
+    "any other games."
+)
+HEAD_OF_USER = "Before each of the last moves `fours` and `solve` were asked for a win, each table was accepted by `check`, and the whole game was judged by `referee`."
+
+
+def of_repository(pool, writes):
+    """Writes the repository's page and pictures, or compares them."""
+    stories = []
     for name, (depth, nodes, last) in GAMES.items():
-        game = Game((HERE / f"{name}.txt").read_text())
-        told = list(comments(game, depth, nodes, last))
-        first = next(number for number, is_won, _ in told if is_won)
-        start, moves = game.positions[first - 1], game.moves[first - 1 :]
-        pictures[name] = picture(start, words_of(["--play", " ".join(map(spelled, moves))]))
-        height = start.height
-        parts.append(f"## `{name}.txt`: {game.winner()} wins at move {len(game.moves)}")
-        parts.append(f'<img src="{name}.svg" width="480" alt="The board of {name}.txt, with the moves from {first} on as numbered stones">')
-        parts.append(f"The numbered stones are the moves from {first} on, before which {game.winner()} had the first win that is found.")
-        rows = [f"| {number} | {words} | {named(game.moves[number - 1], height)} |" for number, _, words in told]
-        parts.append("\n".join([f"| {game.winner()}'s move | Before it, `solve {depth} {nodes}` | Played |", "|---|---|---|", *rows]))
-        parts.append(f"`referee` says of the whole game: `{game.verdict()}`.")
-    return "\n\n".join(parts) + "\n", pictures
-
-
-HEAD = """
-# Games, and where a win was there
-
-Three games that a program, BSD gomoku, played against itself: freestyle, 19 by 19, from openings that were drawn. Before each of the winner's last moves `solve` was asked for a win, with its depth lowered until there was none, each table was accepted by `check`, and the whole game was judged by `referee`. `examples/games.py` writes this page, and comments any other game: `examples/games.py --depth 8 --nodes 100000 FILE`.
-"""
-
-
-def of_repository(is_check):
-    text, pictures = page()
+        (game,) = games_of(HERE / f"{name}.txt")
+        stories.append(Story(game, Limits(depth, nodes), last, pool))
     failed = 0
-    for path, wanted in [(HERE / "README.md", text), *((HERE / f"{name}.svg", drawn) for name, drawn in pictures.items())]:
-        if not is_check:
+    for name, wanted in page(HEAD, stories).items():
+        path = HERE / name
+        if writes:
             path.write_text(wanted)
         elif not path.exists() or path.read_text() != wanted:
-            print(f"FAILED {path.relative_to(TOP)}: it isn't what examples/games.py writes; run that script")
+            print(f"FAILED {path.relative_to(TOP)}: it isn't what examples/games.py writes; run it with --write")
             failed = 1
     return failed
 
 
-def main():
+def check_folder(folder):
+    """A folder whose README.md is no page of games is left as it is."""
+    there = Path(folder, "README.md")
+    if there.exists() and not there.read_text(errors="replace").startswith(f"{TITLE}\n"):
+        raise Wrong(f"{there} is no page of games: name another folder")
+    if Path(folder).exists() and not Path(folder).is_dir():
+        raise Wrong(f"{folder} is no folder")
+
+
+def write_page(folder, stories):
+    """Writes a page of a user's games."""
+    try:
+        Path(folder).mkdir(parents=True, exist_ok=True)
+        for name, text in page(HEAD_OF_USER, stories).items():
+            Path(folder, name).write_text(text)
+    except OSError as error:
+        raise Wrong(f"{folder} cannot be written: {error.strerror}")
+
+
+def told(file, given, pool):
+    """Prints what is told of the games of a file, and gives their stories. What is no game is told, and the others go on."""
+    limits, stories, failed = Limits(given.depth, given.nodes), [], 0
+    try:
+        for game in games_of(file):
+            story = Story(game, limits, given.last, pool)
+            stories.append(story)
+            for line in [*story.comments(), *story.lines(), f"the referee says {game.verdict}"]:
+                print(f"{game.name}: {line}", flush=True)
+    except Wrong as error:
+        print(f"games.py: {file}: {error}", file=sys.stderr)
+        failed = 1
+    return stories, failed
+
+
+def words_given():
     words = argparse.ArgumentParser(description=__doc__, formatter_class=argparse.RawDescriptionHelpFormatter)
-    words.add_argument("--check", action="store_true"), words.add_argument("files", nargs="*", metavar="FILE")
-    for name, value in (("--depth", 8), ("--nodes", 100_000), ("--last", 8)):
-        words.add_argument(name, type=int, default=value)
+    words.add_argument("--check", action="store_true"), words.add_argument("--write", action="store_true")
+    words.add_argument("--page", metavar="FOLDER"), words.add_argument("files", nargs="*", metavar="FILE")
+    for name, value, most in (("depth", 8, MOST_DEPTH), ("nodes", 100_000, MOST_POSITIONS), ("last", 8, 1024), ("jobs", os.cpu_count() or 1, 1024)):
+        words.add_argument(f"--{name}", default=str(value), type=lambda word, most=most, name=name: number(word, 1, most, f"the numbers of --{name}"))
     given = words.parse_args()
-    if not given.files:
-        return of_repository(given.check)
-    for file in given.files:
-        try:
-            game = Game(Path(file).read_text())
-        except (OSError, UnicodeDecodeError) as error:
-            raise Wrong(f"{file} cannot be read: {error}")
-        for number, _, told in comments(game, given.depth, given.nodes, given.last):
-            print(f"{file}: before move {number}, {named(game.moves[number - 1], game.positions[0].height)}, {game.winner()} has {told}")
-        print(f"{file}: the referee says {game.verdict()}")
-    return 0
+    if bool(given.files) == (given.check or given.write) or given.check and given.write:
+        raise Wrong("name games, or say --check or --write for those of this repository")
+    return given
+
+
+def main():
+    given = words_given()
+    if given.page:
+        check_folder(given.page)
+    with ThreadPoolExecutor(given.jobs) as pool:
+        if not given.files:
+            return of_repository(pool, given.write)
+        all_stories, all_failed = [], 0
+        for file in given.files:
+            stories, failed = told(file, given, pool)
+            all_stories, all_failed = all_stories + stories, all_failed or failed
+    if given.page:
+        write_page(given.page, all_stories)
+    return all_failed
 
 
 if __name__ == "__main__":
