@@ -100,26 +100,6 @@ impl From<HeadError> for GameError {
     }
 }
 
-impl From<PositionError> for FileError {
-    ghost use Rattle.position_files.specs.declared.error.FileError.TheVariants.{Unlawful};
-
-    ghost from_gives = { λ why error. error ≡ Unlawful why };
-
-    fn from(why: PositionError) -> FileError {
-        FileError::Unlawful(why)
-    }
-}
-
-impl From<PositionError> for GameError {
-    ghost use Rattle.position_files.specs.declared.error.GameError.TheVariants.{Unlawful};
-
-    ghost from_gives = { λ why error. error ≡ Unlawful why };
-
-    fn from(why: PositionError) -> GameError {
-        GameError::Unlawful(why)
-    }
-}
-
 impl HeadError {
     /// What is said of a section whose line of this number has the fault.
     pub(crate) fn at(line: u32, fault: Fault) -> HeadError

@@ -15,9 +15,9 @@ ghost use Rattle.position_files.specs.Games.{IsTextOfGame, moves_line as moves_l
 ghost use Rattle.position_files.specs.Faults.{IsGameFault};
 
 use crate::boards::read_board;
-use crate::lawfulness::lawful;
 use crate::lines::stones;
 use crate::{FIRST_LINES, GameError, GameFile, HEAD_LINES, HeadError};
+use foul_judge::refusal;
 use std::alloc::Global;
 use stone_board::Points;
 use text_lines::{Fault, after, line};
@@ -59,8 +59,10 @@ pub fn read_game(alloc: Global, bytes: &[u8]) -> Result<GameFile, GameError>
     if !rest.is_empty() {
         return Err(GameError::BadLine(MOVES_LINE + 1));
     }
-    let board = lawful(kind, board)?;
-    Ok(GameFile { kind, board, moves })
+    match refusal(kind, &board) {
+        Some(why) => Err(GameError::Unlawful(why)),
+        None => Ok(GameFile { kind, board, moves }),
+    }
 }
 
 /// The number of the line of the moves.

@@ -11,8 +11,8 @@ ghost use Rattle.position_files.specs.Positions.{IsTextOfPosition};
 ghost use Rattle.position_files.specs.Faults.{IsPositionFault};
 
 use crate::boards::read_board;
-use crate::lawfulness::lawful;
 use crate::{FIRST_LINES, FileError, HEAD_LINES, PositionFile};
+use foul_judge::refusal;
 use std::alloc::Global;
 use text_lines::after;
 
@@ -34,6 +34,8 @@ pub fn read_position(alloc: Global, bytes: &[u8]) -> Result<PositionFile, FileEr
     if !rest.is_empty() {
         return Err(FileError::BadLine(FIRST_LINES + HEAD_LINES + 1));
     }
-    let board = lawful(kind, board)?;
-    Ok(PositionFile { kind, board })
+    match refusal(kind, &board) {
+        Some(why) => Err(FileError::Unlawful(why)),
+        None => Ok(PositionFile { kind, board }),
+    }
 }

@@ -15,10 +15,10 @@ ghost use Rattle.position_files.specs.Faults.{IsTableFault, IsUpTo};
 ghost use Rattle.position_files.specs.Sections.{IsSectionFault};
 
 use crate::boards::read_board;
-use crate::lawfulness::lawful;
 use crate::nodes::node_lines;
 use crate::sections::read_start_line;
 use crate::{FIRST_LINES, FileError, HEAD_LINES, HeadError, MAX_MOVES, TableFile};
+use foul_judge::refusal;
 use game_rules::RuleKind;
 use std::alloc::Global;
 use stone_board::Board;
@@ -77,7 +77,9 @@ fn finish(body: Body, root: Root) -> Result<TableFile, FileError>
         table,
         moves,
     } = body;
-    let board = lawful(kind, board)?;
+    if let Some(why) = refusal(kind, &board) {
+        return Err(FileError::Unlawful(why));
+    }
     let counted = table.root_depth(&root)?;
     if counted != moves {
         return Err(FileError::WrongMoves {

@@ -1,5 +1,4 @@
 use Rattle.std.proofs.Common.{refl, sym, ◌∙◌}
-use Rattle.std.proofs.lemmas.Result.{err_from_is_err_and}
 use Rattle.text_lines.proofs.TextLaws.{no_bytes, some_bytes}
 use Rattle.position_files.specs.declared.GameFile.{GameFile}
 use Rattle.position_files.specs.Games.{IsTextOfGame}
@@ -33,9 +32,8 @@ returns-then-not-is_empty-clause-refused c =
     moves.0) moves.1
     (some_bytes c.in-Ok-moves_line.found.1.now (sym c.is_empty.ensures ∙ c.if-not-is_empty.true))
 
-pub returns-in_err-board-clause-refused : goal.returns-in_err-board-clause-refused
-returns-in_err-board-clause-refused c =
-    let p = err_from_is_err_and c.from_residual.result c.from_residual.ensures.1 in
+pub returns-in-Some-refusal-clause-refused : goal.returns-in-Some-refusal-clause-refused
+returns-in-Some-refusal-clause-refused c =
     let moves = c.in-Ok-moves_line.ensures.moves in
     let file : GameFile = record { kind = c.in-Ok.found.0; board = c.in-Ok.found.1; moves = c.in-Ok-moves_line.found.0 } in
     let text : IsTextOfGame file c.args.bytes.now =
@@ -45,27 +43,27 @@ returns-in_err-board-clause-refused c =
     moves.0) c.in-Some.ensures.rest.1
     c.in-Ok.ensures.text moves.1
     (no_bytes c.in-Ok-moves_line.found.1.now (sym c.is_empty.ensures ∙ c.if-not-is_empty.false)) refl in
-    rw (p.1, p.2) (unlawful_fault file c.args.bytes.now c.in_err-board.field-0.0 text c.in_err-board.ensures.refused)
+    unlawful_fault file c.args.bytes.now c.in-Some-refusal.why text (sym c.in-Some-refusal.ensures.refusal)
 
-pub returns-clause-found : goal.returns-clause-found
-returns-clause-found c =
+pub returns-in-None-clause-found : goal.returns-in-None-clause-found
+returns-in-None-clause-found c =
     let moves = c.in-Ok-moves_line.ensures.moves in
-    game_found c.in-Ok.found.0 c.in-Ok.found.1 c.in_ok-board.board c.in-Ok-moves_line.found.0 c.args.bytes.now c.in-Some.rest.now _
+    game_found c.in-Ok.found.0 c.in-Ok.found.1 c.in-Ok.found.1 c.in-Ok-moves_line.found.0 c.args.bytes.now c.in-Some.rest.now _
     c.in-Ok-moves_line.found.1.now c.in-Ok.ensures.board
     (sized c.in-Ok.found.1 c.width.result c.height.result c.in-Ok-moves_line.found.0 c.width.ensures.width c.height.ensures.height
     moves.0) c.in-Some.ensures.rest.1
     c.in-Ok.ensures.text moves.1
-    (no_bytes c.in-Ok-moves_line.found.1.now (sym c.is_empty.ensures ∙ c.if-not-is_empty.false)) c.in_ok-board.ensures.same
+    (no_bytes c.in-Ok-moves_line.found.1.now (sym c.is_empty.ensures ∙ c.if-not-is_empty.false)) refl
 
-pub returns-clause-only : goal.returns-clause-only
-returns-clause-only c = λ other is.
+pub returns-in-None-clause-only : goal.returns-in-None-clause-only
+returns-in-None-clause-only c = λ other is.
     let moves = c.in-Ok-moves_line.ensures.moves in
-    let file : GameFile = record { kind = c.in-Ok.found.0; board = c.in_ok-board.board; moves = c.in-Ok-moves_line.found.0 } in
+    let file : GameFile = record { kind = c.in-Ok.found.0; board = c.in-Ok.found.1; moves = c.in-Ok-moves_line.found.0 } in
     let text : IsTextOfGame file c.args.bytes.now =
-    game_found c.in-Ok.found.0 c.in-Ok.found.1 c.in_ok-board.board c.in-Ok-moves_line.found.0 c.args.bytes.now c.in-Some.rest.now _
+    game_found c.in-Ok.found.0 c.in-Ok.found.1 c.in-Ok.found.1 c.in-Ok-moves_line.found.0 c.args.bytes.now c.in-Some.rest.now _
     c.in-Ok-moves_line.found.1.now c.in-Ok.ensures.board
     (sized c.in-Ok.found.1 c.width.result c.height.result c.in-Ok-moves_line.found.0 c.width.ensures.width c.height.ensures.height
     moves.0) c.in-Some.ensures.rest.1
     c.in-Ok.ensures.text moves.1
-    (no_bytes c.in-Ok-moves_line.found.1.now (sym c.is_empty.ensures ∙ c.if-not-is_empty.false)) c.in_ok-board.ensures.same in
+    (no_bytes c.in-Ok-moves_line.found.1.now (sym c.is_empty.ensures ∙ c.if-not-is_empty.false)) refl in
     one_game file other c.args.bytes.now text is

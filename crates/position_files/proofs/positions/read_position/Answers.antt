@@ -1,5 +1,4 @@
 use Rattle.std.proofs.Common.{refl, sym, ◌∙◌}
-use Rattle.std.proofs.lemmas.Result.{err_from_is_err_and}
 use Rattle.position_files.specs.Positions.{IsTextOfPosition}
 use Rattle.position_files.specs.declared.PositionFile.{PositionFile}
 use Rattle.text_lines.proofs.TextLaws.{no_bytes, some_bytes}
@@ -21,26 +20,25 @@ returns-then-not-is_empty-clause-refused c =
     c.in-Ok.found.2.now c.in-Ok.ensures.board c.in-Ok.ensures.text
     (some_bytes c.in-Ok.found.2.now (sym c.is_empty.ensures ∙ c.if-not-is_empty.true))
 
-pub returns-in_err-board-clause-refused : goal.returns-in_err-board-clause-refused
-returns-in_err-board-clause-refused c =
-    let p = err_from_is_err_and c.from_residual.result c.from_residual.ensures.1 in
+pub returns-in-Some-refusal-clause-refused : goal.returns-in-Some-refusal-clause-refused
+returns-in-Some-refusal-clause-refused c =
     let text = position_found c.in-Ok.found.0 c.in-Ok.found.1 c.in-Ok.found.1 c.args.bytes.now c.in-Some.rest.now
     c.in-Ok.found.2.now c.in-Ok.ensures.board c.in-Some.ensures.rest.1 c.in-Ok.ensures.text
     (no_bytes c.in-Ok.found.2.now (sym c.is_empty.ensures ∙ c.if-not-is_empty.false)) refl in
-    rw (p.1, p.2) (unlawful_fault (record { kind = c.in-Ok.found.0; board = c.in-Ok.found.1 }) c.args.bytes.now
-    c.in_err-board.field-0.0 text c.in_err-board.ensures.refused)
+    unlawful_fault (record { kind = c.in-Ok.found.0; board = c.in-Ok.found.1 }) c.args.bytes.now
+    c.in-Some-refusal.why text (sym c.in-Some-refusal.ensures.refusal)
 
-pub returns-clause-found : goal.returns-clause-found
-returns-clause-found c =
-    position_found c.in-Ok.found.0 c.in-Ok.found.1 c.in_ok-board.board c.args.bytes.now c.in-Some.rest.now
+pub returns-in-None-clause-found : goal.returns-in-None-clause-found
+returns-in-None-clause-found c =
+    position_found c.in-Ok.found.0 c.in-Ok.found.1 c.in-Ok.found.1 c.args.bytes.now c.in-Some.rest.now
     c.in-Ok.found.2.now c.in-Ok.ensures.board c.in-Some.ensures.rest.1 c.in-Ok.ensures.text
-    (no_bytes c.in-Ok.found.2.now (sym c.is_empty.ensures ∙ c.if-not-is_empty.false)) c.in_ok-board.ensures.same
+    (no_bytes c.in-Ok.found.2.now (sym c.is_empty.ensures ∙ c.if-not-is_empty.false)) refl
 
-pub returns-clause-only : goal.returns-clause-only
-returns-clause-only c = λ other is.
-    let file : PositionFile = record { kind = c.in-Ok.found.0; board = c.in_ok-board.board } in
+pub returns-in-None-clause-only : goal.returns-in-None-clause-only
+returns-in-None-clause-only c = λ other is.
+    let file : PositionFile = record { kind = c.in-Ok.found.0; board = c.in-Ok.found.1 } in
     let text : IsTextOfPosition file c.args.bytes.now =
-    position_found c.in-Ok.found.0 c.in-Ok.found.1 c.in_ok-board.board c.args.bytes.now c.in-Some.rest.now
+    position_found c.in-Ok.found.0 c.in-Ok.found.1 c.in-Ok.found.1 c.args.bytes.now c.in-Some.rest.now
     c.in-Ok.found.2.now c.in-Ok.ensures.board c.in-Some.ensures.rest.1 c.in-Ok.ensures.text
-    (no_bytes c.in-Ok.found.2.now (sym c.is_empty.ensures ∙ c.if-not-is_empty.false)) c.in_ok-board.ensures.same in
+    (no_bytes c.in-Ok.found.2.now (sym c.is_empty.ensures ∙ c.if-not-is_empty.false)) refl in
     one_position file other c.args.bytes.now text is
