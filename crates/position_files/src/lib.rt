@@ -11,7 +11,6 @@ mod boards;
 mod error;
 mod fronts;
 mod games;
-mod lawfulness;
 mod lines;
 mod nodes;
 mod positions;
@@ -26,7 +25,6 @@ pub use boards::read_board;
 pub use error::{FileError, GameError, HeadError};
 use game_rules::RuleKind;
 pub use games::read_game;
-pub use lawfulness::lawful;
 pub use nodes::node_lines;
 pub use positions::read_position;
 pub use sections::{

@@ -19,8 +19,9 @@ ghost use Rattle.strategy_graph.specs.Roots.{root_below};
 
 use crate::entry_lines::{ENTRY_LINES, read_entries};
 use crate::{Book, BookError, Entries, Entry, MAX_ENTRIES};
+use foul_judge::refusal;
 use game_rules::MAX_SIDE;
-use position_files::{HeadError, Nodes, lawful, read_nodes};
+use position_files::{HeadError, Nodes, read_nodes};
 use std::alloc::Global;
 use strategy_graph::{MAX_NODES, Table};
 use text_lines::{after, number_line};
@@ -90,7 +91,7 @@ fn check_entry(table: &Table, entry: &Entry, number: u32) -> Result<(), BookErro
     ensures sound { OnOk result (IsSound table.now entry.now) }
     ensures unsound { IfErr result (IsEntryFault table.now entry.now number) }
 {
-    if let Err(cause) = lawful(entry.kind, entry.board.copy()?) {
+    if let Some(cause) = refusal(entry.kind, &entry.board) {
         return Err(BookError::Unlawful {
             entry: number,
             cause,
