@@ -7,14 +7,13 @@
 ghost use Rattle.std.specs.Prelude.{◌≡◌, ◌+◌, ◌-◌, max};
 ghost use Rattle.std.specs.List.{find};
 ghost use Rattle.game_rules.specs.Grid.{is_empty, points_of};
-ghost use Rattle.game_rules.specs.Shapes.{five as five_lem};
 ghost use Rattle.game_rules.specs.Play.{outcome, is_foul as is_foul_lem};
 ghost use Rattle.brain_session.specs.Nearer.{is_nearer as is_nearer_lem};
 ghost use Rattle.brain_session.specs.ChosenMoves.{apart as apart_lem, five_to_block as five_to_block_lem, five_to_make as five_to_make_lem, least_empty as least_empty_lem, next_to_middle as next_to_middle_lem, off_middle as off_middle_lem, plain_move as plain_move_lem};
 
 use foul_judge::{Outcome, mover, outcome_at};
-use game_rules::{Point, Side};
-use row_shapes::{Rule, five_at};
+use game_rules::Point;
+use row_shapes::{Rule, is_five_point};
 use stone_board::Board;
 
 /// The first of these that there is: the least five point of the side to move; the least five point of the other side at which
@@ -42,7 +41,7 @@ fn five_to_make<R: Rule>(board: &Board) -> Option<Point>
 {
     let side = mover(board);
     for p in board.points() {
-        if is_five::<R>(board, side, p) {
+        if is_five_point::<R>(board, side, p) {
             return Some(p);
         }
     }
@@ -56,7 +55,7 @@ fn five_to_block<R: Rule>(board: &mut Board) -> Option<Point>
 {
     let side = mover(board).other();
     for p in board.points() {
-        if is_five::<R>(board, side, p) && !fouls::<R>(board, p) {
+        if is_five_point::<R>(board, side, p) && !fouls::<R>(board, p) {
             return Some(p);
         }
     }
@@ -87,13 +86,6 @@ fn least_empty(board: &Board) -> Point
         }
     }
     Point { x: 0, y: 0 }
-}
-
-/// Whether the point is a five point of the side.
-fn is_five<R: Rule>(board: &Board, side: Side, p: Point) -> bool
-    ensures five { result ≡ five_lem R.KIND board.now side p }
-{
-    board.is_empty(p) && five_at::<R>(board, side, p)
 }
 
 /// Whether a move of the side to move at the point is a foul. The board is as before.

@@ -20,7 +20,7 @@ use crate::Reaction;
 use crate::batch::BatchReader;
 use crate::game::SessionGame;
 use crate::moves_on_board::MovesOnBoard;
-use crate::under_rule::lawful;
+use foul_judge::refusal;
 use game_rules::{Point, RuleKind, Side};
 use gomocup_text::{Answer, ErrorText};
 use std::alloc::{AllocError, Global};
@@ -129,10 +129,10 @@ impl SessionBoard {
             return Ok(None);
         };
         let board = batch.board(alloc, width, height, brain)?;
-        let Some(start) = lawful(kind, board) else {
+        if refusal(kind, &board).is_some() {
             return Ok(None);
-        };
-        let mut played = MovesOnBoard::from(alloc, start)?;
+        }
+        let mut played = MovesOnBoard::from(alloc, board)?;
         let mut game = SessionGame::new(kind, brain);
         let reaction = game.make_move(alloc, held, &mut played)?;
         let session_board = SessionBoard {

@@ -3,17 +3,16 @@
 //! A game has its rule from a command, and a search has it in its type: each call here has a case for each rule.
 #![tactic(auto)]
 
-ghost use Rattle.std.specs.Prelude.{◌≡◌, ◌↔◌, true, IfOk, IfSome, IsSome, is_none};
-ghost use Rattle.foul_judge.specs.Lawful.{refusal};
+ghost use Rattle.std.specs.Prelude.{◌≡◌, IfOk};
 ghost use Rattle.game_rules.specs.Play.{IsPosition, outcome as outcome_lem};
 ghost use Rattle.brain_session.specs.ChosenMoves.{plain_move as plain_move_lem};
 ghost use Rattle.brain_session.specs.Kept.{IsFound};
 
 use crate::own_win::{OwnTable, own_win as own_win_under};
 use crate::plain_move::plain_move as plain_move_under;
-use foul_judge::{Outcome, Position, outcome_at};
+use foul_judge::{Outcome, outcome_at};
 use game_rules::{Point, RuleKind};
-use row_shapes::{Rule, under_rule};
+use row_shapes::under_rule;
 use std::alloc::{AllocError, Global};
 use stone_board::Board;
 
@@ -23,27 +22,6 @@ pub(crate) fn outcome(kind: RuleKind, board: &mut Board, p: Point) -> Outcome
     ensures same { board.new ≡ board.old }
 {
     under_rule!(kind, outcome_at(board, p))
-}
-
-/// The board, if it is a lawful position.
-pub(crate) fn lawful(kind: RuleKind, board: Board) -> Option<Board>
-    ensures lawful { IsSome result ↔ IsPosition kind board }
-    ensures unrefused { IsSome result ↔ (is_none (refusal kind board) ≡ true) }
-    ensures board { IfSome result (λ b. b ≡ board) }
-{
-    under_rule!(kind, lawful_under(board))
-}
-
-/// The board, if it is a lawful position under the rule.
-fn lawful_under<R: Rule>(board: Board) -> Option<Board>
-    ensures lawful { IsSome result ↔ IsPosition R.KIND board }
-    ensures unrefused { IsSome result ↔ (is_none (refusal R.KIND board) ≡ true) }
-    ensures board { IfSome result (λ b. b ≡ board) }
-{
-    match Position::<R>::from_board(board) {
-        Ok(position) => Some(position.into_board()),
-        Err(_) => None,
-    }
 }
 
 /// The table of a win by continuous fours from the position on the board, where a short search finds one. `Err` says that
