@@ -198,10 +198,6 @@ module _ (t : List Node) (order : List ℕ) (table : IsTable t) (is_order : IsOr
         are_places.placed))
         (renumbered-node t order table is_order p (get_or order p 0) n number-here node-at))
 
-    pub room-next : length u < MAX_NODES
-    room-next =
-        omega (arith, so_far.count, is_order.short, table.size, l)
-
     pub renumbers-next : (v : List Node) → v ≡ u ++ m ∷ [] → RenumbersUpTo t order v (p + 1)
     renumbers-next v e =
         subst (λ (w : List Node). RenumbersUpTo t order w (p + 1)) (sym e)

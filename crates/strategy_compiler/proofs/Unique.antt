@@ -201,9 +201,6 @@ module _ (u v : List Node) (tu : IsTable u) (tv : IsTable v) where
       node-pair = pair-by i j left-node.0 right-node.0 (one-less k i (omega arith) one) left-node.1 right-node.1 alike.tree alike.left
           alike.right
 
-    equal-tests : (x y : ℕ) (b : Bool) → (x == y) ≡ b → (b ≡ true → x ≡ y)
-    equal-tests x y b e h = (Decides-eqb x y).0 (e ∙ h)
-
     module _ (k : ℕ) (one : TellsApart (AlikeBelow k)) (i i' j j' : ℕ) (a : Alike u v i j) (l : i < suc k) (a' : Alike u v i' j')
         (l' : i' < suc k) where
       to-right : i ≡ i' → j ≡ j'
