@@ -6,10 +6,10 @@
 #![tactic(auto)]
 
 mod finder;
-mod theorems;
+mod laws;
 mod written;
 
 pub use finder::{DefenceAnswer, defences};
+pub use laws::{defences_are_told, no_defence_loses, spent_is_told};
 pub use strategy_compiler::SearchError;
-pub use theorems::{defences_are_told, no_defence_loses, spent_is_told};
 pub use written::write_defences;

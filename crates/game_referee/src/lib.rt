@@ -6,14 +6,14 @@
 #![tactic(auto)]
 
 mod judging;
+mod laws;
 mod replaying;
-mod theorems;
 mod written;
 
 use game_rules::{Foul, Side};
 pub use judging::judge;
+pub use laws::{follower_never_loses, game_goes_by_table};
 pub use replaying::replay;
-pub use theorems::{follower_never_loses, game_goes_by_table};
 pub use written::{foul_word, write_verdict};
 
 /// What is said of a whole game. The moves are counted from 1.

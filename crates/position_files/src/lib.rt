@@ -11,12 +11,12 @@ mod boards;
 mod error;
 mod fronts;
 mod games;
+mod laws;
 mod lines;
 mod nodes;
 mod positions;
 mod sections;
 mod tables;
-mod theorems;
 mod words;
 mod writers;
 mod written;
@@ -25,6 +25,10 @@ pub use boards::read_board;
 pub use error::{FileError, GameError, HeadError};
 use game_rules::RuleKind;
 pub use games::read_game;
+pub use laws::{
+    games_read_back, positions_read_back, sections_name_first_bad_lines, sections_read_back,
+    tables_read_back,
+};
 pub use nodes::node_lines;
 pub use positions::read_position;
 pub use sections::{
@@ -33,10 +37,6 @@ pub use sections::{
 use stone_board::{Board, Points};
 use strategy_graph::{Root, Table};
 pub use tables::read_table;
-pub use theorems::{
-    games_read_back, positions_read_back, sections_name_first_bad_lines, sections_read_back,
-    tables_read_back,
-};
 pub use writers::{push_nodes, push_start, write_position, write_table};
 pub use written::push_head;
 

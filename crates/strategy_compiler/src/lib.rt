@@ -12,21 +12,21 @@
 
 mod compiler;
 mod error;
+mod laws;
 mod renumbering;
 mod rests;
 mod starts;
-mod theorems;
 mod walk;
 mod win_nodes;
 mod wins;
 
 pub use compiler::{CompileError, Compiler};
 pub use error::SearchError;
-pub use renumbering::renumbered;
-pub use starts::renumbered_start;
-pub use theorems::{
+pub use laws::{
     different_nodes_are_apart, growth_keeps_reach, growth_keeps_trees, growth_keeps_wins,
     tree_has_one_table,
 };
+pub use renumbering::renumbered;
+pub use starts::renumbered_start;
 pub use win_nodes::answer_node;
 pub use wins::WrittenWin;

@@ -11,8 +11,8 @@ mod entries;
 mod entry_lines;
 mod error;
 mod holding;
+mod laws;
 mod reading;
-mod theorems;
 mod writing;
 
 pub use binder::{BindError, Binder};
@@ -20,11 +20,11 @@ pub use entries::Entries;
 pub use error::{BookError, HoldError};
 use game_rules::RuleKind;
 pub use holding::{check_book, hold_book};
+pub use laws::books_read_back;
 pub use reading::{is_book, read_book};
 use stone_board::Board;
 use strategy_checker::MAX_ROOTS;
 use strategy_graph::{Root, Table};
-pub use theorems::books_read_back;
 pub use writing::write_book;
 
 /// The most entries of a book, 1,000: as many as there are roots that can be held with one table.

@@ -1,6 +1,0 @@
-use Rattle.board_symmetry.proofs.Parts.{composed}
-use Rattle.board_symmetry.proofs.ImageGroup.{together}
-use Rattle.board_symmetry.proofs.theorems.images_compose.Goals as goal
-
-pub returns : goal.returns
-returns c = record { composed = λ s t. (composed s t, together s t) }

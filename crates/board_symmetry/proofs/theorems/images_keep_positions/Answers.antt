@@ -1,5 +1,0 @@
-use Rattle.board_symmetry.proofs.ImageLaws.{keeps_positions}
-use Rattle.board_symmetry.proofs.theorems.images_keep_positions.Goals as goal
-
-pub returns : goal.returns
-returns c = record { positions = keeps_positions }

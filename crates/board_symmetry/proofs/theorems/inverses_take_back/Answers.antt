@@ -1,5 +1,0 @@
-use Rattle.board_symmetry.proofs.ImageGroup.{takes_back}
-use Rattle.board_symmetry.proofs.theorems.inverses_take_back.Goals as goal
-
-pub returns : goal.returns
-returns c = record { back = takes_back }

@@ -1,5 +1,0 @@
-use Rattle.defence_finder.proofs.Telling.{spent-told}
-use Rattle.defence_finder.proofs.theorems.spent_is_told.Goals as goal
-
-pub returns : goal.returns
-returns c = record { told = spent-told }

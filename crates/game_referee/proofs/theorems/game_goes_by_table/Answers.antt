@@ -1,5 +1,0 @@
-use Rattle.game_referee.proofs.Following.{games-go-by-table}
-use Rattle.game_referee.proofs.theorems.game_goes_by_table.Goals as goal
-
-pub returns : goal.returns
-returns c = record { goes = games-go-by-table }

@@ -1,5 +1,0 @@
-use Rattle.position_files.proofs.ReadBack.{position-read-back}
-use Rattle.position_files.proofs.theorems.positions_read_back.Goals as goal
-
-pub returns : goal.returns
-returns c = record { same = position-read-back }

@@ -1,5 +1,0 @@
-use Rattle.position_files.proofs.ReadBack.{table-read-back}
-use Rattle.position_files.proofs.theorems.tables_read_back.Goals as goal
-
-pub returns : goal.returns
-returns c = record { same = table-read-back }

@@ -1,5 +1,0 @@
-use Rattle.strategy_compiler.proofs.Unfolding.{unfolded-apart}
-use Rattle.strategy_compiler.proofs.theorems.different_nodes_are_apart.Goals as goal
-
-pub returns : goal.returns
-returns c = record { apart = unfolded-apart }

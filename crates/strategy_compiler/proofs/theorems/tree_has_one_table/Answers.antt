@@ -1,5 +1,0 @@
-use Rattle.strategy_compiler.proofs.Unique.{one-table}
-use Rattle.strategy_compiler.proofs.theorems.tree_has_one_table.Goals as goal
-
-pub returns : goal.returns
-returns c = record { one = one-table }
