@@ -2,9 +2,11 @@
 use Rattle.std.proofs.Common.{◌≡◌, ℕ, ◌≤◌, ◌+◌, max, Bool, true, false, cond, ◌&&◌, refl, sym, ap, subst, ◌∙◌, arith, List, [], ◌∷◌, ◌++◌}
 use Rattle.std.proofs.Common.{map, append_assoc}
 use Rattle.std.specs.List.{AllByRecursion, list_all, sum_by}
+use Rattle.std.proofs.lemmas.List.{map-append}
 use Rattle.std.proofs.lemmas.List.Sums.{sum_by-cons}
 use Rattle.game_rules.proofs.Common.{Grid, outcome, after, goes_on_with, loses_or, if_goes_on}
 use Rattle.game_rules.specs.declared.RuleKind.{RuleKind}
+use Rattle.game_rules.specs.declared.Outcome.TheVariants.{GoesOn}
 use Rattle.game_rules.specs.declared.Point.{Point}
 use Rattle.strategy_graph.specs.declared.Node.{Node}
 use Rattle.strategy_graph.specs.declared.Reply.{Reply}
@@ -17,7 +19,7 @@ use Rattle.strategy_compiler.specs.Replies.{IsBeatenBy}
 use Rattle.strategy_compiler.proofs.Growing.{win-stays, win-deep}
 use Rattle.strategy_compiler.proofs.Replies.{beaten-grown}
 use Rattle.line_proof.specs.declared.answers.Answering.{Answering}
-use Rattle.line_proof.specs.Replies.{AreAnswers, going_on}
+use Rattle.line_proof.specs.Replies.{AreAnswers, IsAnswered, answered, going_on}
 
 -- ---- wins as the nodes grow
 
@@ -29,7 +31,7 @@ module _ (rule : RuleKind) (n : ℕ) (c : Grid) (t u : List Node) (k : ℕ) (low
       let here : depth u r.next ≡ depth t r.next = (win-stays rule n (after c r.at) t u k _ lower grown h.0).deep in
       omega (arith, here, most-grown rs h.1)
 
-  pub answers-grown : (a : Answering) → AreAnswers rule n t c a → AreAnswers rule n u c a
+  answers-grown : (a : Answering) → AreAnswers rule n t c a → AreAnswers rule n u c a
   answers-grown a h = record {
     wins = beaten-grown rule n c t u k lower grown a.replies.items h.wins;
     most = h.most ∙ sym (most-grown a.replies.items h.wins);
@@ -39,7 +41,7 @@ module _ (rule : RuleKind) (n : ℕ) (c : Grid) (t u : List Node) (k : ℕ) (low
 
 module _ (rule : RuleKind) (n : ℕ) (t : List Node) (c : Grid) (q : Point) (win : WrittenWin) (a a' : Answering)
     (added : a'.replies.items ≡ a.replies.items ++ (record { at = q; next = win.node }) ∷ []) where
-  pub answers-more : a'.moves ≡ max a.moves win.moves → IsWrittenWin rule n (after c q) t win → AreAnswers rule n t c a
+  answers-more : a'.moves ≡ max a.moves win.moves → IsWrittenWin rule n (after c q) t win → AreAnswers rule n t c a
       → AreAnswers rule n t c a'
   answers-more most won h =
       let r : Reply = record { at = q; next = win.node } in
@@ -52,6 +54,20 @@ module _ (rule : RuleKind) (n : ℕ) (t : List Node) (c : Grid) (q : Point) (win
             ap (λ (rs : List Reply). greatest (map (depth t) (map (λ r. r.next) rs))) added in
             omega (arith, push-most (depth t) a.replies.items r, same, won.deep, h.most, most);
       }
+
+-- the reply q goes on to a board that was proved to be won, and its answer was added
+pub answered-more : (rule : RuleKind) (n : ℕ) (t u : List Node) (k : ℕ) (c : Grid) (q : Point) (won : Grid → Bool) (win : WrittenWin)
+    (a a' : Answering) → NamesLower t → GrowsBy t u k → outcome rule c q ≡ GoesOn
+    → (won (after c q) ≡ true) × IsWrittenWin rule n (after c q) u win
+    → a'.replies.items ≡ a.replies.items ++ (record { at = q; next = win.node }) ∷ [] → a'.moves ≡ max a.moves win.moves
+    → AreAnswers rule n t c a → IsAnswered rule n u c q won a a' true
+answered-more rule n t u k c q won win a a' lower grown on told added most h = (
+  ap (λ o. loses_or o (won (after c q))) on ∙ told.0,
+  answers-more rule n u c q win a a' added most told.1 (answers-grown rule n c t u k lower grown a h),
+  ap (λ (rs : List Reply). map (λ r. r.at) rs) added
+      ∙ map-append (λ (r : Reply). r.at) a.replies.items ((record { at = q; next = win.node }) ∷ [])
+      ∙ ap (λ o. answered a ++ cond (goes_on_with o true) (q ∷ []) []) (sym on),
+)
 
 -- ---- what the compiler asks of answers
 
@@ -97,3 +113,9 @@ module _ (rule : RuleKind) (c v : Grid) (same : v ≡ c) (q : Point) (qs rest : 
       qs
   lose-step won loses e all =
       sym (loses-here won ∙ ap (λ r. r && list_all (λ q. loses_or (outcome rule c q) (won (after c q))) rest) (sym e ∙ all))
+
+  -- where it does not lose, not all do
+  pub fails-step : (won : Grid → Bool) → loses_or (outcome rule v q) (won (after v q)) ≡ false
+      → list_all (λ q. loses_or (outcome rule c q) (won (after c q))) qs ≡ false
+  fails-step won e =
+      loses-here won ∙ ap (λ r. r && list_all (λ q. loses_or (outcome rule c q) (won (after c q))) rest) e

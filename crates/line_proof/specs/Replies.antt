@@ -1,8 +1,9 @@
 -- The answers to the replies at a position.
-use Rattle.std.specs.Prelude.{◌≡◌, ℕ, Bool, true, false, List, map, Option, Some, None}
+use Rattle.std.specs.Prelude.{◌≡◌, ℕ, Bool, true, false, List, [], ◌∷◌, ◌++◌, map, Option, Some, None}
 use Rattle.std.specs.List.{filter, AllByRecursion}
 use Rattle.game_rules.specs.Grid.{Grid, points_of}
-use Rattle.game_rules.specs.Play.{outcome, goes_on_with}
+use Rattle.game_rules.specs.Play.{outcome, after, goes_on_with}
+use Rattle.game_rules.specs.Games.{loses_or}
 use Rattle.game_rules.specs.declared.RuleKind.{RuleKind}
 use Rattle.game_rules.specs.declared.Point.{Point}
 use Rattle.strategy_graph.specs.declared.Reply.{Reply}
@@ -33,3 +34,11 @@ pub record AnswersAll (rule : RuleKind) (n : ℕ) (t : List Node) (c : Grid) (a 
 abbrev pub FindsAnswers : RuleKind → ℕ → List Node → Grid → Bool → Option Answering → Type 0
 FindsAnswers rule n t c lost None = lost ≡ false
 FindsAnswers rule n t c lost (Some a) = (lost ≡ true) × AnswersAll rule n t c a
+
+-- what becomes of the answers by the reply q at c: it is no move, fouls, or goes on to a board that is won, and it has an answer too if it
+-- goes on; or else it does not lose
+abbrev pub IsAnswered : RuleKind → ℕ → List Node → Grid → Point → (Grid → Bool) → Answering → Answering → Bool → Type 0
+IsAnswered rule n t c q won old new true =
+    (loses_or (outcome rule c q) (won (after c q)) ≡ true) × AreAnswers rule n t c new
+    × (answered new ≡ answered old ++ going_on rule c (q ∷ []))
+IsAnswered rule n t c q won old new false = loses_or (outcome rule c q) (won (after c q)) ≡ false

@@ -4,9 +4,9 @@
 //! node is put in once each of its replies has one, so a line that fails leaves no node of the moves above the failure.
 #![tactic(auto)]
 
-ghost use Rattle.std.specs.Prelude.{◌≡◌, ◌↔◌, ◌≤◌, ◌<◌, ◌+◌, ◌++◌, ◌∷◌, [], List, Some, None, min, suc, true, false, if◌then◌else◌, is_some, length, IfOk, IfSome, OnOk, IsErrOf};
+ghost use Rattle.std.specs.Prelude.{◌≡◌, ◌↔◌, ◌≤◌, ◌<◌, ◌+◌, ◌++◌, List, Some, min, suc, false, if◌then◌else◌, length, IfOk, IfSome, OnOk, IsErrOf};
 ghost use Rattle.game_rules.specs.Play.{outcome as outcome_lem, after};
-ghost use Rattle.game_rules.specs.Games.{wins_by_fours, loses_or, if_goes_on, behind_replies};
+ghost use Rattle.game_rules.specs.Games.{wins_by_fours, if_goes_on, behind_replies};
 ghost use Rattle.strategy_graph.specs.declared.Node.{Node};
 ghost use Rattle.strategy_graph.specs.declared.TheConstants.{MAX_NODES};
 ghost use Rattle.strategy_compiler.specs.Nodes.{IsCompiled};
@@ -14,8 +14,8 @@ ghost use Rattle.strategy_compiler.specs.Wins.{IsWrittenWin};
 ghost use Rattle.strategy_compiler.specs.Growth.{GrowsBy, Writes};
 ghost use Rattle.line_proof.specs.declared.TheConstants.{MAX_DEPTH};
 ghost use Rattle.line_proof.specs.Lines.{line_wins, line_tree, first_gain, block_of, each_loses, move_wins, behind_line_move};
-ghost use Rattle.line_proof.specs.Replies.{AreAnswers, FindsAnswers, answered, going_on};
-ghost use Rattle.line_proof.specs.Answers.{OnProved, is_proved};
+ghost use Rattle.line_proof.specs.Replies.{AreAnswers, FindsAnswers, IsAnswered};
+ghost use Rattle.line_proof.specs.Answers.{OnProved, IsTold, IsQuick};
 ghost use Rattle.line_proof.specs.Doubles.{IsDouble};
 
 use crate::answers::{Answering, add, fork};
@@ -92,33 +92,22 @@ pub fn prove_line<R: Rule, V: Seen<R>>(
     prove::<R, V>(view, whole, compiler)
 }
 
-/// The same of a line of any number of moves, none included.
-#[cycle(line)]
+/// The same of a line of at least one move.
 fn prove<R: Rule, V: Seen<R>>(
     view: &mut V,
     line: LineLeft,
     compiler: &mut Compiler,
 ) -> Result<LineAnswer, SearchError>
+    requires some { 1 ≤ line.moves }
     requires fits { line.moves ≤ MAX_DEPTH }
     requires compiled { IsCompiled compiler.old }
-    ensures proved { IfOk result (λ a. OnProved a (IsWrittenWin R.KIND line.entry.moves (V.position view.old) compiler.new)) }
-    ensures wins { IfOk result (λ a. is_proved a ≡ line_wins R.KIND line.entry.threats.now line.entry.moves (V.position view.old)) }
+    ensures told { IfOk result (IsTold R.KIND line.entry.moves (V.position view.old) compiler.new (line_wins R.KIND line.entry.threats.now line.entry.moves (V.position view.old))) }
     ensures writes { Writes compiler.old compiler.new (line_tree R.KIND line.entry.threats.now line.entry.moves (V.position view.old)) result }
     ensures same { V.position view.new ≡ V.position view.old }
 {
-    if line.moves == 0 {
-        return Ok(LineAnswer::Fails);
-    }
-    if let Some(win) = quick_win::<R, V>(line.alloc, view, line.moves, compiler)? {
-        return Ok(LineAnswer::Proved(win));
-    }
-    let later = LineLeft {
-        moves: line.moves - 1,
-        ..line
-    };
-    match block::<R, V>(line.alloc, view)? {
-        Some(block) => prove_move::<R, V>(view, block, later, compiler),
-        None => prove_gain::<R, V>(view, later, compiler),
+    match quick_win::<R, V>(line.alloc, view, line.moves, compiler)? {
+        Some(win) => Ok(LineAnswer::Proved(win)),
+        None => prove_slow::<R, V>(view, line, compiler),
     }
 }
 
@@ -131,9 +120,7 @@ fn quick_win<R: Rule, V: Seen<R>>(
 ) -> Result<Option<WrittenWin>, SearchError>
     requires some { 1 ≤ moves }
     requires compiled { IsCompiled compiler.old }
-    ensures win { IfOk result (λ found. IfSome found (IsWrittenWin R.KIND moves (V.position view.old) compiler.new)) }
-    ensures wins { IfOk result (λ found. is_some found ≡ wins_by_fours R.KIND (min moves 2) (V.position view.old)) }
-    ensures none { IfOk result (λ found. found ≡ None → compiler.new ≡ compiler.old) }
+    ensures found { IfOk result (IsQuick R.KIND moves (V.position view.old) compiler.old compiler.new) }
     ensures writes { Writes compiler.old compiler.new (if wins_by_fours R.KIND (min moves 2) (V.position view.old) then 4 else 0) result }
     ensures same { V.position view.new ≡ V.position view.old }
 {
@@ -146,6 +133,79 @@ fn quick_win<R: Rule, V: Seen<R>>(
         FourAnswer::Win(win) => Ok(Some(win)),
         FourAnswer::None => Ok(None),
         FourAnswer::Spent => unreachable!(),
+    }
+}
+
+/// The same after a reply. The five point that the attacker had before it is tried first, and then a double threat that won after an
+/// earlier reply, before a search.
+fn quick_reply<R: Rule, V: Seen<R>>(
+    alloc: Global,
+    view: &mut V,
+    moves: u32,
+    hints: &mut Hints,
+    compiler: &mut Compiler,
+) -> Result<Option<WrittenWin>, SearchError>
+    requires some { 1 ≤ moves }
+    requires compiled { IsCompiled compiler.old }
+    requires hint { IfSome hints.old.double (IsDouble (V.position view.old).width (V.position view.old).height compiler.old) }
+    ensures found { IfOk result (IsQuick R.KIND moves (V.position view.old) compiler.old compiler.new) }
+    ensures hint { OnOk result (IfSome hints.new.double (IsDouble (V.position view.old).width (V.position view.old).height compiler.new)) }
+    ensures writes { Writes compiler.old compiler.new (if wins_by_fours R.KIND (min moves 2) (V.position view.old) then 4 else 0) result }
+    ensures same { V.position view.new ≡ V.position view.old }
+{
+    match five_win::<R, V>(view, hints.five, compiler)? {
+        Some(win) => Ok(Some(win)),
+        None => quick_double::<R, V>(alloc, view, moves, &mut hints.double, compiler),
+    }
+}
+
+/// The same without a five point to try.
+fn quick_double<R: Rule, V: Seen<R>>(
+    alloc: Global,
+    view: &mut V,
+    moves: u32,
+    hint: &mut Option<DoubleThreat>,
+    compiler: &mut Compiler,
+) -> Result<Option<WrittenWin>, SearchError>
+    requires some { 1 ≤ moves }
+    requires compiled { IsCompiled compiler.old }
+    requires hint { IfSome hint.old (IsDouble (V.position view.old).width (V.position view.old).height compiler.old) }
+    ensures found { IfOk result (IsQuick R.KIND moves (V.position view.old) compiler.old compiler.new) }
+    ensures hint { OnOk result (IfSome hint.new (IsDouble (V.position view.old).width (V.position view.old).height compiler.new)) }
+    ensures writes { Writes compiler.old compiler.new (if wins_by_fours R.KIND (min moves 2) (V.position view.old) then 4 else 0) result }
+    ensures same { V.position view.new ≡ V.position view.old }
+{
+    if moves < 2 {
+        return quick_win::<R, V>(alloc, view, moves, compiler);
+    }
+    match double_win::<R, V>(alloc, view, hint, compiler)? {
+        Some(win) => Ok(Some(win)),
+        None => quick_win::<R, V>(alloc, view, moves, compiler),
+    }
+}
+
+/// The same where there is no win by continuous fours within two of the moves: by the block, or else by the first gain.
+#[cycle(line)]
+fn prove_slow<R: Rule, V: Seen<R>>(
+    view: &mut V,
+    line: LineLeft,
+    compiler: &mut Compiler,
+) -> Result<LineAnswer, SearchError>
+    requires some { 1 ≤ line.moves }
+    requires fits { line.moves ≤ MAX_DEPTH }
+    requires slow { wins_by_fours R.KIND (min line.moves 2) (V.position view.old) ≡ false }
+    requires compiled { IsCompiled compiler.old }
+    ensures told { IfOk result (IsTold R.KIND line.entry.moves (V.position view.old) compiler.new (line_wins R.KIND line.entry.threats.now line.entry.moves (V.position view.old))) }
+    ensures writes { Writes compiler.old compiler.new (line_tree R.KIND line.entry.threats.now line.entry.moves (V.position view.old)) result }
+    ensures same { V.position view.new ≡ V.position view.old }
+{
+    let later = LineLeft {
+        moves: line.moves - 1,
+        ..line
+    };
+    match block::<R, V>(line.alloc, view)? {
+        Some(block) => prove_move::<R, V>(view, block, later, compiler),
+        None => prove_gain::<R, V>(view, later, compiler),
     }
 }
 
@@ -170,12 +230,10 @@ fn prove_gain<R: Rule, V: Seen<R>>(
 ) -> Result<LineAnswer, SearchError>
     requires fits { line.moves < MAX_DEPTH }
     requires compiled { IsCompiled compiler.old }
-    ensures proved { IfOk result (λ a. OnProved a (IsWrittenWin R.KIND (suc line.entry.moves) (V.position view.old) compiler.new)) }
-    ensures wins { IfOk result (λ a. is_proved a
-        ≡ move_wins R.KIND (V.position view.old) (λ ts. line_wins R.KIND ts line.entry.moves) (first_gain line.entry.threats.now)) }
+    ensures told { IfOk result (IsTold R.KIND (suc line.entry.moves) (V.position view.old) compiler.new
+        (move_wins R.KIND (V.position view.old) (λ ts. line_wins R.KIND ts line.entry.moves) (first_gain line.entry.threats.now))) }
     ensures writes { Writes compiler.old compiler.new
-        (1 + behind_line_move R.KIND (V.position view.old) (λ ts. line_tree R.KIND ts line.entry.moves)
-        (first_gain line.entry.threats.now)) result }
+        (1 + behind_line_move R.KIND (V.position view.old) (λ ts. line_tree R.KIND ts line.entry.moves) (first_gain line.entry.threats.now)) result }
     ensures same { V.position view.new ≡ V.position view.old }
 {
     match line.threats.split_first() {
@@ -197,12 +255,10 @@ fn prove_move<R: Rule, V: Seen<R>>(
 ) -> Result<LineAnswer, SearchError>
     requires fits { line.moves < MAX_DEPTH }
     requires compiled { IsCompiled compiler.old }
-    ensures proved { IfOk result (λ a. OnProved a (IsWrittenWin R.KIND (suc line.entry.moves) (V.position view.old) compiler.new)) }
-    ensures wins { IfOk result (λ a. is_proved a
-        ≡ move_wins R.KIND (V.position view.old) (λ ts. line_wins R.KIND ts line.entry.moves) (Some (p, line.entry.threats.now))) }
+    ensures told { IfOk result (IsTold R.KIND (suc line.entry.moves) (V.position view.old) compiler.new
+        (move_wins R.KIND (V.position view.old) (λ ts. line_wins R.KIND ts line.entry.moves) (Some (p, line.entry.threats.now)))) }
     ensures writes { Writes compiler.old compiler.new
-        (1 + behind_line_move R.KIND (V.position view.old) (λ ts. line_tree R.KIND ts line.entry.moves)
-        (Some (p, line.entry.threats.now))) result }
+        (1 + behind_line_move R.KIND (V.position view.old) (λ ts. line_tree R.KIND ts line.entry.moves) (Some (p, line.entry.threats.now))) result }
     ensures same { V.position view.new ≡ V.position view.old }
 {
     match view.outcome(p) {
@@ -222,20 +278,39 @@ fn prove_on<R: Rule, V: Seen<R>>(
     requires fits { line.moves < MAX_DEPTH }
     requires goes_on { outcome_lem R.KIND (V.position view.old) p ≡ Outcome.GoesOn }
     requires compiled { IsCompiled compiler.old }
-    ensures proved { IfOk result (λ a. OnProved a (IsWrittenWin R.KIND (suc line.entry.moves) (V.position view.old) compiler.new)) }
-    ensures wins { IfOk result (λ a. is_proved a
-        ≡ each_loses R.KIND (after (V.position view.old) p) (line_wins R.KIND line.entry.threats.now line.entry.moves)) }
+    ensures told { IfOk result (IsTold R.KIND (suc line.entry.moves) (V.position view.old) compiler.new
+        (each_loses R.KIND (after (V.position view.old) p) (line_wins R.KIND line.entry.threats.now line.entry.moves))) }
     ensures writes { Writes compiler.old compiler.new
         (1 + behind_replies R.KIND (line_tree R.KIND line.entry.threats.now line.entry.moves) (after (V.position view.old) p)) result }
+    ensures same { V.position view.new ≡ V.position view.old }
+{
+    match answers_after::<R, V>(view, p, line, compiler)? {
+        None => Ok(LineAnswer::Fails),
+        Some(answers) => Ok(LineAnswer::Proved(fork(p, &answers, compiler)?)),
+    }
+}
+
+/// The answers to the replies to the move `p`, which goes on, if each of them loses.
+#[cycle(line)]
+fn answers_after<R: Rule, V: Seen<R>>(
+    view: &mut V,
+    p: Point,
+    line: LineLeft,
+    compiler: &mut Compiler,
+) -> Result<Option<Answering>, SearchError>
+    requires fits { line.moves < MAX_DEPTH }
+    requires goes_on { outcome_lem R.KIND (V.position view.old) p ≡ Outcome.GoesOn }
+    requires compiled { IsCompiled compiler.old }
+    ensures found { IfOk result (FindsAnswers R.KIND line.entry.moves compiler.new (after (V.position view.old) p)
+        (each_loses R.KIND (after (V.position view.old) p) (line_wins R.KIND line.entry.threats.now line.entry.moves))) }
+    ensures writes { Writes compiler.old compiler.new
+        (behind_replies R.KIND (line_tree R.KIND line.entry.threats.now line.entry.moves) (after (V.position view.old) p)) result }
     ensures same { V.position view.new ≡ V.position view.old }
 {
     view.play(p);
     let found = answer_each::<R, V>(view, line, compiler);
     view.undo(p);
-    match found? {
-        None => Ok(LineAnswer::Fails),
-        Some(answers) => Ok(LineAnswer::Proved(fork(p, &answers, compiler)?)),
-    }
+    found
 }
 
 /// The answers to the replies at a position where the other side is to move, if each reply that is a move fouls or goes on
@@ -248,8 +323,8 @@ fn answer_each<R: Rule, V: Seen<R>>(
 ) -> Result<Option<Answering>, SearchError>
     requires fits { line.moves < MAX_DEPTH }
     requires compiled { IsCompiled compiler.old }
-    ensures found { IfOk result (λ found. FindsAnswers R.KIND line.entry.moves compiler.new (V.position view.old)
-        (each_loses R.KIND (V.position view.old) (line_wins R.KIND line.entry.threats.now line.entry.moves)) found) }
+    ensures found { IfOk result (FindsAnswers R.KIND line.entry.moves compiler.new (V.position view.old)
+        (each_loses R.KIND (V.position view.old) (line_wins R.KIND line.entry.threats.now line.entry.moves))) }
     ensures writes { Writes compiler.old compiler.new
         (behind_replies R.KIND (line_tree R.KIND line.entry.threats.now line.entry.moves) (V.position view.old)) result }
     ensures same { V.position view.new ≡ V.position view.old }
@@ -288,13 +363,8 @@ fn answer_reply<R: Rule, V: Seen<R>>(
     requires compiled { IsCompiled compiler.old }
     requires hint { IfSome hints.old.double (IsDouble (V.position view.old).width (V.position view.old).height compiler.old) }
     requires answers { AreAnswers R.KIND line.moves compiler.old (V.position view.old) answers.old }
-    ensures loses { IfOk result (λ loses. loses
-        ≡ loses_or (outcome_lem R.KIND (V.position view.old) q)
-        (line_wins R.KIND line.entry.threats.now line.entry.moves (after (V.position view.old) q))) }
-    ensures answers { IfOk result (λ loses. loses ≡ true
-        → AreAnswers R.KIND line.entry.moves compiler.new (V.position view.old) answers.new) }
-    ensures added { IfOk result (λ loses. loses ≡ true
-        → answered answers.new ≡ answered answers.old ++ going_on R.KIND (V.position view.old) (q ∷ [])) }
+    ensures answered { IfOk result (IsAnswered R.KIND line.entry.moves compiler.new (V.position view.old) q
+        (line_wins R.KIND line.entry.threats.now line.entry.moves) answers.old answers.new) }
     ensures hint { OnOk result (IfSome hints.new.double (IsDouble (V.position view.old).width (V.position view.old).height compiler.new)) }
     ensures writes { Writes compiler.old compiler.new
         (if_goes_on (outcome_lem R.KIND (V.position view.old) q)
@@ -304,14 +374,37 @@ fn answer_reply<R: Rule, V: Seen<R>>(
     match view.outcome(q) {
         Outcome::Refused | Outcome::Fouls(_) => Ok(true),
         Outcome::Wins | Outcome::Draws => Ok(false),
-        Outcome::GoesOn => {
-            match prove_after::<R, V>(view, q, line, hints, compiler)? {
-                LineAnswer::Fails => Ok(false),
-                LineAnswer::Proved(win) => {
-                    add(answers, q, win)?;
-                    Ok(true)
-                }
-            }
+        Outcome::GoesOn => answer_on::<R, V>(view, q, line, hints, answers, compiler),
+    }
+}
+
+/// The same of a reply that goes on.
+#[cycle(line)]
+fn answer_on<R: Rule, V: Seen<R>>(
+    view: &mut V,
+    q: Point,
+    line: LineLeft,
+    hints: &mut Hints,
+    answers: &mut Answering,
+    compiler: &mut Compiler,
+) -> Result<bool, SearchError>
+    requires fits { line.moves < MAX_DEPTH }
+    requires goes_on { outcome_lem R.KIND (V.position view.old) q ≡ Outcome.GoesOn }
+    requires compiled { IsCompiled compiler.old }
+    requires hint { IfSome hints.old.double (IsDouble (V.position view.old).width (V.position view.old).height compiler.old) }
+    requires answers { AreAnswers R.KIND line.moves compiler.old (V.position view.old) answers.old }
+    ensures answered { IfOk result (IsAnswered R.KIND line.entry.moves compiler.new (V.position view.old) q
+        (line_wins R.KIND line.entry.threats.now line.entry.moves) answers.old answers.new) }
+    ensures hint { OnOk result (IfSome hints.new.double (IsDouble (V.position view.old).width (V.position view.old).height compiler.new)) }
+    ensures writes { Writes compiler.old compiler.new
+        (line_tree R.KIND line.entry.threats.now line.entry.moves (after (V.position view.old) q)) result }
+    ensures same { V.position view.new ≡ V.position view.old }
+{
+    match prove_after::<R, V>(view, q, line, hints, compiler)? {
+        LineAnswer::Fails => Ok(false),
+        LineAnswer::Proved(win) => {
+            add(answers, q, win)?;
+            Ok(true)
         }
     }
 }
@@ -329,8 +422,8 @@ fn prove_after<R: Rule, V: Seen<R>>(
     requires goes_on { outcome_lem R.KIND (V.position view.old) q ≡ Outcome.GoesOn }
     requires compiled { IsCompiled compiler.old }
     requires hint { IfSome hints.old.double (IsDouble (V.position view.old).width (V.position view.old).height compiler.old) }
-    ensures proved { IfOk result (λ a. OnProved a (IsWrittenWin R.KIND line.entry.moves (after (V.position view.old) q) compiler.new)) }
-    ensures wins { IfOk result (λ a. is_proved a ≡ line_wins R.KIND line.entry.threats.now line.entry.moves (after (V.position view.old) q)) }
+    ensures told { IfOk result (IsTold R.KIND line.entry.moves (after (V.position view.old) q) compiler.new
+        (line_wins R.KIND line.entry.threats.now line.entry.moves (after (V.position view.old) q))) }
     ensures hint { OnOk result (IfSome hints.new.double (IsDouble (V.position view.old).width (V.position view.old).height compiler.new)) }
     ensures writes { Writes compiler.old compiler.new
         (line_tree R.KIND line.entry.threats.now line.entry.moves (after (V.position view.old) q)) result }
@@ -342,7 +435,7 @@ fn prove_after<R: Rule, V: Seen<R>>(
     found
 }
 
-/// The same at that position. The five point that the attacker had before the reply is tried first.
+/// Proves the line at the position after a reply.
 #[cycle(line)]
 fn prove_reply<R: Rule, V: Seen<R>>(
     view: &mut V,
@@ -353,43 +446,17 @@ fn prove_reply<R: Rule, V: Seen<R>>(
     requires fits { line.moves ≤ MAX_DEPTH }
     requires compiled { IsCompiled compiler.old }
     requires hint { IfSome hints.old.double (IsDouble (V.position view.old).width (V.position view.old).height compiler.old) }
-    ensures proved { IfOk result (λ a. OnProved a (IsWrittenWin R.KIND line.entry.moves (V.position view.old) compiler.new)) }
-    ensures wins { IfOk result (λ a. is_proved a ≡ line_wins R.KIND line.entry.threats.now line.entry.moves (V.position view.old)) }
+    ensures told { IfOk result (IsTold R.KIND line.entry.moves (V.position view.old) compiler.new
+        (line_wins R.KIND line.entry.threats.now line.entry.moves (V.position view.old))) }
     ensures hint { OnOk result (IfSome hints.new.double (IsDouble (V.position view.old).width (V.position view.old).height compiler.new)) }
     ensures writes { Writes compiler.old compiler.new (line_tree R.KIND line.entry.threats.now line.entry.moves (V.position view.old)) result }
     ensures same { V.position view.new ≡ V.position view.old }
 {
     if line.moves == 0 {
-        return prove::<R, V>(view, line, compiler);
+        return Ok(LineAnswer::Fails);
     }
-    match five_win::<R, V>(view, hints.five, compiler)? {
+    match quick_reply::<R, V>(line.alloc, view, line.moves, hints, compiler)? {
         Some(win) => Ok(LineAnswer::Proved(win)),
-        None => prove_double::<R, V>(view, line, hints, compiler),
-    }
-}
-
-/// The same where that point is no five point. A double threat that won after an earlier reply is tried before a search.
-#[cycle(line)]
-fn prove_double<R: Rule, V: Seen<R>>(
-    view: &mut V,
-    line: LineLeft,
-    hints: &mut Hints,
-    compiler: &mut Compiler,
-) -> Result<LineAnswer, SearchError>
-    requires fits { line.moves ≤ MAX_DEPTH }
-    requires compiled { IsCompiled compiler.old }
-    requires hint { IfSome hints.old.double (IsDouble (V.position view.old).width (V.position view.old).height compiler.old) }
-    ensures proved { IfOk result (λ a. OnProved a (IsWrittenWin R.KIND line.entry.moves (V.position view.old) compiler.new)) }
-    ensures wins { IfOk result (λ a. is_proved a ≡ line_wins R.KIND line.entry.threats.now line.entry.moves (V.position view.old)) }
-    ensures hint { OnOk result (IfSome hints.new.double (IsDouble (V.position view.old).width (V.position view.old).height compiler.new)) }
-    ensures writes { Writes compiler.old compiler.new (line_tree R.KIND line.entry.threats.now line.entry.moves (V.position view.old)) result }
-    ensures same { V.position view.new ≡ V.position view.old }
-{
-    if line.moves < 2 {
-        return prove::<R, V>(view, line, compiler);
-    }
-    match double_win::<R, V>(line.alloc, view, &mut hints.double, compiler)? {
-        Some(win) => Ok(LineAnswer::Proved(win)),
-        None => prove::<R, V>(view, line, compiler),
+        None => prove_slow::<R, V>(view, line, compiler),
     }
 }

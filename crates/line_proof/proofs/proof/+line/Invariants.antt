@@ -7,32 +7,35 @@ use Rattle.line_proof.specs.Doubles.{IsDouble}
 use Rattle.line_proof.specs.Replies.{AreAnswers, answered, going_on}
 use Rattle.line_proof.proofs.proof.+line.Given as goal
 
-abbrev pub decreases-prove : goal.decreases-prove
-decreases-prove g l = 9 * l.line.moves
-
-abbrev pub decreases-prove_double : goal.decreases-prove_double
-decreases-prove_double g l = 9 * l.line.moves + 1
+abbrev pub decreases-prove_slow : goal.decreases-prove_slow
+decreases-prove_slow g l = 10 * l.line.moves
 
 abbrev pub decreases-prove_reply : goal.decreases-prove_reply
-decreases-prove_reply g l = 9 * l.line.moves + 2
+decreases-prove_reply g l = 10 * l.line.moves + 1
 
 abbrev pub decreases-prove_after : goal.decreases-prove_after
-decreases-prove_after g l = 9 * l.line.moves + 3
+decreases-prove_after g l = 10 * l.line.moves + 2
+
+abbrev pub decreases-answer_on : goal.decreases-answer_on
+decreases-answer_on g l = 10 * l.line.moves + 3
 
 abbrev pub decreases-answer_reply : goal.decreases-answer_reply
-decreases-answer_reply g l = 9 * l.line.moves + 4
+decreases-answer_reply g l = 10 * l.line.moves + 4
 
 abbrev pub decreases-answer_each : goal.decreases-answer_each
-decreases-answer_each g l = 9 * l.line.moves + 5
+decreases-answer_each g l = 10 * l.line.moves + 5
+
+abbrev pub decreases-answers_after : goal.decreases-answers_after
+decreases-answers_after g l = 10 * l.line.moves + 6
 
 abbrev pub decreases-prove_on : goal.decreases-prove_on
-decreases-prove_on g l = 9 * l.line.moves + 6
+decreases-prove_on g l = 10 * l.line.moves + 7
 
 abbrev pub decreases-prove_move : goal.decreases-prove_move
-decreases-prove_move g l = 9 * l.line.moves + 7
+decreases-prove_move g l = 10 * l.line.moves + 8
 
 abbrev pub decreases-prove_gain : goal.decreases-prove_gain
-decreases-prove_gain g l = 9 * l.line.moves + 8
+decreases-prove_gain g l = 10 * l.line.moves + 9
 
 -- the view is as before, and the hint is one; the answers found, and those that the points left need, are all, and so are the nodes; the
 -- points left lose where all points do
