@@ -7,6 +7,8 @@ mod Deepening
 -- the plan of a win, and the nodes that stand for it
 pub mod Planning
 pub mod Written
+-- the table of the fewest win
+mod FourTables
 -- one move of a win by fours, and the node that stands for its plan
 -- depths that look at as many positions as the one before
 mod Rounds

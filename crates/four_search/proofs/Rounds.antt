@@ -8,8 +8,8 @@ use Rattle.game_rules.proofs.Common.{Grid, points_of, IsPosition, mover, after, 
 use Rattle.game_rules.specs.declared.RuleKind.{RuleKind}
 use Rattle.game_rules.specs.declared.Point.{Point}
 use Rattle.game_rules.proofs.PointLists.{sums-less, sums-same}
-use Rattle.game_rules.proofs.Tests.{le_true, le_false, le_from}
-use Rattle.game_rules.proofs.Games.{five-wins}
+use Rattle.game_rules.proofs.Tests.{le_from}
+use Rattle.game_rules.proofs.Games.{five-wins, no-win}
 use Rattle.threat_moves.specs.declared.block.BlockAnswer.{BlockAnswer}
 use Rattle.threat_moves.specs.declared.block.BlockAnswer.TheVariants.{Lost, Won, Draw, One}
 use Rattle.threat_moves.proofs.Common.{fate, is_four_move, block_wins}
@@ -18,6 +18,7 @@ use Rattle.threat_moves.proofs.Fates.{lawful-one}
 use Rattle.four_search.specs.declared.search.Found.TheVariants.{NoWin}
 use Rattle.four_search.specs.declared.answer.Sought.{Sought}
 use Rattle.four_search.specs.declared.answer.Sought.TheVariants.{None, Spent}
+use Rattle.four_search.specs.Answers.{IsSoughtOut}
 use Rattle.four_search.specs.FourGame.{until, if_one, four_tree, four_cost}
 use Rattle.four_search.specs.Searching.{positions_behind, found_at}
 use Rattle.four_search.proofs.Trying.{no_four, wins-is, tree-is, tree-some}
@@ -202,14 +203,8 @@ total cost all next so_far tree rest left budget more a e f g h = omega arith
 fits : (cost rest budget more : ℕ) → cost + rest ≡ budget + more → more ≤ rest → cost ≤ budget
 fits cost rest budget more e h = omega arith
 
-fits_back : (cost rest budget more : ℕ) → cost + rest ≡ budget + more → cost ≤ budget → more ≤ rest
-fits_back cost rest budget more e h = omega arith
-
 short : (cost rest budget more : ℕ) → cost + rest ≡ budget + more → rest < more → budget < cost
 short cost rest budget more e h = omega arith
-
-short_back : (cost rest budget more : ℕ) → cost + rest ≡ budget + more → budget < cost → rest < more
-short_back cost rest budget more e h = omega arith
 
 le-fails : (x y : ℕ) → nat_le x y ≡ false → y < x
 le-fails x y h = grind (arith, nat_tests)
@@ -263,7 +258,7 @@ module _ (rule : RuleKind) (b : Grid) (depth budget left d : ℕ) (l : d < depth
     alike k low = later rule b lawful d before (left - rest) (found-no-win rule (d + 1) b left rest found).1 looked-is.2 same first last k
         low
 
-    pub alike-none : wins_by_fours rule depth b ≡ false
+    alike-none : wins_by_fours rule depth b ≡ false
     alike-none = (alike depth l).0
 
     none_at_all : NoWinUpTo rule b depth depth
@@ -282,34 +277,16 @@ module _ (rule : RuleKind) (b : Grid) (depth budget left d : ℕ) (l : d < depth
         (depth - (d + 1)))
         (spent-more rule b depth d) looked-is.0 spent
 
-    pub alike-fits : nat_le ((depth - (d + 1)) * (left - rest)) rest ≡ true → four_cost rule depth b ≤ budget
+    alike-fits : nat_le ((depth - (d + 1)) * (left - rest)) rest ≡ true → four_cost rule depth b ≤ budget
     alike-fits h = fits _ _ _ _ alike-cost (le_from _ _ h)
 
-    pub fits-alike : four_cost rule depth b ≤ budget → nat_le ((depth - (d + 1)) * (left - rest)) rest ≡ true
-    fits-alike h = le_true _ _ (fits_back _ _ _ _ alike-cost h)
-
-    pub alike-short : nat_le ((depth - (d + 1)) * (left - rest)) rest ≡ false → budget < four_cost rule depth b
+    alike-short : nat_le ((depth - (d + 1)) * (left - rest)) rest ≡ false → budget < four_cost rule depth b
     alike-short h = short _ _ _ _ alike-cost (le-fails _ _ h)
 
-    pub short-alike : budget < four_cost rule depth b → nat_le ((depth - (d + 1)) * (left - rest)) rest ≡ false
-    short-alike h = le_false _ _ (short_back _ _ _ _ alike-cost h)
-
--- an answer that is none or spent by a test
-module _ (a : Sought) (t : Bool) (e : a ≡ cond t None Spent) where
-  pub none-passes : (a ≡ None) → t ≡ true
-  none-passes h = by t refl where
-    by : (r : Bool) → t ≡ r → r ≡ true
-    by true k = refl
-    by false k = let bad : None ≡ Spent = sym h ∙ e ∙ ap (λ r. cond r None Spent) k in cc
-
-  pub passes-none : t ≡ true → a ≡ None
-  passes-none h = e ∙ ap (λ r. cond r None Spent) h
-
-  pub spent-fails : (a ≡ Spent) → t ≡ false
-  spent-fails h = by t refl where
-    by : (r : Bool) → t ≡ r → r ≡ false
-    by false k = refl
-    by true k = let bad : Spent ≡ None = sym h ∙ e ∙ ap (λ r. cond r None Spent) k in cc
-
-  pub fails-spent : t ≡ false → a ≡ Spent
-  fails-spent h = e ∙ ap (λ r. cond r None Spent) h
+    -- so the answer is none where the rest suffices for them, and else the budget is spent
+    pub alike-tells : (a : Sought) → a ≡ cond (nat_le ((depth - (d + 1)) * (left - rest)) rest) None Spent
+        → IsSoughtOut rule depth budget b a
+    alike-tells a e = subst (IsSoughtOut rule depth budget b) (sym e) (by_test (nat_le ((depth - (d + 1)) * (left - rest)) rest) refl) where
+      by_test : (r : Bool) → nat_le ((depth - (d + 1)) * (left - rest)) rest ≡ r → IsSoughtOut rule depth budget b (cond r None Spent)
+      by_test true h = record { none = alike-none; no_win = no-win rule depth b alike-none; fits = alike-fits h }
+      by_test false h = alike-short h

@@ -1,5 +1,5 @@
 -- What the answers of the four search say.
-use Rattle.std.specs.Prelude.{◌≡◌, ℕ, ◌*◌, ◌<◌, ◌≤◌, List, Some, true, false}
+use Rattle.std.specs.Prelude.{◌≡◌, ℕ, ◌*◌, ◌<◌, ◌≤◌, Bool, List, Some, true, false}
 use Rattle.game_rules.specs.Grid.{Grid}
 use Rattle.game_rules.specs.Games.{WinsByFours, wins_by_fours}
 use Rattle.game_rules.specs.declared.RuleKind.{RuleKind}
@@ -37,12 +37,6 @@ pub record IsFourWin (rule : RuleKind) (limit : ℕ) (b : Grid) (t : List Node) 
   pub stands : StandsFor t win.node (four_plan rule win.moves b)
   pub short : arrivals rule t win.node b ≤ b.width * b.height * win.moves
 
--- P holds of the moves and the line, if they are a win
-abbrev pub OnSought : Sought → (ℕ → List Point → Type 0) → Type 0
-OnSought (SoughtWin moves line) P = P moves line
-OnSought SoughtNone P = Unit {0}
-OnSought SoughtSpent P = Unit {0}
-
 -- Within so many moves, up to the limit, and none fewer the side to move wins by continuous fours, and this is the line of the win; and
 -- the budget suffices.
 pub record IsSought (rule : RuleKind) (limit budget : ℕ) (b : Grid) (moves : ℕ) (line : List Point) : Type 0 where
@@ -52,6 +46,24 @@ pub record IsSought (rule : RuleKind) (limit budget : ℕ) (b : Grid) (moves : �
   pub no_fewer : (k : ℕ) → 1 ≤ k → k < moves → wins_by_fours rule k b ≡ false
   pub tells : line ≡ four_line rule moves b
   pub fits : four_cost rule limit b ≤ budget
+
+-- there is no win by fours within the limit, and the budget suffices to see this
+pub record IsWithoutFours (rule : RuleKind) (limit budget : ℕ) (b : Grid) : Type 0 where
+  pub none : wins_by_fours rule limit b ≡ false
+  pub no_win : ¬ WinsByFours rule limit b
+  pub fits : four_cost rule limit b ≤ budget
+
+-- what the depths come to at b: a win and its line, no win, or that there are more positions to look at than the budget
+abbrev pub IsSoughtOut : RuleKind → ℕ → ℕ → Grid → Sought → Type 0
+IsSoughtOut rule limit budget b (SoughtWin moves line) = IsSought rule limit budget b moves line
+IsSoughtOut rule limit budget b SoughtNone = IsWithoutFours rule limit budget b
+IsSoughtOut rule limit budget b SoughtSpent = budget < four_cost rule limit b
+
+-- whether they come to a win
+abbrev pub is_win : Sought → Bool
+is_win (SoughtWin moves line) = true
+is_win SoughtNone = false
+is_win SoughtSpent = false
 
 -- the most nodes that the search adds with this answer: two for each move of a win, and else none
 abbrev pub most_added : FourAnswer → ℕ

@@ -5,4 +5,5 @@ pub mod Roots
 pub mod Remembering
 pub mod Plans
 pub mod Answers
+pub mod FewestWins
 pub mod Gaps

@@ -12,7 +12,7 @@ ghost use Rattle.strategy_graph.specs.declared.TheConstants.{MAX_NODES};
 ghost use Rattle.four_search.specs.declared.TheConstants.{MAX_DEPTH};
 ghost use Rattle.four_search.specs.FourGame.{four_cost};
 ghost use Rattle.strategy_compiler.specs.Growth.{GrowsBy};
-ghost use Rattle.four_search.specs.Answers.{OnWin, IsFourWin, OnSought, IsSought, most_added};
+ghost use Rattle.four_search.specs.Answers.{OnWin, IsFourWin, IsSoughtOut, is_win as is_win_lem, most_added};
 
 use crate::SearchError;
 use crate::memory::FourMemory;
@@ -136,22 +136,44 @@ pub fn finds_fours<R: Rule, V: Seen<R>>(
         ↔ ((wins_by_fours R.KIND depth (V.position view.old) ≡ true) × (four_cost R.KIND depth (V.position view.old) ≤ budget))) }
     ensures same { V.position view.new ≡ V.position view.old }
 {
-    let mut memory = FourMemory::new(alloc);
-    match seek::<R, V>(alloc, view, depth, budget, &mut memory)? {
-        Sought::Win { moves: _, line: _ } => Ok(true),
-        Sought::None | Sought::Spent => Ok(false),
-    }
+    let sought = seek_anew::<R, V>(alloc, view, depth, budget)?;
+    Ok(is_win(&sought))
 }
 
 /// What the depths come to.
 #[derive(Drop)]
-enum Sought {
+pub(crate) enum Sought {
     /// A win within so many moves and none with fewer, by this line.
     Win { moves: u32, line: Points },
     /// There is no win within the depth.
     None,
     /// There are more positions to look at than the budget.
     Spent,
+}
+
+/// Whether there is a win.
+fn is_win(sought: &Sought) -> bool
+    ensures win { result ≡ is_win_lem sought.now }
+{
+    matches!(sought, Sought::Win { moves: _, line: _ })
+}
+
+/// Searches depth after depth, up to the first win, with a memory of its own. The view is as before, also where memory ran out.
+pub(crate) fn seek_anew<R: Rule, V: Seen<R>>(
+    alloc: Global,
+    view: &mut V,
+    depth: u32,
+    budget: u64,
+) -> Result<Sought, AllocError>
+    requires some_depth { 1 ≤ depth }
+    requires depth_fits { depth ≤ MAX_DEPTH }
+    requires some_budget { 1 ≤ budget }
+    ensures sought { IfOk result (IsSoughtOut R.KIND depth budget (V.position view.old)) }
+    ensures lawful { IsPosition R.KIND (V.position view.old) }
+    ensures same { V.position view.new ≡ V.position view.old }
+{
+    let mut memory = FourMemory::new(alloc);
+    seek::<R, V>(alloc, view, depth, budget, &mut memory)
 }
 
 /// Searches depth after depth, up to the first win. The view is as before, also where memory ran out.
@@ -165,13 +187,7 @@ fn seek<R: Rule, V: Seen<R>>(
     requires some_depth { 1 ≤ depth }
     requires depth_fits { depth ≤ MAX_DEPTH }
     requires some_budget { 1 ≤ budget }
-    ensures win { IfOk result (λ s. OnSought s (IsSought R.KIND depth budget (V.position view.old))) }
-    ensures none { IfOk result (λ s. (s ≡ Sought.None)
-        ↔ ((wins_by_fours R.KIND depth (V.position view.old) ≡ false) × (four_cost R.KIND depth (V.position view.old) ≤ budget))) }
-    ensures no_win { IfOk result
-        (λ s. s ≡ Sought.None → ¬ WinsByFours R.KIND depth (V.position view.old)) }
-    ensures spent { IfOk result
-        (λ s. (s ≡ Sought.Spent) ↔ (budget < four_cost R.KIND depth (V.position view.old))) }
+    ensures sought { IfOk result (IsSoughtOut R.KIND depth budget (V.position view.old)) }
     ensures lawful { IsPosition R.KIND (V.position view.old) }
     ensures same { V.position view.new ≡ V.position view.old }
 {

@@ -6,6 +6,7 @@
 #![tactic(auto)]
 
 mod answer;
+mod fewest;
 mod four_points;
 mod gaps;
 mod memory;
@@ -14,6 +15,7 @@ mod root;
 mod search;
 
 pub use answer::{FourAnswer, finds_fours, four_search, four_search_with};
+pub use fewest::{FewestWin, FourTable, fewest_win};
 pub use memory::FourMemory;
 pub use strategy_compiler::SearchError;
 

@@ -1,9 +1,9 @@
-use Rattle.std.proofs.Common.{rules, ◌≡◌, ◌*◌, ◌≤◌, ◌<◌, true, false, Bool, cond, ap, sym, subst, ◌∙◌, arith, refl}
+use Rattle.std.proofs.Common.{rules, ◌≡◌, ◌*◌, true, false, Bool, cond, ap, sym, subst, ◌∙◌, arith, refl}
 use Rattle.std.proofs.Common.{Result, Ok, Err, OnErr}
 use Rattle.game_rules.proofs.Common.{Grid, wins_by_fours}
 use Rattle.strategy_compiler.proofs.Common.{GrowsBy, StandsFor}
 use Rattle.strategy_compiler.proofs.Growing.{grows-more}
-use Rattle.four_search.specs.Answers.{IsSought, OnSought}
+use Rattle.four_search.specs.Answers.{IsSought, IsSoughtOut, IsWithoutFours}
 use Rattle.four_search.specs.Plans.{four_plan}
 use Rattle.four_search.specs.Searching.{four_line}
 use Rattle.four_search.proofs.Written.{sought-win, sought-limit}
@@ -13,7 +13,7 @@ pub compile-requires : goal.compile-requires
 compile-requires g c =
     let b : Grid = g.V.Seen.position c.args.view.now in
     let is : IsSought g.R.Rule.KIND c.args.depth c.args.budget b c.in-Ok-Win.moves c.in-Ok-Win.line =
-    subst (λ s. OnSought s (IsSought g.R.Rule.KIND c.args.depth c.args.budget b)) c.in-Ok-Win.field-0-is c.in-Ok-Win.ensures.win in
+    subst (IsSoughtOut g.R.Rule.KIND c.args.depth c.args.budget b) c.in-Ok-Win.field-0-is c.in-Ok-Win.ensures.sought in
     record {
       wins = ap (λ (w : Grid). wins_by_fours g.R.Rule.KIND c.in-Ok-Win.moves w) c.seek.ensures.same ∙ is.wins;
       line = c.as_slice.ensures.items ∙ is.tells ∙ ap (λ (w : Grid). four_line g.R.Rule.KIND c.in-Ok-Win.moves w) (sym c.seek.ensures.same);
@@ -23,7 +23,7 @@ pub returns-in_err-node-in-Ok-Win-clause-full : goal.returns-in_err-node-in-Ok-W
 returns-in_err-node-in-Ok-Win-clause-full g c =
     let b : Grid = g.V.Seen.position c.args.view.now in
     let is : IsSought g.R.Rule.KIND c.args.depth c.args.budget b c.in-Ok-Win.moves c.in-Ok-Win.line =
-    subst (λ s. OnSought s (IsSought g.R.Rule.KIND c.args.depth c.args.budget b)) c.in-Ok-Win.field-0-is c.in-Ok-Win.ensures.win in
+    subst (IsSoughtOut g.R.Rule.KIND c.args.depth c.args.budget b) c.in-Ok-Win.field-0-is c.in-Ok-Win.ensures.sought in
     let wins = sought-limit g.R.Rule.KIND b c.args.depth c.args.budget c.in-Ok-Win.moves c.in-Ok-Win.line is in
     let fits = is.fits in
     let within = is.within in
@@ -38,7 +38,7 @@ pub returns-in_err-node-in-Ok-Win-clause-kept : goal.returns-in_err-node-in-Ok-W
 returns-in_err-node-in-Ok-Win-clause-kept g c =
     let b : Grid = g.V.Seen.position c.args.view.now in
     let is : IsSought g.R.Rule.KIND c.args.depth c.args.budget b c.in-Ok-Win.moves c.in-Ok-Win.line =
-    subst (λ s. OnSought s (IsSought g.R.Rule.KIND c.args.depth c.args.budget b)) c.in-Ok-Win.field-0-is c.in-Ok-Win.ensures.win in
+    subst (IsSoughtOut g.R.Rule.KIND c.args.depth c.args.budget b) c.in-Ok-Win.field-0-is c.in-Ok-Win.ensures.sought in
     let wins = sought-limit g.R.Rule.KIND b c.args.depth c.args.budget c.in-Ok-Win.moves c.in-Ok-Win.line is in
     let within = is.within in
     let grown = grows-more c.args.compiler.now c.compile.new.compiler _ (2 * c.args.depth) c.in_err-node-in-Ok-Win.ensures.writes.grows
@@ -50,7 +50,7 @@ pub returns-in_ok-node-in-Ok-Win-clause-win : goal.returns-in_ok-node-in-Ok-Win-
 returns-in_ok-node-in-Ok-Win-clause-win g c =
     let b : Grid = g.V.Seen.position c.args.view.now in
     let is : IsSought g.R.Rule.KIND c.args.depth c.args.budget b c.in-Ok-Win.moves c.in-Ok-Win.line =
-    subst (λ s. OnSought s (IsSought g.R.Rule.KIND c.args.depth c.args.budget b)) c.in-Ok-Win.field-0-is c.in-Ok-Win.ensures.win in
+    subst (IsSoughtOut g.R.Rule.KIND c.args.depth c.args.budget b) c.in-Ok-Win.field-0-is c.in-Ok-Win.ensures.sought in
     let stands : StandsFor c.compile.new.compiler c.in_ok-node-in-Ok-Win.node (four_plan g.R.Rule.KIND c.in-Ok-Win.moves b) =
     subst (λ (w : Grid). StandsFor c.compile.new.compiler c.in_ok-node-in-Ok-Win.node (four_plan g.R.Rule.KIND c.in-Ok-Win.moves w))
     c.seek.ensures.same c.in_ok-node-in-Ok-Win.ensures.stands in
@@ -62,7 +62,7 @@ pub returns-in_ok-node-in-Ok-Win-clause-none : goal.returns-in_ok-node-in-Ok-Win
 returns-in_ok-node-in-Ok-Win-clause-none g c =
     let b : Grid = g.V.Seen.position c.args.view.now in
     let is : IsSought g.R.Rule.KIND c.args.depth c.args.budget b c.in-Ok-Win.moves c.in-Ok-Win.line =
-    subst (λ s. OnSought s (IsSought g.R.Rule.KIND c.args.depth c.args.budget b)) c.in-Ok-Win.field-0-is c.in-Ok-Win.ensures.win in
+    subst (IsSoughtOut g.R.Rule.KIND c.args.depth c.args.budget b) c.in-Ok-Win.field-0-is c.in-Ok-Win.ensures.sought in
     let wins = sought-limit g.R.Rule.KIND b c.args.depth c.args.budget c.in-Ok-Win.moves c.in-Ok-Win.line is in
     (λ e. absurd (cc), λ h. absurd (let lost : true ≡ false = sym wins ∙ h.0 in cc))
 
@@ -70,26 +70,40 @@ pub returns-in_ok-node-in-Ok-Win-clause-spent : goal.returns-in_ok-node-in-Ok-Wi
 returns-in_ok-node-in-Ok-Win-clause-spent g c =
     let b : Grid = g.V.Seen.position c.args.view.now in
     let is : IsSought g.R.Rule.KIND c.args.depth c.args.budget b c.in-Ok-Win.moves c.in-Ok-Win.line =
-    subst (λ s. OnSought s (IsSought g.R.Rule.KIND c.args.depth c.args.budget b)) c.in-Ok-Win.field-0-is c.in-Ok-Win.ensures.win in
+    subst (IsSoughtOut g.R.Rule.KIND c.args.depth c.args.budget b) c.in-Ok-Win.field-0-is c.in-Ok-Win.ensures.sought in
     let fits = is.fits in
     (λ e. absurd (cc), λ h. absurd (omega (arith, fits, h)))
 
 pub returns-in-Ok-None-clause-none : goal.returns-in-Ok-None-clause-none
-returns-in-Ok-None-clause-none g c = (λ e. c.in-Ok-None.ensures.none.0 c.in-Ok-None.field-0-is, λ h. refl)
+returns-in-Ok-None-clause-none g c =
+    let none : IsWithoutFours g.R.Rule.KIND c.args.depth c.args.budget (g.V.Seen.position c.args.view.now) =
+    subst (IsSoughtOut g.R.Rule.KIND c.args.depth c.args.budget (g.V.Seen.position c.args.view.now)) c.in-Ok-None.field-0-is
+    c.in-Ok-None.ensures.sought in
+    (λ e. (none.none, none.fits), λ h. refl)
 
 pub returns-in-Ok-None-clause-no_win : goal.returns-in-Ok-None-clause-no_win
-returns-in-Ok-None-clause-no_win g c = λ e. c.in-Ok-None.ensures.no_win c.in-Ok-None.field-0-is
+returns-in-Ok-None-clause-no_win g c =
+    let none : IsWithoutFours g.R.Rule.KIND c.args.depth c.args.budget (g.V.Seen.position c.args.view.now) =
+    subst (IsSoughtOut g.R.Rule.KIND c.args.depth c.args.budget (g.V.Seen.position c.args.view.now)) c.in-Ok-None.field-0-is
+    c.in-Ok-None.ensures.sought in
+    λ e. none.no_win
 
 pub returns-in-Ok-None-clause-spent : goal.returns-in-Ok-None-clause-spent
 returns-in-Ok-None-clause-spent g c =
-    let none = c.in-Ok-None.ensures.none.0 c.in-Ok-None.field-0-is in
-    let fits = none.1 in
+    let none : IsWithoutFours g.R.Rule.KIND c.args.depth c.args.budget (g.V.Seen.position c.args.view.now) =
+    subst (IsSoughtOut g.R.Rule.KIND c.args.depth c.args.budget (g.V.Seen.position c.args.view.now)) c.in-Ok-None.field-0-is
+    c.in-Ok-None.ensures.sought in
+    let fits = none.fits in
     (λ e. absurd (cc), λ h. absurd (omega (arith, fits, h)))
 
 pub returns-in-Ok-Spent-clause-none : goal.returns-in-Ok-Spent-clause-none
 returns-in-Ok-Spent-clause-none g c =
-    let above = c.in-Ok-Spent.ensures.spent.0 c.in-Ok-Spent.field-0-is in
+    let above = subst (IsSoughtOut g.R.Rule.KIND c.args.depth c.args.budget (g.V.Seen.position c.args.view.now)) c.in-Ok-Spent.field-0-is
+    c.in-Ok-Spent.ensures.sought in
     (λ e. absurd (cc), λ h. absurd (let low = h.1 in omega (arith, above, low)))
 
 pub returns-in-Ok-Spent-clause-spent : goal.returns-in-Ok-Spent-clause-spent
-returns-in-Ok-Spent-clause-spent g c = (λ e. c.in-Ok-Spent.ensures.spent.0 c.in-Ok-Spent.field-0-is, λ h. refl)
+returns-in-Ok-Spent-clause-spent g c =
+    let above = subst (IsSoughtOut g.R.Rule.KIND c.args.depth c.args.budget (g.V.Seen.position c.args.view.now)) c.in-Ok-Spent.field-0-is
+    c.in-Ok-Spent.ensures.sought in
+    (λ e. above, λ h. refl)
