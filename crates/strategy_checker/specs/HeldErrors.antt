@@ -1,9 +1,9 @@
--- Why a root is not held.
+-- Why a root is not accepted, or not held.
 use Rattle.std.specs.Prelude.{List}
 use Rattle.game_rules.specs.declared.Point.{Point}
 use Rattle.strategy_graph.specs.declared.Why.{Why}
-use Rattle.strategy_checker.specs.declared.held.HeldError.{HeldError}
-use Rattle.strategy_checker.specs.declared.held.HeldError.TheVariants.{Refused, Spent, Memory}
+use Rattle.strategy_checker.specs.declared.error.HeldError.{HeldError}
+use Rattle.strategy_checker.specs.declared.error.HeldError.TheVariants.{Refused, Spent, Memory}
 
 -- P holds of the line and the fault, if the root is refused
 abbrev pub IfRootRefused : (List Point → Why → Type 0) → HeldError → Type 0

@@ -3,8 +3,8 @@ use Rattle.std.specs.Prelude.{◌≡◌, ◌↔◌, ℕ, ◌<◌, ◌≤◌, Lis
 use Rattle.game_rules.specs.declared.Point.{Point}
 use Rattle.strategy_graph.specs.declared.Why.{Why}
 use Rattle.strategy_checker.specs.declared.Verdict.{Verdict}
-use Rattle.strategy_checker.specs.declared.walk.Stop.{Stop}
-use Rattle.strategy_checker.specs.declared.walk.Stop.TheVariants.{Fault, Spent as StopSpent, Memory}
+use Rattle.strategy_checker.specs.declared.error.HeldError.{HeldError}
+use Rattle.strategy_checker.specs.declared.error.HeldError.TheVariants.{Refused as RefusedRoot, Spent as SpentRoot, Memory}
 use Rattle.strategy_checker.specs.declared.Verdict.TheVariants.{Accepted, Refused, Spent}
 
 -- P holds of the moves and the arrivals, if the verdict accepts
@@ -51,13 +51,9 @@ pub record SpendsRightly (accepted : Type 0) (arrivals work : ℕ) (v : Verdict)
   pub only_then : Spends v → work < arrivals
   pub always_then : accepted → work < arrivals → Spends v
 
--- the verdict on a walk that stopped, where line leads to the fault: none for want of memory
-abbrev pub IsRefusal : Stop → List Point → Verdict → Type 0
-IsRefusal (Fault why) line v = v ≡ Refused line why
-IsRefusal StopSpent line v = v ≡ Spent
-IsRefusal Memory line v = ⊥
-
--- the verdict on a walk: it accepts, with so many moves and arrivals, or the walk stopped, and it is that of the stop
-abbrev pub IsVerdictOn : Result (Unit {0}) Stop → ℕ → ℕ → List Point → Verdict → Type 0
-IsVerdictOn (Ok done) moves arrivals line v = v ≡ Accepted moves arrivals
-IsVerdictOn (Err stop) moves arrivals line v = IsRefusal stop line v
+-- the verdict on a root of this depth, by what a check of it answers: none for want of memory
+abbrev pub IsVerdictOf : ℕ → Result ℕ HeldError → Verdict → Type 0
+IsVerdictOf moves (Ok n) v = v ≡ Accepted moves n
+IsVerdictOf moves (Err (RefusedRoot line why)) v = v ≡ Refused line why
+IsVerdictOf moves (Err SpentRoot) v = v ≡ Spent
+IsVerdictOf moves (Err Memory) v = ⊥

@@ -7,6 +7,7 @@
 #![tactic(auto)]
 
 mod checks;
+mod error;
 mod held;
 mod meeting;
 mod others;
@@ -14,7 +15,8 @@ mod outlook;
 mod walk;
 
 pub use checks::{check, check_root, check_start};
-pub use held::{Held, HeldError, HeldRoot};
+pub use error::HeldError;
+pub use held::{Held, HeldRoot};
 use stone_board::Points;
 pub use strategy_graph::Why;
 

@@ -10,8 +10,8 @@ use Rattle.strategy_graph.specs.Roots.{AcceptedRoot, LeadsRoot}
 use Rattle.strategy_graph.specs.declared.Node.{Node}
 use Rattle.strategy_checker.specs.HeldRoots.{HeldTable}
 use Rattle.strategy_checker.specs.HeldErrors.{IfRootRefused, IfRootSpent}
-use Rattle.strategy_checker.specs.declared.held.HeldError.{HeldError}
-use Rattle.strategy_checker.specs.declared.held.HeldError.TheVariants.{Refused as RefusedRoot, Spent as SpentRoot, Memory as NoRoom}
+use Rattle.strategy_checker.specs.declared.error.HeldError.{HeldError}
+use Rattle.strategy_checker.specs.declared.error.HeldError.TheVariants.{Refused as RefusedRoot, Spent as SpentRoot, Memory as NoRoom}
 use Rattle.strategy_checker.specs.declared.held.HeldRoot.{HeldRoot}
 use Rattle.table_book.specs.declared.Entry.{Entry}
 use Rattle.table_book.specs.declared.TheConstants.{MAX_BOOK_WORK}

@@ -4,8 +4,8 @@ use Rattle.game_rules.specs.declared.Point.{Point}
 use Rattle.strategy_graph.specs.Roots.{AcceptedRoot, LeadsRoot, root_arrivals}
 use Rattle.strategy_graph.specs.declared.Node.{Node}
 use Rattle.strategy_graph.specs.declared.Why.{Why}
-use Rattle.strategy_checker.specs.declared.held.HeldError.{HeldError}
-use Rattle.strategy_checker.specs.declared.held.HeldError.TheVariants.{Refused as RefusedRoot, Spent as SpentRoot, Memory as NoRoom}
+use Rattle.strategy_checker.specs.declared.error.HeldError.{HeldError}
+use Rattle.strategy_checker.specs.declared.error.HeldError.TheVariants.{Refused as RefusedRoot, Spent as SpentRoot, Memory as NoRoom}
 use Rattle.strategy_checker.specs.declared.held.HeldRoot.{HeldRoot}
 use Rattle.table_book.specs.declared.Entry.{Entry}
 use Rattle.table_book.specs.declared.error.HoldError.{HoldError}

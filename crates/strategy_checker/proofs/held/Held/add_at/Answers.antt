@@ -1,28 +1,25 @@
 use Rattle.std.proofs.Common.{◌≡◌, ◌<◌, true, not, List, length, sym, ap, subst, ◌∙◌}
 use Rattle.std.specs.Prelude.{is_ok}
-use Rattle.game_rules.specs.Play.{IsPosition}
 use Rattle.strategy_graph.specs.declared.Node.{Node}
-use Rattle.strategy_graph.specs.Roots.{root_below, AcceptedRoot}
+use Rattle.strategy_graph.specs.Roots.{root_below}
 use Rattle.strategy_checker.specs.declared.TheConstants.{MAX_ROOTS}
 use Rattle.strategy_checker.specs.declared.held.HeldRoot.{HeldRoot}
 use Rattle.strategy_checker.specs.HeldRoots.{HeldTable, IsHeldRoot}
 use Rattle.strategy_checker.proofs.Holding.{IsHeld-push}
-use Rattle.strategy_checker.proofs.held.Held.add.Goals as goal
+use Rattle.strategy_checker.proofs.held.Held.add_at.Goals as goal
 
 pub invariant_of-self-2 : goal.invariant_of-self-2
-invariant_of-self-2 g c =
+invariant_of-self-2 c =
     let t : List Node = c.self.inside.table in
-    let r : HeldRoot = record { root = c.args.root; kind = g.R.Rule.KIND; board = c.into_board.result } in
+    let r : HeldRoot = record { root = c.args.root; kind = c.args.kind; board = c.args.board } in
     let added : is_ok c.push.result ≡ true = c.is_err.ensures.negation ∙ ap not c.if-is_err.false in
     let table : t ≡ c.args.self.now.table = ap (λ (h : HeldTable). h.table) c.self.view_is in
     let roots : c.self.inside.roots.items ≡ c.args.self.now.roots = ap (λ (h : HeldTable). h.roots) c.self.view_is in
     let room : length c.self.inside.roots.items < MAX_ROOTS =
     subst (λ (rs : List HeldRoot). length rs < MAX_ROOTS) (sym roots) c.requires.room in
-    let here : c.into_board.result ≡ c.checked_moves.new.position = c.into_board.ensures.board in
     let this : IsHeldRoot t r = record {
-      lawful = subst (IsPosition g.R.Rule.KIND) (sym here) c.into_board.ensures.lawful;
+      lawful = c.requires.lawful;
       below = ap (λ (w : List Node). root_below c.args.root (length w)) table ∙ c.requires.below;
-      accepted = subst (AcceptedRoot g.R.Rule.KIND t c.args.root) (sym (here ∙ c.checked_moves.ensures.same))
-          c.in_ok-moves.ensures.accepted;
+      accepted = c.in_ok-check_root.ensures.accepted;
     } in
-    rw (c.push.ensures.items, added, c.KIND.ensures) (IsHeld-push t c.self.inside.roots.items r c.self.invariant room this)
+    rw (c.push.ensures.items, added) (IsHeld-push t c.self.inside.roots.items r c.self.invariant room this)
