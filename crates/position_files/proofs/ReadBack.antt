@@ -1,5 +1,5 @@
 -- A text is that of one value, and nothing is said against the text of a lawful one.
-use Rattle.std.proofs.Common.{◌≡◌, refl, sym, ◌∙◌, ℕ, List, [], ◌∷◌, ◌++◌, drop, map, subst, ap, length, Some, None}
+use Rattle.std.proofs.Common.{◌≡◌, refl, sym, ◌∙◌, ℕ, List, [], ◌∷◌, ◌++◌, map, subst, ap, length, Some, None}
 use Rattle.std.proofs.lemmas.List.{length-map}
 use Rattle.text_lines.proofs.Badness.{front_bad}
 use Rattle.position_files.proofs.BoardLines.{board-free, board-length}
@@ -19,9 +19,9 @@ use Rattle.position_files.specs.declared.error.FileError.TheVariants.{BadLine, U
 use Rattle.position_files.specs.Faults.{IsGameFault}
 use Rattle.position_files.specs.ReadBack.{GamesReadBack}
 use Rattle.text_lines.specs.Lines.{text_of, BeginsWith, FirstBad}
-use Rattle.text_lines.proofs.TextLaws.{AreFree, front_parts, text_of-cons}
+use Rattle.text_lines.proofs.TextLaws.{AreFree, text_of-cons}
 use Rattle.text_lines.proofs.Leaving.{not_left}
-use Rattle.position_files.proofs.SectionLaws.{one_head, one_list, one_start, start_parts, node_lines-free}
+use Rattle.position_files.proofs.SectionLaws.{one_head, one_list, one_start, start_text, node_lines-free}
 use Rattle.position_files.proofs.PositionBad.{one_position}
 use Rattle.position_files.proofs.TableTexts.{one_table}
 use Rattle.position_files.specs.declared.GameFile.{GameFile}
@@ -90,27 +90,24 @@ section-fault IsLines ls bytes rest are e NoRoom h = refl
 
 -- bytes that begin with a head are read as that head
 pub head-read-back : HeadsReadBack
-head-read-back head bytes is = record {
-  no_other = λ other there. one_head head other bytes is there;
-  no_fault = section-fault IsBoardLines (board_lines head.kind head.board) bytes (drop head.taken bytes)
-      (head.kind, head.board, is.board, refl) (front_parts (text_of (board_lines head.kind head.board)) bytes head.taken is.front);
+head-read-back head rest bytes is = record {
+  no_other = λ other more there. one_head head other rest more bytes is there;
+  no_fault = section-fault IsBoardLines (board_lines head.kind head.board) bytes rest (head.kind, head.board, is.board, refl) is.text;
 }
 
 -- bytes that begin with the lines of so many nodes are read as these nodes
 pub nodes-read-back : NodesReadBack
-nodes-read-back width height count found bytes wide high is = record {
-  no_other = λ other there. one_list width height wide high count found other bytes is there;
-  no_fault = section-fault (AreNodeLines width height count) (map node_line found.table) bytes (drop found.taken bytes)
-      (found.table, is.nodes, refl) (front_parts (text_of (map node_line found.table)) bytes found.taken is.front);
+nodes-read-back width height count found rest bytes wide high is = record {
+  no_other = λ other more there. one_list width height wide high count found other rest more bytes is there;
+  no_fault = section-fault (AreNodeLines width height count) (map node_line found) bytes rest (found, is.nodes, refl) is.text;
 }
 
 -- bytes that begin with the line of a start are read as that start
 pub start-read-back : StartsReadBack
-start-read-back width height below found bytes wide high is = record {
-  no_other = λ other there. one_start width height wide high below found other bytes is there;
-  no_fault = section-fault (IsStartLines width height below) (start_line found.start ∷ []) bytes (drop found.taken bytes)
-      (found.start, is.start, refl)
-      (start_parts width height below found bytes is ∙ text_of-cons (start_line found.start) [] (drop found.taken bytes));
+start-read-back width height below found rest bytes wide high is = record {
+  no_other = λ other more there. one_start width height wide high below found other rest more bytes is there;
+  no_fault = section-fault (IsStartLines width height below) (start_line found ∷ []) bytes rest (found, is.start, refl)
+      (start_text found bytes rest is.text ∙ text_of-cons (start_line found) [] rest);
 }
 
 -- ---- the first bad line of a section

@@ -11,7 +11,7 @@ use Rattle.game_rules.specs.declared.RuleKind.{RuleKind}
 use Rattle.game_rules.proofs.Common.{Grid}
 use Rattle.text_lines.specs.declared.fault.Fault.{Fault}
 use Rattle.text_lines.specs.declared.fault.Fault.TheVariants.{Bad, Memory}
-use Rattle.text_lines.proofs.TextLaws.{text_of-cons, AreFree, free_take, same_lines, text_of-push, front_parts, front_length}
+use Rattle.text_lines.proofs.TextLaws.{text_of-cons, AreFree, free_take, same_lines, text_of-push}
 use Rattle.text_lines.proofs.Common.{line_feed, ended, text_of, LeavesAt, Gives, is_free, GivesLine}
 use Rattle.text_lines.proofs.LineLaws.{same_line}
 use Rattle.text_lines.proofs.FaultLaws.{gives_bad}
@@ -25,8 +25,6 @@ use Rattle.strategy_graph.specs.declared.Rest.TheVariants.{Nothing}
 use Rattle.strategy_graph.proofs.Common.{TableOnBoard, RepliesOn, IsNode, IsTable, Answers}
 use Rattle.strategy_graph.proofs.Filling.{corner, filled_table, filled_length, node_at}
 use Rattle.position_files.specs.declared.sections.Head.{Head}
-use Rattle.position_files.specs.declared.sections.Nodes.{Nodes}
-use Rattle.position_files.specs.declared.sections.StartLine.{StartLine}
 use Rattle.position_files.proofs.Common.{board_lines, node_line, nodes_lines, NodeFits, ReplyFits, at_line, after_lines, IsSide, AreNodes}
 use Rattle.position_files.proofs.Common.{AreNodeLines, IsSectionFault, StartFits, answers_text, start_line, IsHeadOf, IsNodesOf}
 use Rattle.position_files.proofs.Common.{IsStartLines, IsStartOf}
@@ -195,61 +193,48 @@ nodes_fault width height count nodes j bytes rest Bad wide high read table fewer
 )
 nodes_fault width height count nodes j bytes rest Memory wide high read table fewer few none = tt
 
--- bytes begin with one head
-pub one_head : (head other : Head) (bytes : List ℕ) → IsHeadOf head bytes → IsHeadOf other bytes → other ≡ head
-one_head head other bytes h k =
-    let here = front_parts (text_of (board_lines head.kind head.board)) bytes head.taken h.front in
-    let there = front_parts (text_of (board_lines other.kind other.board)) bytes other.taken k.front in
+-- the line of the start, and what comes after it
+pub start_text : (a : Answers) (bytes rest : List ℕ) → bytes ≡ ended (start_line a) ++ rest → bytes ≡ start_line a ++ line_feed ∷ rest
+start_text a bytes rest e = e ∙ append_assoc (start_line a) (line_feed ∷ []) rest
+
+-- bytes begin with one head, before one rest
+pub one_head : (head other : Head) (rest more bytes : List ℕ) → IsHeadOf head rest bytes → IsHeadOf other more bytes
+    → (other ≡ head) × (more ≡ rest)
+one_head head other rest more bytes h k =
     let count : length (board_lines other.kind other.board) ≡ length (board_lines head.kind head.board) =
     board-length other.kind other.board ∙ sym (board-length head.kind head.board) in
-    let same = same_lines (board_lines other.kind other.board) (board_lines head.kind head.board) (drop other.taken bytes)
-    (drop head.taken bytes) (board-free other.kind other.board k.board) (board-free head.kind head.board h.board) count
-    (sym there ∙ here) in
+    let same = same_lines (board_lines other.kind other.board) (board_lines head.kind head.board) more rest
+    (board-free other.kind other.board k.board) (board-free head.kind head.board h.board) count (sym k.text ∙ h.text) in
     let boards = board_lines-injective other.kind head.kind other.board head.board k.board h.board same.0 in
     let kind = boards.0 in
     let board = boards.1 in
-    let taken : other.taken ≡ head.taken =
-    front_length (text_of (board_lines other.kind other.board)) bytes other.taken k.front
-    ∙ ap (λ (l : List (List ℕ)). length (text_of l)) same.0
-    ∙ sym (front_length (text_of (board_lines head.kind head.board)) bytes head.taken h.front) in
-    λ i. record { kind = kind i; board = board i; taken = taken i }
+    let head_is : other ≡ head = λ i. record { kind = kind i; board = board i } in
+    (head_is, same.1)
 
 module _ (width height : ℕ) (wide : IsSide width) (high : IsSide height) where
   -- bytes begin with one list of so many nodes
-  pub one_list : (count : ℕ) (found other : Nodes) (bytes : List ℕ) → IsNodesOf width height count found bytes
-      → IsNodesOf width height count other bytes → other ≡ found
-  one_list count found other bytes h k =
-      let here = front_parts (text_of (map node_line found.table)) bytes found.taken h.front in
-      let there = front_parts (text_of (map node_line other.table)) bytes other.taken k.front in
-      let lengths : length (map node_line other.table) ≡ length (map node_line found.table) =
-      length-map other.table node_line ∙ k.nodes.counted ∙ sym (length-map found.table node_line ∙ h.nodes.counted) in
-      let same = same_lines (map node_line other.table) (map node_line found.table) (drop other.taken bytes) (drop found.taken bytes)
-      (node_lines-free width height wide high other.table k.nodes.fit) (node_lines-free width height wide high found.table h.nodes.fit)
-      lengths (sym there ∙ here) in
-      let table = nodes_injective width height wide high other.table found.table k.nodes.fit h.nodes.fit same.0 in
-      let taken : other.taken ≡ found.taken =
-      front_length (text_of (map node_line other.table)) bytes other.taken k.front ∙ ap (λ (l : List (List ℕ)). length (text_of l)) same.0
-      ∙ sym (front_length (text_of (map node_line found.table)) bytes found.taken h.front) in
-      λ i. record { table = table i; taken = taken i }
+  pub one_list : (count : ℕ) (found other : List Node) (rest more bytes : List ℕ) → IsNodesOf width height count found rest bytes
+      → IsNodesOf width height count other more bytes → (other ≡ found) × (more ≡ rest)
+  one_list count found other rest more bytes h k =
+      let lengths : length (map node_line other) ≡ length (map node_line found) =
+      length-map other node_line ∙ k.nodes.counted ∙ sym (length-map found node_line ∙ h.nodes.counted) in
+      let same = same_lines (map node_line other) (map node_line found) more rest
+      (node_lines-free width height wide high other k.nodes.fit) (node_lines-free width height wide high found h.nodes.fit) lengths
+      (sym k.text ∙ h.text) in
+      (nodes_injective width height wide high other found k.nodes.fit h.nodes.fit same.0, same.1)
 
   -- bytes begin with the line of one start
-  pub one_start : (below : ℕ) (found other : StartLine) (bytes : List ℕ) → IsStartOf width height below found bytes
-      → IsStartOf width height below other bytes → other ≡ found
-  one_start below found other bytes h k =
-      let here = front_parts (ended (start_line found.start)) bytes found.taken h.front
-      ∙ append_assoc (start_line found.start) (line_feed ∷ []) (drop found.taken bytes) in
-      let there = front_parts (ended (start_line other.start)) bytes other.taken k.front
-      ∙ append_assoc (start_line other.start) (line_feed ∷ []) (drop other.taken bytes) in
-      let same = same_line (start_line other.start) (drop other.taken bytes) (start_line found.start) (drop found.taken bytes)
-      (start_line-free width height wide high below other.start k.start) (start_line-free width height wide high below found.start h.start)
+  pub one_start : (below : ℕ) (found other : Answers) (rest more bytes : List ℕ) → IsStartOf width height below found rest bytes
+      → IsStartOf width height below other more bytes → (other ≡ found) × (more ≡ rest)
+  one_start below found other rest more bytes h k =
+      let here = start_text found bytes rest h.text in
+      let there = start_text other bytes more k.text in
+      let same = same_line (start_line other) more (start_line found) rest
+      (start_line-free width height wide high below other k.start) (start_line-free width height wide high below found h.start)
       (sym there ∙ here) in
-      let text : answers_text other.start ≡ answers_text found.start =
-      append_cancel_left (codes "start ") (answers_text other.start) (answers_text found.start) same.0 in
-      let start = answers_text-injective width height wide high other.start found.start k.start.answers h.start.answers text in
-      let taken : other.taken ≡ found.taken =
-      front_length (ended (start_line other.start)) bytes other.taken k.front ∙ ap (λ (l : List ℕ). length (ended l)) same.0
-      ∙ sym (front_length (ended (start_line found.start)) bytes found.taken h.front) in
-      λ i. record { start = start i; taken = taken i }
+      let text : answers_text other ≡ answers_text found =
+      append_cancel_left (codes "start ") (answers_text other) (answers_text found) same.0 in
+      (answers_text-injective width height wide high other found k.start.answers h.start.answers text, same.1)
 
 -- ---- the line of a start
 
@@ -272,16 +257,6 @@ pub start_left : (width height below : ℕ) (bytes : List ℕ) (fault : Fault)
 start_left width height below bytes Bad none =
     (0, refl, leaves_first (StartFits width height below) start_line bytes only_start (only_fits width height below) none)
 start_left width height below bytes Memory none = tt
-
--- the line of the start, and what comes after it
-pub start_text : (a : Answers) (bytes rest : List ℕ) → bytes ≡ ended (start_line a) ++ rest → bytes ≡ start_line a ++ line_feed ∷ rest
-start_text a bytes rest e = e ∙ append_assoc (start_line a) (line_feed ∷ []) rest
-
--- the start that is counted, and what comes after its line
-pub start_parts : (width height below : ℕ) (found : StartLine) (bytes : List ℕ) → IsStartOf width height below found bytes
-    → bytes ≡ start_line found.start ++ line_feed ∷ drop found.taken bytes
-start_parts width height below found bytes h = start_text found.start bytes (drop found.taken bytes)
-    (front_parts (ended (start_line found.start)) bytes found.taken h.front)
 
 -- ---- where bytes leave a section that is a part of another
 

@@ -2,12 +2,12 @@
 use Rattle.std.specs.Prelude.{◌≡◌, ℕ, List}
 use Rattle.game_rules.specs.Play.{IsPosition}
 use Rattle.strategy_graph.specs.Roots.{root_depth}
+use Rattle.strategy_graph.specs.Tables.{Answers}
+use Rattle.strategy_graph.specs.declared.Node.{Node}
 use Rattle.position_files.specs.declared.PositionFile.{PositionFile}
 use Rattle.position_files.specs.declared.TableFile.{TableFile}
 use Rattle.position_files.specs.declared.GameFile.{GameFile}
 use Rattle.position_files.specs.declared.sections.Head.{Head}
-use Rattle.position_files.specs.declared.sections.Nodes.{Nodes}
-use Rattle.position_files.specs.declared.sections.StartLine.{StartLine}
 use Rattle.position_files.specs.declared.error.HeadError.{HeadError}
 use Rattle.position_files.specs.declared.error.HeadError.TheVariants.{BadLine as BadHead, Memory as NoRoom}
 use Rattle.position_files.specs.declared.error.FileError.{FileError}
@@ -52,36 +52,36 @@ TablesReadBack =
 abbrev pub GamesReadBack : Type 0
 GamesReadBack = (file : GameFile) (bytes : List ℕ) → IsTextOfGame file bytes → IsPosition file.kind file.board → OnlyGame file bytes
 
--- the bytes begin with this head alone: with no other, and nothing but want of memory is said of them
-pub record OnlyHead (head : Head) (bytes : List ℕ) : Type 0 where
-  pub no_other : (other : Head) → IsHeadOf other bytes → other ≡ head
+-- the bytes begin with this head alone, before this rest: with no other, and nothing but want of memory is said of them
+pub record OnlyHead (head : Head) (rest bytes : List ℕ) : Type 0 where
+  pub no_other : (other : Head) (more : List ℕ) → IsHeadOf other more bytes → (other ≡ head) × (more ≡ rest)
   pub no_fault : (error : HeadError) → IsSectionFault IsBoardLines bytes error → error ≡ NoRoom
 
 -- the bytes begin with these nodes alone, where so many are asked
-pub record OnlyNodes (width height count : ℕ) (found : Nodes) (bytes : List ℕ) : Type 0 where
-  pub no_other : (other : Nodes) → IsNodesOf width height count other bytes → other ≡ found
+pub record OnlyNodes (width height count : ℕ) (found : List Node) (rest bytes : List ℕ) : Type 0 where
+  pub no_other : (other : List Node) (more : List ℕ) → IsNodesOf width height count other more bytes → (other ≡ found) × (more ≡ rest)
   pub no_fault : (error : HeadError) → IsSectionFault (AreNodeLines width height count) bytes error → error ≡ NoRoom
 
 -- the bytes begin with the line of this start alone
-pub record OnlyStart (width height below : ℕ) (found : StartLine) (bytes : List ℕ) : Type 0 where
-  pub no_other : (other : StartLine) → IsStartOf width height below other bytes → other ≡ found
+pub record OnlyStart (width height below : ℕ) (found : Answers) (rest bytes : List ℕ) : Type 0 where
+  pub no_other : (other : Answers) (more : List ℕ) → IsStartOf width height below other more bytes → (other ≡ found) × (more ≡ rest)
   pub no_fault : (error : HeadError) → IsSectionFault (IsStartLines width height below) bytes error → error ≡ NoRoom
 
 -- bytes that begin with a head are read as that head
 abbrev pub HeadsReadBack : Type 0
-HeadsReadBack = (head : Head) (bytes : List ℕ) → IsHeadOf head bytes → OnlyHead head bytes
+HeadsReadBack = (head : Head) (rest bytes : List ℕ) → IsHeadOf head rest bytes → OnlyHead head rest bytes
 
 -- bytes that begin with the lines of so many nodes are read as these nodes
 abbrev pub NodesReadBack : Type 0
 NodesReadBack =
-    (width height count : ℕ) (found : Nodes) (bytes : List ℕ) → IsSide width → IsSide height → IsNodesOf width height count found bytes
-    → OnlyNodes width height count found bytes
+    (width height count : ℕ) (found : List Node) (rest bytes : List ℕ) → IsSide width → IsSide height
+    → IsNodesOf width height count found rest bytes → OnlyNodes width height count found rest bytes
 
 -- bytes that begin with the line of a start are read as that start
 abbrev pub StartsReadBack : Type 0
 StartsReadBack =
-    (width height below : ℕ) (found : StartLine) (bytes : List ℕ) → IsSide width → IsSide height → IsStartOf width height below found bytes
-    → OnlyStart width height below found bytes
+    (width height below : ℕ) (found : Answers) (rest bytes : List ℕ) → IsSide width → IsSide height
+    → IsStartOf width height below found rest bytes → OnlyStart width height below found rest bytes
 
 -- what is said of bad lines at the front of bytes is said of the first bad line of the texts that begin with such lines
 abbrev pub NamesFirstBad : (List (List ℕ) → Type 0) → Type 0

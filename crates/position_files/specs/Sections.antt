@@ -1,17 +1,15 @@
 -- What stands at the front of bytes: a head, the lines of nodes, or the line of a start; and where bytes leave such lines.
-use Rattle.std.specs.Prelude.{◌≡◌, ℕ, ◌+◌, List, map, length}
+use Rattle.std.specs.Prelude.{◌≡◌, ℕ, ◌+◌, ◌++◌, List, map, length}
 use Rattle.std.specs.List.{AllByRecursion}
 use Rattle.game_rules.specs.Grid.{Grid, IsBoard}
 use Rattle.game_rules.specs.declared.RuleKind.{RuleKind}
-use Rattle.strategy_graph.specs.Tables.{IsTable}
+use Rattle.strategy_graph.specs.Tables.{Answers, IsTable}
 use Rattle.strategy_graph.specs.declared.Node.{Node}
-use Rattle.text_lines.specs.Lines.{IsFront, IsLineOf, LeavesAt, ended, text_of}
+use Rattle.text_lines.specs.Lines.{IsLineOf, LeavesAt, ended, text_of}
 use Rattle.position_files.specs.Tables.{node_line, start_line}
 use Rattle.position_files.specs.Answers.{NodeFits, StartFits}
 use Rattle.position_files.specs.Positions.{board_lines}
 use Rattle.position_files.specs.declared.sections.Head.{Head}
-use Rattle.position_files.specs.declared.sections.Nodes.{Nodes}
-use Rattle.position_files.specs.declared.sections.StartLine.{StartLine}
 use Rattle.position_files.specs.declared.error.HeadError.{HeadError}
 use Rattle.position_files.specs.declared.error.HeadError.TheVariants.{BadLine, Memory}
 
@@ -25,10 +23,10 @@ IsSectionFault IsLines bytes Memory = Unit {0}
 abbrev pub IsBoardLines : List (List ℕ) → Type 0
 IsBoardLines ls = (kind : RuleKind) × (b : Grid) × IsBoard b × (ls ≡ board_lines kind b)
 
--- the bytes begin with the lines of the rule and the board of the head, which it counts
-pub record IsHeadOf (head : Head) (bytes : List ℕ) : Type 0 where
+-- the bytes are the lines of the rule and the board of the head, and the rest
+pub record IsHeadOf (head : Head) (rest bytes : List ℕ) : Type 0 where
   pub board : IsBoard head.board
-  pub front : IsFront (text_of (board_lines head.kind head.board)) bytes head.taken
+  pub text : bytes ≡ text_of (board_lines head.kind head.board) ++ rest
 
 -- the nodes are a table of so many nodes, which name points within these bounds
 pub record AreNodes (width height count : ℕ) (nodes : List Node) : Type 0 where
@@ -40,16 +38,16 @@ pub record AreNodes (width height count : ℕ) (nodes : List Node) : Type 0 wher
 abbrev pub AreNodeLines : ℕ → ℕ → ℕ → List (List ℕ) → Type 0
 AreNodeLines width height count ls = (nodes : List Node) × AreNodes width height count nodes × (ls ≡ map node_line nodes)
 
--- the bytes begin with the lines of such nodes, which are counted
-pub record IsNodesOf (width height count : ℕ) (found : Nodes) (bytes : List ℕ) : Type 0 where
-  pub nodes : AreNodes width height count found.table
-  pub front : IsFront (text_of (map node_line found.table)) bytes found.taken
+-- the bytes are the lines of such nodes, and the rest
+pub record IsNodesOf (width height count : ℕ) (found : List Node) (rest bytes : List ℕ) : Type 0 where
+  pub nodes : AreNodes width height count found
+  pub text : bytes ≡ text_of (map node_line found) ++ rest
 
 -- the lines are the line of a start that names nodes below this number and points within these bounds
 abbrev pub IsStartLines : ℕ → ℕ → ℕ → List (List ℕ) → Type 0
 IsStartLines width height below ls = IsLineOf (StartFits width height below) start_line ls
 
--- the bytes begin with the line of such a start, which is counted
-pub record IsStartOf (width height below : ℕ) (found : StartLine) (bytes : List ℕ) : Type 0 where
-  pub start : StartFits width height below found.start
-  pub front : IsFront (ended (start_line found.start)) bytes found.taken
+-- the bytes are the line of such a start, and the rest
+pub record IsStartOf (width height below : ℕ) (found : Answers) (rest bytes : List ℕ) : Type 0 where
+  pub start : StartFits width height below found
+  pub text : bytes ≡ ended (start_line found) ++ rest

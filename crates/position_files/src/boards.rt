@@ -78,7 +78,7 @@ fn stones_line<'a>(
 }
 
 /// The rule and the board that the first four lines tell, and the bytes after them.
-pub fn read_board(alloc: Global, bytes: &[u8]) -> Result<(RuleKind, Board, &[u8]), HeadError>
+pub(crate) fn read_board(alloc: Global, bytes: &[u8]) -> Result<(RuleKind, Board, &[u8]), HeadError>
     ensures board { IfOk result (λ found. IsBoard found.1) }
     ensures text { IfOk result (λ found. bytes.now
         ≡ text_of (board_lines found.0 found.1) ++ found.2.now) }

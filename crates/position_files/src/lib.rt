@@ -21,7 +21,6 @@ mod words;
 mod writers;
 mod written;
 
-pub use boards::read_board;
 pub use error::{FileError, GameError, HeadError};
 use game_rules::RuleKind;
 pub use games::read_game;
@@ -29,11 +28,8 @@ pub use laws::{
     games_read_back, positions_read_back, sections_name_first_bad_lines, sections_read_back,
     tables_read_back,
 };
-pub use nodes::node_lines;
 pub use positions::read_position;
-pub use sections::{
-    HEAD_LINES, Head, Nodes, StartLine, read_head, read_nodes, read_start, read_start_line,
-};
+pub use sections::{HEAD_LINES, Head, read_head, read_nodes, read_start};
 use stone_board::{Board, Points};
 use strategy_graph::{Root, Table};
 pub use tables::read_table;

@@ -102,7 +102,7 @@ fn add_node<'a>(
 }
 
 /// The table of the next `count` lines, and the bytes after them.
-pub fn node_lines(
+pub(crate) fn node_lines(
     alloc: Global,
     bytes: &[u8],
     count: u32,

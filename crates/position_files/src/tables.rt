@@ -16,8 +16,7 @@ ghost use Rattle.position_files.specs.Sections.{IsSectionFault};
 
 use crate::boards::read_board;
 use crate::nodes::node_lines;
-use crate::sections::read_start_line;
-use crate::{FIRST_LINES, FileError, HEAD_LINES, HeadError, MAX_MOVES, TableFile};
+use crate::{FIRST_LINES, FileError, HEAD_LINES, HeadError, MAX_MOVES, TableFile, read_start};
 use foul_judge::refusal;
 use game_rules::RuleKind;
 use std::alloc::Global;
@@ -129,7 +128,7 @@ fn read_defend(alloc: Global, bytes: &[u8]) -> Result<TableFile, FileError>
     };
     let len = body.table.len();
     let lines = FIRST_LINES + BODY_LINES + len;
-    let (start, rest) = match read_start_line(
+    let (start, rest) = match read_start(
         alloc,
         rest,
         len,

@@ -14,7 +14,7 @@ ghost use Rattle.table_book.specs.Sections.{AreEntries, AreEntryLines, IsEntryLi
 
 use crate::{Entries, Entry, MAX_ENTRIES};
 use game_rules::MAX_SIDE;
-use position_files::{HEAD_LINES, Head, HeadError, MAX_MOVES, StartLine, read_head, read_start};
+use position_files::{HEAD_LINES, Head, HeadError, MAX_MOVES, read_head, read_start};
 use std::alloc::Global;
 use strategy_graph::Root;
 use text_lines::number_line;
@@ -36,8 +36,8 @@ fn root_line(alloc: Global, bytes: &[u8], below: u32) -> Result<(Root, &[u8]), H
         }
         return Ok((Root::Attack(number), rest));
     }
-    let StartLine { start, taken } = read_start(alloc, bytes, below, MAX_SIDE, MAX_SIDE)?;
-    Ok((Root::Defend(start), &bytes[taken..]))
+    let (start, rest) = read_start(alloc, bytes, below, MAX_SIDE, MAX_SIDE)?;
+    Ok((Root::Defend(start), rest))
 }
 
 /// The entry that the bytes begin with the lines of, whose root names only nodes below `below`, and the bytes after them.
@@ -48,8 +48,9 @@ fn read_entry(alloc: Global, bytes: &[u8], below: u32) -> Result<(Entry, &[u8]),
     ensures refused { IfErr result (IsSectionFault (IsEntryLines below) bytes.now) }
     ensures within { IfErr result (IsUpTo ENTRY_LINES) }
 {
-    let Head { kind, board, taken } = read_head(alloc, bytes)?;
-    let Some((moves, rest)) = number_line(&bytes[taken..], b"moves ", 0, MAX_MOVES) else {
+    let (head, rest) = read_head(alloc, bytes)?;
+    let Head { kind, board } = head;
+    let Some((moves, rest)) = number_line(rest, b"moves ", 0, MAX_MOVES) else {
         return Err(HeadError::BadLine(HEAD_LINES + 1));
     };
     match root_line(alloc, rest, below) {

@@ -21,7 +21,7 @@ use crate::entry_lines::{ENTRY_LINES, read_entries};
 use crate::{Book, BookError, Entries, Entry, MAX_ENTRIES};
 use foul_judge::refusal;
 use game_rules::MAX_SIDE;
-use position_files::{HeadError, Nodes, read_nodes};
+use position_files::{HeadError, read_nodes};
 use std::alloc::Global;
 use strategy_graph::{MAX_NODES, Table};
 use text_lines::{after, number_line};
@@ -59,8 +59,8 @@ fn read_rest(alloc: Global, bytes: &[u8], count: u32) -> Result<(Book, &[u8]), H
     ensures refused { IfErr result (IsSectionFault (IsRestLines count) bytes.now) }
     ensures within { IfErr result (IsUpTo (count + (1 + ENTRY_LINES * MAX_ENTRIES))) }
 {
-    let Nodes { table, taken } = read_nodes(alloc, bytes, count, MAX_SIDE, MAX_SIDE)?;
-    match read_end(alloc, &bytes[taken..], count) {
+    let (table, rest) = read_nodes(alloc, bytes, count, MAX_SIDE, MAX_SIDE)?;
+    match read_end(alloc, rest, count) {
         Ok((entries, rest)) => Ok((Book { table, entries }, rest)),
         Err(error) => Err(error.after(count)),
     }

@@ -189,8 +189,8 @@ fn names_what_is_refused_of_a_game(rt: HostRuntime) {
 #[test]
 fn reads_a_head_at_the_front(rt: HostRuntime) -> Result<(), Fail> {
     let text = b"rule exact\nsize 9,5\nblack 0,2\nwhite 0,0\nmoves 0,1\n";
-    let head = read_head(rt.alloc(), text)?;
-    assert_eq!(rt; (head.kind, head.taken), (RuleKind::Exact, 40));
+    let (head, rest) = read_head(rt.alloc(), text)?;
+    assert_eq!(rt; (head.kind, rest.len()), (RuleKind::Exact, 10));
     assert_eq!(rt; size(&head.board), (9, 5));
     Ok(())
 }
@@ -198,18 +198,18 @@ fn reads_a_head_at_the_front(rt: HostRuntime) -> Result<(), Fail> {
 #[test]
 fn reads_nodes_at_the_front(rt: HostRuntime) -> Result<(), Fail> {
     let text = b"8,7 wins\n3,7 rest 0 8,7>0\nentries 1\n";
-    let nodes = read_nodes(rt.alloc(), text, 2, 15, 15)?;
-    assert_eq!(rt; (nodes.table.len(), nodes.taken), (2, 26));
+    let (table, rest) = read_nodes(rt.alloc(), text, 2, 15, 15)?;
+    assert_eq!(rt; (table.len(), rest.len()), (2, 10));
     Ok(())
 }
 
 #[test]
 fn reads_a_start_at_the_front(rt: HostRuntime) -> Result<(), Fail> {
     let text = b"start rest 1 8,7>0\nrule exact\n";
-    let line = read_start(rt.alloc(), text, 2, 15, 15)?;
-    assert_eq!(rt; line.taken, 19);
+    let (start, rest) = read_start(rt.alloc(), text, 2, 15, 15)?;
+    assert_eq!(rt; rest.len(), 11);
     for (x, y, node) in [(8, 7, 0), (0, 0, 1)] {
-        assert_eq!(rt; line.start.lookup(Point { x, y }), Some(node));
+        assert_eq!(rt; start.lookup(Point { x, y }), Some(node));
     }
     Ok(())
 }

@@ -1,6 +1,5 @@
 use Rattle.std.proofs.Common.{◌<◌, ◌≤◌, ◌^◌, refl, arith}
 use Rattle.std.proofs.lemmas.Result.{err_from_is_err_and}
-use Rattle.text_lines.proofs.TextLaws.{front_rest}
 use Rattle.table_book.proofs.EntryBad.{no_root_line, no_such_node, root_fault}
 use Rattle.table_book.proofs.entry_lines.root_line.Goals as goal
 
@@ -23,4 +22,4 @@ returns-in_err-start-clause-refused c =
     c.in_err-start.ensures.refused)
 
 pub returns-clause-text : goal.returns-clause-text
-returns-clause-text c = front_rest _ c.args.bytes.now c.in_ok-start.field-0.taken c.in_ok-start.ensures.found.front
+returns-clause-text c = c.in_ok-start.ensures.found.text

@@ -1,5 +1,4 @@
 use Rattle.std.proofs.lemmas.Result.{err_from_is_err_and}
-use Rattle.text_lines.proofs.TextLaws.{front_rest}
 use Rattle.table_book.proofs.BookBad.{rest_end_fault, rest_nodes_fault}
 use Rattle.table_book.proofs.reading.read_rest.Goals as goal
 
@@ -11,5 +10,5 @@ returns-in_err-table-clause-refused c =
 pub returns-in-Err-clause-refused : goal.returns-in-Err-clause-refused
 returns-in-Err-clause-refused c =
     let found = c.in_ok-table.ensures.found in
-    rw c.after.ensures.error (rest_end_fault c.args.count c.in_ok-table.field-0.table found.nodes c.args.bytes.now _
-    (front_rest _ c.args.bytes.now c.in_ok-table.field-0.taken found.front) c.in-Err.error c.in-Err.ensures.refused)
+    rw c.after.ensures.error (rest_end_fault c.args.count c.in_ok-table.table found.nodes c.args.bytes.now c.in_ok-table.rest.now
+    found.text c.in-Err.error c.in-Err.ensures.refused)
