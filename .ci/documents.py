@@ -66,6 +66,25 @@ def on_demand(script, pages):
     del pages.of_crates
 
 
+def lookups():
+    """What docs/calling.py and docs/proved.py say of names that aren't there."""
+    import calling
+    import proved
+    from repository import Repository
+
+    repository, text = Repository(), calling.DOCUMENT.read_text()
+    expect("calling.py: a slip", list(calling.lost(repository, text.replace("`judge`", "`no_call`"))), ["no crate has no_call"])
+    unnamed = ["it doesn't name the caller may_play"]
+    expect("calling.py: a caller that isn't named", list(calling.differing("caller", [], ["may_play"])), unnamed)
+    text = proved.DOCUMENT.read_text()
+    crate, _ = proved.NAMED_EDIT.search(text).groups()
+    slip = f"{proved.NEVER}\n| a body | `{crate}/none` |\n"
+    expect("proved.py: an edit", list(proved.lost_edits(slip)), [f"there is no must-fail edit none of {crate}"])
+    expect("proved.py: no table", list(proved.lost_edits("")), [f"it has no table under {proved.NEVER}"])
+    sections = proved.sections_of(text.replace("`Side::other` (`other`)", "`Side::other` (`others`)"))
+    expect("proved.py: a clause", list(proved.lost(repository, sections)), ["game_rules: Side::other has no clause others"])
+
+
 def reading_order(layout):
     """That what a page needs is read on it or before it, and each definition after those that it cites, unless they cite one another."""
     from reading import Word
@@ -164,4 +183,4 @@ def architecture():
 
 
 if __name__ == "__main__":
-    sys.exit(tried(definitions, readme))
+    sys.exit(tried(definitions, lookups, readme))

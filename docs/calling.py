@@ -1,53 +1,67 @@
 #!/usr/bin/env python3
-"""Writes into docs/CALLING.md the lines of the callers, which are proved and run as tests. --check compares them.
-
-The callers stand in one file of sources: what they bring in, and then a group for each part of the document. The groups begin
-where a `///` comment opens a caller, so a caller, its tests and what stands between belong together. What the tests begin with
-stands in another file, and comes after what the callers bring in.
+"""Looks up what docs/CALLING.md names: each caller and its test in the file of sources to which the document links, and each crate, call
+and type in the crates. It prints what isn't there, and each caller of that file which the document doesn't name.
 """
 import re
 import sys
-from pathlib import Path
 
-TOP = Path(__file__).resolve().parent.parent
-SOURCE = TOP / "crates" / "worked_parts" / "src" / "calling.rt"
-POSITIONS = SOURCE.with_name("positions.rt")
+sys.dont_write_bytecode = True
+
+from reading import TOP, Unread
+from repository import Repository
+
 DOCUMENT = TOP / "docs" / "CALLING.md"
+# A caller of the sources has a comment and a contract; its test has an attribute.
+CALLER = re.compile(r"^///.*\n(?:///.*\n)*(?:#\[.*\n)*(?:pub )?fn (\w+)[^{}]*?\n +(?:requires|ensures) ", re.M)
+TEST = re.compile(r"^#\[test\]\n(?:#\[.*\n)*fn (\w+)\(", re.M)
 
 
-def groups(text):
-    """What the callers bring in, and each caller with its tests."""
-    text = text[text.index("#![tactic(auto)]") :]
-    places = [found.start() for found in re.finditer(r"^///.*\n(?=(?:///.*\n)*(?:#\[.*\n)*fn )", text, re.M)]
-    places = [place for place in places if not text[:place].splitlines()[-1].startswith("///")]
-    ends = [*places[1:], len(text)]
-    return [text[: places[0]].strip(), *(text[start:end].strip() for start, end in zip(places, ends))]
+def linked(text):
+    """The text of the sources to which the document links."""
+    found = [(DOCUMENT.parent / path).resolve() for path in re.findall(r"\]\(([^)]*\.rt)\)", text)]
+    lost = [path for path in found if not path.is_file()]
+    if lost or not found:
+        raise Unread(f"there is no file {lost[0].relative_to(TOP)}" if lost else "it links to no sources")
+    return "\n".join(path.read_text() for path in found)
 
 
-def without_comment(text):
-    """The lines of a file after the comment that opens it."""
-    return text.split("\n\n", 1)[1].strip()
+def differing(kind, named, there):
+    """What is named and isn't there, and what is there and isn't named."""
+    yield from (f"the sources have no {kind} {it}" for it in named if it not in there)
+    yield from (f"it doesn't name the {kind} {it}" for it in there if it not in named)
 
 
-def written(document, found):
-    """The document with these groups as its blocks of code."""
-    blocks = re.findall(r"^```rust\n.*?^```$", document, re.M | re.S)
-    if len(blocks) != len(found):
-        sys.exit(f"FAILED docs/{DOCUMENT.name}: it has {len(blocks)} blocks of code, and the sources have {len(found)} groups")
-    parts = iter(found)
-    return re.sub(r"^```rust\n.*?^```$", lambda _: f"```rust\n{next(parts)}\n```", document, flags=re.M | re.S)
+def names_of(repository):
+    """The crates, and what each gives: its calls, with their types too, its types with their cases, and its limits."""
+    for crate in repository.crates.values():
+        yield crate.name
+        yield from crate.types
+        yield from (name for it in crate.types.values() for name, _, _ in it.parts)
+        yield from (f"{it.owner}::{it.name}" if it.owner else it.name for it in crate.calls if it.is_public)
+        yield from (it.name for it in crate.calls if it.is_public)
+
+
+def lost(repository, text):
+    """What the document names that no crate has. What has a blank, a dot or a slash is no name of one."""
+    known = {*names_of(repository), "None"}
+    spans = re.findall(r"`([^`]+)`", re.sub(r"^Caller: .*$", "", text, flags=re.M))
+    lists = [name for it in re.findall(r"`crates\.txt` lists `([^`]+)`", text) for name in it.split()]
+    yield from (f"no crate has {it}" for it in dict.fromkeys(spans) if re.fullmatch(r"[\w:]+", it) and it not in known)
+    yield from (f"there is no crate {it}" for it in dict.fromkeys(lists) if it not in repository.crates)
 
 
 def main():
-    there = DOCUMENT.read_text()
-    brought, *callers = groups(SOURCE.read_text())
-    wanted = written(there, [brought, without_comment(POSITIONS.read_text()), *callers])
-    if "--check" not in sys.argv[1:]:
-        DOCUMENT.write_text(wanted)
-    elif wanted != there:
-        print(f"FAILED docs/{DOCUMENT.name}: its lines aren't those of {SOURCE.name} and {POSITIONS.name}; run docs/calling.py")
-        return 1
-    return 0
+    text = DOCUMENT.read_text()
+    said = re.findall(r"^Caller: `(\w+)`; test: `(\w+)`\.$", text, re.M)
+    try:
+        sources = linked(text)
+        found = list(differing("caller", [it for it, _ in said], CALLER.findall(sources)))
+        found += [*differing("test", [it for _, it in said], TEST.findall(sources)), *lost(Repository(), text)]
+    except Unread as error:
+        found = [str(error)]
+    for it in found:
+        print(f"FAILED docs/{DOCUMENT.name}: {it}")
+    return 1 if found else 0
 
 
 if __name__ == "__main__":

@@ -1,7 +1,8 @@
 #!/usr/bin/env python3
-"""Looks up what docs/PROVED.md names: each crate, each public call and each of its clauses, and each must-fail edit of its table of wrong
-bodies. It prints what isn't there, and each crate that has no section. Below each crate's table a line names its must-fail edits, wrong bodies that the prover has to refuse, by
-the promised call whose code they turn; --write writes these lines, and without it they are compared.
+"""Looks up what docs/PROVED.md names: each crate, each public call and each of its clauses, and each must-fail edit of its table of
+wrong bodies. It prints what isn't there, and each crate that has no section. Below each crate's table a line names its must-fail edits,
+wrong bodies that the prover has to refuse, by the promised call whose code they turn; --write writes these lines, and without it they
+are compared.
 """
 import re
 import sys
@@ -11,6 +12,7 @@ sys.dont_write_bytecode = True
 from repository import Repository
 from reading import TOP, Unread
 
+NAMED_EDIT = re.compile(r"`(\w+)/(\w+)`")
 NEVER = "## Wrong bodies that are never let through"
 DOCUMENT = TOP / "docs" / "PROVED.md"
 PROMISED = re.compile(r"`([\w:]+)` \((`\w+`(?:, `\w+`)*)\)")
@@ -44,7 +46,7 @@ def lost(repository, named):
 def lost_edits(text):
     """The must-fail edits of the table of wrong bodies that aren't there."""
     rows = re.findall(r"^\| a .* \| (.*) \|$", text.partition(NEVER)[2].partition("\n## ")[0], re.M)
-    named = [it for row in rows for it in re.findall(r"`(\w+)/(\w+)`", row)]
+    named = [it for row in rows for it in NAMED_EDIT.findall(row)]
     if not named:
         yield f"it has no table under {NEVER}"
     for crate, edit in named:
