@@ -1,6 +1,6 @@
 -- What is known of the moves so far, and one more.
 use Rattle.std.proofs.Common.{◌≡◌, ℕ, ◌+◌, ◌-◌, ◌*◌, ◌≤◌, Bool, true, false, cond, refl, sym, ap, subst, ◌∙◌, arith}
-use Rattle.std.proofs.Common.{List, [], ◌∷◌, ◌++◌, map, append_assoc, Some, find, Result, Ok, Err}
+use Rattle.std.proofs.Common.{List, [], ◌∷◌, ◌++◌, map, append-nil, append_assoc, Some, find, Result, Ok, Err, IfOk}
 use Rattle.std.specs.List.{filter, sum_by, AllByRecursion}
 use Rattle.std.proofs.lemmas.List.Sums.{sum_by-cons}
 use Rattle.game_rules.proofs.Common.{Grid, outcome, points_of}
@@ -19,8 +19,11 @@ use Rattle.strategy_compiler.proofs.Growing.{grows-more, grows-not, grows-then, 
 use Rattle.strategy_compiler.proofs.Replies.{beaten-grown}
 use Rattle.strategy_compiler.proofs.Standing.{compiled-lower}
 use Rattle.defence_finder.specs.Defences.{is_defence, is_beaten, is_spent, defences_of, beaten_of, first_spent}
-use Rattle.defence_finder.specs.Answers.{most_nodes, nodes_after}
-use Rattle.defence_finder.specs.Finding.{AreFound, IsSettled, IsVerdict}
+use Rattle.defence_finder.specs.Answers.{AreBeaten, OnKnown, most_nodes, nodes_after, spent_at}
+use Rattle.defence_finder.specs.Finding.{AreFound, IsAdded, IsSettled, IsToldAt, IsVerdict}
+use Rattle.defence_finder.specs.declared.finder.DefenceAnswer.{DefenceAnswer}
+use Rattle.defence_finder.specs.declared.finder.DefenceAnswer.TheVariants.{Known, Spent as SpentAt}
+use Rattle.defence_finder.specs.declared.finder.Found.{Found}
 use Rattle.defence_finder.specs.declared.finder.Verdict.{Verdict}
 use Rattle.defence_finder.specs.declared.finder.Verdict.TheVariants.{NoReply, Holds, Beaten, Spent}
 
@@ -158,36 +161,73 @@ module _ (rule : RuleKind) (n budget : ℕ) (b v : Grid) (same : v ≡ b) (a t u
     verdict-is w is =
         subst (λ (d : Grid). IsVerdict rule n budget d u q w) same (subst (λ (x : Verdict). IsVerdict rule n budget v u q x) is verdict)
 
-    pub walk-none : IsCompiled u → x ≡ NoReply → IsWalk rule n budget b a u good bad rest
-    walk-none compiled is = record {
-      compiled = compiled;
-      found = found-none rule n budget b u good bad q rest found-next (verdict-is NoReply is);
-      few = few-next;
-      grows = grows-next;
-    }
-
-    pub walk-good : IsCompiled u → x ≡ Holds → (more : List Point) → more ≡ good ++ q ∷ [] → IsWalk rule n budget b a u more bad rest
-    walk-good compiled is more pushed = record {
-      compiled = compiled;
-      found = found-good rule n budget b u good bad q rest found-next more pushed (verdict-is Holds is);
-      few = few-next;
-      grows = grows-next;
-    }
-
-    pub walk-bad : IsCompiled u → (i : ℕ) → x ≡ Beaten i → (more : List Reply) → more ≡ bad ++ (record { at = q; next = i }) ∷ []
-        → IsWalk rule n budget b a u good more rest
-    walk-bad compiled i is more pushed = record {
-      compiled = compiled;
-      found = let h = verdict-is (Beaten i) is in found-bad rule n budget b u good bad q rest found-next more i pushed h.0 h.1;
-      few = few-next;
-      grows = grows-next;
-    }
-
     pub walk-spent : x ≡ Spent → Some q ≡ first_spent rule n budget b
     walk-spent is = found-spent rule n budget b u good bad q rest found-next (verdict-is Spent is)
 
+-- the move is added where it belongs
+pub walk-added : (rule : RuleKind) (n budget : ℕ) (b v : Grid) (same : v ≡ b) (a t u : List Node) (old new : Found) (q : Point)
+    (qs rest : List Point) → qs ≡ q ∷ rest → IsWalk rule n budget b a t old.good old.bad qs → GrowsBy t u (nodes_after n v q)
+    → IsCompiled u → (x : Verdict) → (x ≡ Spent → ⊥) → IsVerdict rule n budget v u q x → IsAdded old new q x
+    → IsWalk rule n budget b a u new.good new.bad rest
+walk-added rule n budget b v same a t u old new q qs rest steps walk grown compiled x not_spent verdict added =
+    record { compiled = compiled; found = by_verdict x not_spent at added; few = few-there; grows = grows-there } where
+      few-there : sum_by (nodes_after n b) rest ≤ most_nodes n b
+      few-there = few-next rule n budget b v same a t u old.good old.bad q qs rest steps walk grown
+
+      grows-there : GrowsBy a u (most_nodes n b - sum_by (nodes_after n b) rest)
+      grows-there = grows-next rule n budget b v same a t u old.good old.bad q qs rest steps walk grown
+
+      found-there : AreFound rule n budget b u old.good old.bad (q ∷ rest)
+      found-there = found-next rule n budget b v same a t u old.good old.bad q qs rest steps walk grown
+
+      at : IsVerdict rule n budget b u q x
+      at = subst (λ (d : Grid). IsVerdict rule n budget d u q x) same verdict
+
+      by_verdict : (w : Verdict) → (w ≡ Spent → ⊥) → IsVerdict rule n budget b u q w → IsAdded old new q w
+          → AreFound rule n budget b u new.good new.bad rest
+      by_verdict NoReply other h is =
+          subst (λ (f : Found). AreFound rule n budget b u f.good f.bad rest) (sym is)
+          (found-none rule n budget b u old.good old.bad q rest found-there h)
+      by_verdict Holds other h is =
+          subst (λ (rs : List Reply). AreFound rule n budget b u new.good rs rest) (sym is.1)
+          (found-good rule n budget b u old.good old.bad q rest found-there new.good is.0 h)
+      by_verdict (Beaten i) other h is =
+          subst (λ (ps : List Point). AreFound rule n budget b u ps new.bad rest) (sym is.0)
+          (found-bad rule n budget b u old.good old.bad q rest found-there new.bad i is.1 h.0 h.1)
+      by_verdict Spent other h is = absurd (other refl)
+
 -- after the last move
-module _ (rule : RuleKind) (n budget : ℕ) (b : Grid) (a t : List Node) (good : List Point) (bad : List Reply) (left : List Point)
-    (done : left ≡ []) (walk : IsWalk rule n budget b a t good bad left) where
-  found-all : AreFound rule n budget b t good bad []
-  found-all = subst (λ (ps : List Point). AreFound rule n budget b t good bad ps) done walk.found
+pub walk-all : (rule : RuleKind) (n budget : ℕ) (b : Grid) (a t : List Node) (good : List Point) (bad : List Reply) (left : List Point)
+    → left ≡ [] → IsWalk rule n budget b a t good bad left → AreFound rule n budget b t good bad []
+walk-all rule n budget b a t good bad left done walk =
+    subst (λ (ps : List Point). AreFound rule n budget b t good bad ps) done walk.found
+
+-- what all points came to is told so
+pub all-told : (rule : RuleKind) (n budget : ℕ) (b : Grid) (t : List Node) (good : List Point) (bad : List Reply)
+    → AreFound rule n budget b t good bad [] → IsToldAt rule n budget b t (Known good bad)
+all-told rule n budget b t good bad h = (
+  sym (append-nil good) ∙ h.good_are,
+  record { points = sym (append-nil (map (λ r. r.at) bad)) ∙ h.bad_are; each = h.each },
+  h.enough,
+)
+
+-- ---- what is told, clause by clause
+
+module _ (rule : RuleKind) (n budget : ℕ) (b : Grid) (t : List Node) {E : Type 0} where
+  pub told-good : (r : Result DefenceAnswer E) → IfOk r (IsToldAt rule n budget b t)
+      → IfOk r (λ x. OnKnown x (λ good bad. good ≡ defences_of rule n b))
+  told-good (Err e) h = tt
+  told-good (Ok (Known good bad)) h = h.0
+  told-good (Ok (SpentAt q)) h = tt
+
+  pub told-bad : (r : Result DefenceAnswer E) → IfOk r (IsToldAt rule n budget b t)
+      → IfOk r (λ x. OnKnown x (λ good bad. AreBeaten rule n b t bad))
+  told-bad (Err e) h = tt
+  told-bad (Ok (Known good bad)) h = h.1
+  told-bad (Ok (SpentAt q)) h = tt
+
+  pub told-spent : (r : Result DefenceAnswer E) → IfOk r (IsToldAt rule n budget b t)
+      → IfOk r (λ x. spent_at x ≡ first_spent rule n budget b)
+  told-spent (Err e) h = tt
+  told-spent (Ok (Known good bad)) h = h.2
+  told-spent (Ok (SpentAt q)) h = h

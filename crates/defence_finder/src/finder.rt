@@ -5,7 +5,7 @@
 //! fours searched, and what these searches remember serves all of them.
 #![tactic(auto)]
 
-ghost use Rattle.std.specs.Prelude.{◌≡◌, ◌≤◌, ◌*◌, IfOk, IfSome, Some};
+ghost use Rattle.std.specs.Prelude.{◌≡◌, ◌≤◌, ◌*◌, [], IfOk, IfSome, OnOk, Some};
 ghost use Rattle.std.specs.List.{find};
 ghost use Rattle.game_rules.specs.Grid.{Grid, points_of};
 ghost use Rattle.game_rules.specs.Shapes.{five as five_lem};
@@ -17,12 +17,12 @@ ghost use Rattle.strategy_compiler.specs.Growth.{Writes};
 ghost use Rattle.four_search.specs.declared.TheConstants.{MAX_DEPTH};
 ghost use Rattle.defence_finder.specs.Defences.{defences_of, first_spent};
 ghost use Rattle.defence_finder.specs.Answers.{OnKnown, AreBeaten, spent_at, nodes_after, most_nodes};
-ghost use Rattle.defence_finder.specs.Finding.{IsVerdict};
+ghost use Rattle.defence_finder.specs.Finding.{IsAdded, IsAsked, IsToldAt, IsVerdict, IsWalked};
 
 use foul_judge::{Outcome, Seen};
 use four_search::{FourAnswer, FourMemory, four_search_with};
 use row_shapes::Rule;
-use std::alloc::Global;
+use std::alloc::{AllocError, Global};
 use stone_board::{Point, Points};
 use strategy_compiler::{Compiler, SearchError};
 use strategy_graph::{Replies, Reply};
@@ -44,6 +44,26 @@ struct Question {
     depth: u32,
     budget: u64,
     fives: Points,
+}
+
+/// The moves that hold and those that are beaten, of the points so far.
+#[derive(Drop)]
+struct Found {
+    good: Points,
+    bad: Replies,
+}
+
+impl Found {
+    /// Adds the point `q` where it belongs by what is known of it.
+    fn add(&mut self, q: Point, verdict: Verdict) -> Result<(), AllocError>
+        ensures added { OnOk result (IsAdded self.old self.new q verdict) }
+    {
+        match verdict {
+            Verdict::NoReply | Verdict::Spent => Ok(()),
+            Verdict::Holds => self.good.push(q),
+            Verdict::Beaten(next) => self.bad.push(Reply { at: q, next }),
+        }
+    }
 }
 
 /// What is known of a point as a move.
@@ -91,30 +111,67 @@ pub fn defences<R: Rule, V: Seen<R>>(
     ensures same { V.position view.new ≡ V.position view.old }
 {
     let attacker = view.side().other();
-    // For what is known of its nodes.
-    compiler.len();
     let fives = view.five_points(alloc, attacker)?;
     let question = Question {
         depth,
         budget,
         fives,
     };
+    judge_all::<R, V>(alloc, view, &question, compiler)
+}
+
+/// Which moves hold, by what is asked of each.
+fn judge_all<R: Rule, V: Seen<R>>(
+    alloc: Global,
+    view: &mut V,
+    question: &Question,
+    compiler: &mut Compiler,
+) -> Result<DefenceAnswer, SearchError>
+    requires asked { IsAsked R.KIND (V.position view.old) question.now }
+    ensures told { IfOk result
+        (IsToldAt R.KIND question.now.depth question.now.budget (V.position view.old) compiler.new) }
+    ensures writes { Writes compiler.old compiler.new (most_nodes question.now.depth (V.position view.old)) result }
+    ensures same { V.position view.new ≡ V.position view.old }
+{
     let mut memory = FourMemory::new(alloc);
-    let mut good = Points::new(alloc);
-    let mut bad = Replies::new(alloc);
+    let mut found = Found {
+        good: Points::new(alloc),
+        bad: Replies::new(alloc),
+    };
+    match walk::<R, V>(alloc, view, question, &mut memory, &mut found, compiler)? {
+        Some(at) => Ok(DefenceAnswer::Spent { at }),
+        None => Ok(DefenceAnswer::Known {
+            good: found.good,
+            bad: found.bad,
+        }),
+    }
+}
+
+/// Judges one point after another, and answers the first after which there are more positions than the budget, if there is one.
+fn walk<R: Rule, V: Seen<R>>(
+    alloc: Global,
+    view: &mut V,
+    question: &Question,
+    memory: &mut FourMemory<R>,
+    found: &mut Found,
+    compiler: &mut Compiler,
+) -> Result<Option<Point>, SearchError>
+    requires asked { IsAsked R.KIND (V.position view.old) question.now }
+    requires no_good { found.old.good ≡ [] }
+    requires no_bad { found.old.bad ≡ [] }
+    ensures walked { IfOk result (IsWalked R.KIND question.now.depth question.now.budget (V.position view.old) compiler.new found.new) }
+    ensures writes { Writes compiler.old compiler.new (most_nodes question.now.depth (V.position view.old)) result }
+    ensures same { V.position view.new ≡ V.position view.old }
+{
+    // For what is known of its nodes.
+    compiler.len();
     for q in view.board().points() {
-        match judge::<R, V>(alloc, view, q, &question, &mut memory, compiler)? {
-            Verdict::NoReply => {}
-            Verdict::Holds => {
-                good.push(q)?;
-            }
-            Verdict::Beaten(next) => {
-                bad.push(Reply { at: q, next })?;
-            }
-            Verdict::Spent => return Ok(DefenceAnswer::Spent { at: q }),
+        match judge::<R, V>(alloc, view, q, question, memory, compiler)? {
+            Verdict::Spent => return Ok(Some(q)),
+            verdict => found.add(q, verdict)?,
         }
     }
-    Ok(DefenceAnswer::Known { good, bad })
+    Ok(None)
 }
 
 /// What is known of the point `q` as a move.
@@ -126,11 +183,8 @@ fn judge<R: Rule, V: Seen<R>>(
     memory: &mut FourMemory<R>,
     compiler: &mut Compiler,
 ) -> Result<Verdict, SearchError>
-    requires some_depth { 1 ≤ question.now.depth }
-    requires depth_fits { question.now.depth ≤ MAX_DEPTH }
-    requires some_budget { 1 ≤ question.now.budget }
+    requires asked { IsAsked R.KIND (V.position view.old) question.now }
     requires compiled { IsCompiled compiler.old }
-    requires fives { question.now.fives ≡ five_points_lem R.KIND (V.position view.old) (other (mover (V.position view.old))) }
     ensures verdict { IfOk result
         (IsVerdict R.KIND question.now.depth question.now.budget (V.position view.old) compiler.new q) }
     ensures writes { Writes compiler.old compiler.new (nodes_after question.now.depth (V.position view.old) q) result }
