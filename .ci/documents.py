@@ -121,7 +121,7 @@ def readme():
     used = {name for _, _, names in listed for name in names.split()} - own
     said = re.search(r"Of the toolchain's crates the repository uses (.*?)\.\s", text, re.S)
     expect("README.md: the crates that are used", sorted(re.findall(r"`(\w+)`", said.group(1) if said else "")), sorted(used))
-    expect("README.md: at most 3,000 words", len(text.split()) <= 3000, True)
+    expect("README.md: at most 2,500 words", len(text.split()) <= 2500, True)
     links()
     formats()
     architecture()

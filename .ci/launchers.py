@@ -28,7 +28,7 @@ for line in (TOP / "docs" / "help.txt").read_text().splitlines(True):
 
 def unproved():
     """What `unproved` makes of the words, of the toolchain's answer, and of an input that cannot be had. The toolchain is a script here."""
-    notice = "unproved: this takes about a minute; what is answered is NOT PROVED, and ./renju {} proves it\n"
+    notice = "unproved: this takes about two minutes of a processor; what is answered is NOT PROVED, and ./renju {} proves it\n"
     echo = 'echo "$@"; cat; echo "checked: ended status=9" >&2; echo "run=ended status=9 runners=1 proved=no" >&2; exit 9'
     with path_with(rt=echo) as (env, folder):
         expect(
