@@ -35,7 +35,7 @@ CHAPTERS = (
         "run",
         "Devices and a run",
         "What input, output and files tell, the words of a command, the statuses, and the record of a run of which each claim speaks.",
-        ("renju_io", "renju_cli.Statuses", "renju_cli.Forms", "renju_cli.Runs"),
+        ("renju_io", "command_base.Statuses", "command_base.Forms", "command_base.Runs"),
     ),
     (
         "fours",
@@ -65,7 +65,15 @@ CHAPTERS = (
         "commands",
         "What several commands say",
         "What a command has in common with another: a file that is loaded and held, a position that is read, a search that is told.",
-        ("renju_cli",),
+        (
+            "command_base",
+            "file_loading",
+            "table_commands",
+            "position_commands",
+            "solve_command",
+            "brain_commands",
+            "renju_cli",
+        ),
     ),
 )
 

@@ -11,34 +11,33 @@ use Rattle.board_symmetry.specs.declared.symmetry.Symmetry.TheVariants.{AntiDiag
 use Rattle.renju_cli.specs.declared.commands.Form.{Form}
 use Rattle.renju_cli.specs.declared.commands.Form.TheVariants.{Check, Foul, Fours, Threats, Solve, Brain, BrainWith, Drill, Referee}
 use Rattle.renju_cli.specs.declared.commands.Form.TheVariants.{RefereeWith, Image, Defend, Bind, Book}
-use Rattle.renju_cli.specs.declared.TheConstants.{MAX_WORK}
-use Rattle.renju_cli.specs.Runs.{Run}
+use Rattle.table_commands.specs.declared.TheConstants.{MAX_WORK}
+use Rattle.command_base.specs.Runs.{Run}
 use Rattle.renju_cli.specs.Commands.{command}
-use Rattle.renju_cli.specs.Checks.{check_command}
-use Rattle.renju_cli.specs.Fouls.{foul_command}
-use Rattle.renju_cli.specs.Fours.{fours_command}
-use Rattle.renju_cli.specs.Threats.{threats_command}
-use Rattle.renju_cli.specs.Solves.{solve_command}
-use Rattle.renju_cli.specs.Brains.{second_word}
-use Rattle.renju_cli.specs.Images.{image_command, symmetry_word}
-use Rattle.renju_cli.specs.Referees.{referee_command}
-use Rattle.renju_cli.specs.Defends.{defend_command}
-use Rattle.renju_cli.specs.Binds.{words_after}
-use Rattle.renju_cli.specs.Books.{book_command}
-use Rattle.renju_cli.proofs.ToldLaws.{answers-told}
-use Rattle.renju_cli.proofs.PositionLaws.{position-answers}
-use Rattle.renju_cli.proofs.CheckLaws.{check-answers}
-use Rattle.renju_cli.proofs.FoulLaws.{foul-answers}
-use Rattle.renju_cli.proofs.FoursLaws.{fours-answers}
-use Rattle.renju_cli.proofs.ThreatsLaws.{threats-answers}
-use Rattle.renju_cli.proofs.SolveLaws.{solve-answers}
-use Rattle.renju_cli.proofs.BrainLaws.{brain-answers, brain-with-answers}
-use Rattle.renju_cli.proofs.DrillLaws.{drill-answers}
-use Rattle.renju_cli.proofs.ImageLaws.{image-answers}
-use Rattle.renju_cli.proofs.RefereeLaws.{referee-answers, referee-with-answers}
-use Rattle.renju_cli.proofs.DefendLaws.{defend-answers}
-use Rattle.renju_cli.proofs.BindLaws.{bind-answers}
-use Rattle.renju_cli.proofs.BookLaws.{book-answers}
+use Rattle.table_commands.specs.Checks.{check_command}
+use Rattle.position_commands.specs.Fouls.{foul_command}
+use Rattle.position_commands.specs.Fours.{fours_command}
+use Rattle.position_commands.specs.Threats.{threats_command}
+use Rattle.solve_command.specs.Solves.{solve_command}
+use Rattle.renju_cli.specs.Words.{second_word, words_after}
+use Rattle.table_commands.specs.Images.{image_command, symmetry_word}
+use Rattle.table_commands.specs.Referees.{referee_command}
+use Rattle.position_commands.specs.Defends.{defend_command}
+use Rattle.table_commands.specs.Books.{book_command}
+use Rattle.command_base.proofs.ToldLaws.{answers-told}
+use Rattle.command_base.proofs.PositionLaws.{position-answers}
+use Rattle.table_commands.proofs.CheckLaws.{check-answers}
+use Rattle.position_commands.proofs.FoulLaws.{foul-answers}
+use Rattle.position_commands.proofs.FoursLaws.{fours-answers}
+use Rattle.position_commands.proofs.ThreatsLaws.{threats-answers}
+use Rattle.solve_command.proofs.SolveLaws.{solve-answers}
+use Rattle.brain_commands.proofs.BrainLaws.{brain-answers, brain-with-answers}
+use Rattle.brain_commands.proofs.DrillLaws.{drill-answers}
+use Rattle.table_commands.proofs.ImageLaws.{image-answers}
+use Rattle.table_commands.proofs.RefereeLaws.{referee-answers, referee-with-answers}
+use Rattle.position_commands.proofs.DefendLaws.{defend-answers}
+use Rattle.table_commands.proofs.BindLaws.{bind-answers}
+use Rattle.table_commands.proofs.BookLaws.{book-answers}
 
 -- the number that a word writes
 abbrev number_at : List (List ℕ) → ℕ → ℕ

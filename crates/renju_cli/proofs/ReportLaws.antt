@@ -2,11 +2,12 @@
 use Rattle.std.proofs.Common.{◌≡◌, inl, inr, subst, ℕ, List}
 use Rattle.renju_cli.specs.declared.commands.Form.{Form}
 use Rattle.renju_cli.specs.declared.commands.Form.TheVariants.{BrainWith, RefereeWith, Bind}
-use Rattle.renju_cli.specs.Runs.{Run}
-use Rattle.renju_cli.specs.Forms.{HasWords}
-use Rattle.renju_cli.specs.Brains.{second_word, IsBrainWith}
-use Rattle.renju_cli.specs.Referees.{IsRefereeWith}
-use Rattle.renju_cli.specs.Binds.{IsBind, words_after}
+use Rattle.command_base.specs.Runs.{Run}
+use Rattle.command_base.specs.Forms.{HasWords}
+use Rattle.renju_cli.specs.Words.{second_word, words_after}
+use Rattle.brain_commands.specs.Brains.{IsBrainWith}
+use Rattle.table_commands.specs.Referees.{IsRefereeWith}
+use Rattle.table_commands.specs.Binds.{IsBind}
 use Rattle.renju_cli.specs.Commands.{command, IsForm}
 use Rattle.renju_cli.specs.Reports.{Report, IsComplete}
 use Rattle.renju_cli.proofs.EachCommand.{answers}

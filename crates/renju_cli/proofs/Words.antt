@@ -1,9 +1,9 @@
--- Words of a command line, taken from their list one by one.
-use Rattle.std.proofs.Common.{◌≡◌, sym, ap, ◌∙◌, ℕ, ◌≤◌, ◌<◌, List, [], ◌∷◌, length, map, take, drop, get_or, refl, ◌-◌, arith}
+-- Words that forms have: the second one, those after the first, and two numbers.
+use Rattle.std.proofs.Common.{◌≡◌, sym, ap, ◌∙◌, ℕ, ◌≤◌, ◌<◌, List, [], ◌∷◌, length, map, take, drop}
+use Rattle.std.proofs.Common.{get_or, refl, ◌-◌, arith}
 use Rattle.std.proofs.Math.Seq.{take-length}
 use Rattle.std.proofs.lemmas.List.{length-map}
-use Rattle.renju_cli.specs.Brains.{second_word}
-use Rattle.renju_cli.specs.Binds.{words_after}
+use Rattle.renju_cli.specs.Words.{second_word, words_after}
 
 module _ {X : Type 0} (f : X → List ℕ) where
   -- as many words as there are in the list

@@ -4,21 +4,22 @@ use Rattle.text_lines.specs.Lines.{ended}
 use Rattle.renju_cli.specs.declared.commands.Form.{Form}
 use Rattle.renju_cli.specs.declared.commands.Form.TheVariants.{Check, Foul, Fours, Threats, Solve, Brain, BrainWith, Drill, Referee}
 use Rattle.renju_cli.specs.declared.commands.Form.TheVariants.{RefereeWith, Image, Defend, Bind, Book}
-use Rattle.renju_cli.specs.Forms.{Command, IsSpelled}
-use Rattle.renju_cli.specs.Told.{told}
-use Rattle.renju_cli.specs.Positions.{of_position}
-use Rattle.renju_cli.specs.Checks.{check_command}
-use Rattle.renju_cli.specs.Fouls.{foul_command}
-use Rattle.renju_cli.specs.Fours.{fours_command}
-use Rattle.renju_cli.specs.Threats.{threats_command}
-use Rattle.renju_cli.specs.Solves.{solve_command}
-use Rattle.renju_cli.specs.Brains.{second_word, brain_command, brain_with_command}
-use Rattle.renju_cli.specs.Drills.{drill_command}
-use Rattle.renju_cli.specs.Referees.{referee_command, referee_with_command}
-use Rattle.renju_cli.specs.Images.{image_command}
-use Rattle.renju_cli.specs.Defends.{defend_command}
-use Rattle.renju_cli.specs.Books.{book_command}
-use Rattle.renju_cli.specs.Binds.{bind_command, words_after}
+use Rattle.command_base.specs.Forms.{Command, IsSpelled}
+use Rattle.command_base.specs.Told.{told}
+use Rattle.command_base.specs.Positions.{of_position}
+use Rattle.table_commands.specs.Checks.{check_command}
+use Rattle.position_commands.specs.Fouls.{foul_command}
+use Rattle.position_commands.specs.Fours.{fours_command}
+use Rattle.position_commands.specs.Threats.{threats_command}
+use Rattle.solve_command.specs.Solves.{solve_command}
+use Rattle.renju_cli.specs.Words.{second_word, words_after}
+use Rattle.brain_commands.specs.Brains.{brain_command, brain_with_command}
+use Rattle.brain_commands.specs.Drills.{drill_command}
+use Rattle.table_commands.specs.Referees.{referee_command, referee_with_command}
+use Rattle.table_commands.specs.Images.{image_command}
+use Rattle.position_commands.specs.Defends.{defend_command}
+use Rattle.table_commands.specs.Books.{book_command}
+use Rattle.table_commands.specs.Binds.{bind_command}
 
 -- the command that a form of these words stands for
 abbrev pub command : List (List ℕ) → Form → Command

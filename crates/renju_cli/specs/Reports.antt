@@ -1,8 +1,8 @@
 -- What the program does in a run.
 use Rattle.std.specs.Prelude.{◌⊎◌}
-use Rattle.renju_cli.specs.declared.status.Status.TheVariants.{Usage}
+use Rattle.command_base.specs.declared.status.Status.TheVariants.{Usage}
 use Rattle.renju_cli.specs.declared.commands.Form.{Form}
-use Rattle.renju_cli.specs.Runs.{Run, IsUnasked, IsDelivered}
+use Rattle.command_base.specs.Runs.{Run, IsUnasked, IsDelivered}
 use Rattle.renju_cli.specs.Commands.{command, usage_line, IsForm, HasForm}
 
 -- the words have no form: the usage line is due, and input and shelf are not asked

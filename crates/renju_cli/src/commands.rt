@@ -1,35 +1,23 @@
 //! The commands: their forms of words, told apart by the first word, and what runs each.
 //!
-//! A command stands in a file of its own. Here it has a line in each list: the forms, the first words, and the runs.
+//! A command stands in a file of a crate of commands. Here it has a line in each list: the forms, the first words, and the runs.
 #![tactic(auto)]
 
 ghost use Rattle.std.specs.Prelude.{MatchOption, map, string_bytes};
-ghost use Rattle.renju_cli.specs.Statuses.{status_number};
-ghost use Rattle.renju_cli.specs.Runs.{change, program_run, KeepsDevices};
+ghost use Rattle.command_base.specs.Statuses.{status_number};
+ghost use Rattle.command_base.specs.Runs.{change, program_run, KeepsDevices};
 ghost use Rattle.renju_cli.specs.Commands.{IsForm, HasForm};
 ghost use Rattle.renju_cli.specs.Reports.{Report};
 
-use crate::bind::bind as bind_words;
-use crate::book::CheckBook;
-use crate::brain::{play, play_with};
-use crate::check::Check;
-use crate::defend::Defend;
-use crate::drill::drill;
-use crate::fouls::ListFouls;
-use crate::fours::Fours;
-use crate::image::Image;
-use crate::positions::OfPosition;
-use crate::referee::{Referee, referee_with};
-use crate::solve::Solve;
-use crate::threats::FindSequence;
-use crate::told::{deliver, tell};
-use crate::{
-    Status, bind, book, brain, check, defend, drill as drill_words, fouls, fours, image, referee,
-    solve, threats,
-};
+use crate::forms;
 use board_symmetry::Symmetry;
+use brain_commands::{play, play_with, print_drill};
+use command_base::{OfPosition, Status, deliver, tell};
+use position_commands::{Defend, FindSequence, Fours, ListFouls};
 use renju_io::{Shelf, Sink, Source};
+use solve_command::Solve;
 use std::alloc::Global;
+use table_commands::{Check, CheckBook, Image, Referee, bind_book, referee_with};
 
 /// The line that words without a form are answered with.
 pub const USAGE: &str =
@@ -76,18 +64,18 @@ pub(crate) fn form_of(words: &[String]) -> Option<Form>
         return None;
     };
     match name.as_str() {
-        "check" => check::form(rest),
-        "foul" => fouls::form(rest),
-        "fours" => fours::form(rest),
-        "threats" => threats::form(rest),
-        "solve" => solve::form(rest),
-        "brain" => brain::form(rest),
-        "drill" => drill_words::form(rest),
-        "image" => image::form(rest),
-        "referee" => referee::form(rest),
-        "defend" => defend::form(rest),
-        "bind" => bind::form(rest),
-        "book" => book::form(rest),
+        "check" => forms::check(rest),
+        "foul" => forms::foul(rest),
+        "fours" => forms::fours(rest),
+        "threats" => forms::threats(rest),
+        "solve" => forms::solve(rest),
+        "brain" => forms::brain(rest),
+        "drill" => forms::drill(rest),
+        "image" => forms::image(rest),
+        "referee" => forms::referee(rest),
+        "defend" => forms::defend(rest),
+        "bind" => forms::bind(rest),
+        "book" => forms::book(rest),
         _ => None,
     }
 }
@@ -129,7 +117,7 @@ pub(crate) fn run<I: Source, O: Sink, F: Shelf>(
         ),
         Some(Form::Brain) => play(alloc, None, input, output),
         Some(Form::BrainWith) => play_with(alloc, words[1].as_str(), input, output, shelf),
-        Some(Form::Drill { number }) => drill(alloc, number, output),
+        Some(Form::Drill { number }) => print_drill(alloc, number, output),
         Some(Form::Image { symmetry }) => tell(alloc, &Image { symmetry }, input, output),
         Some(Form::Referee) => tell(alloc, &Referee, input, output),
         Some(Form::RefereeWith) => referee_with(alloc, words[1].as_str(), input, output, shelf),
@@ -139,7 +127,7 @@ pub(crate) fn run<I: Source, O: Sink, F: Shelf>(
             input,
             output,
         ),
-        Some(Form::Bind) => bind_words(alloc, &words[1..], output, shelf),
+        Some(Form::Bind) => bind_book(alloc, &words[1..], output, shelf),
         Some(Form::Book { work }) => tell(alloc, &CheckBook { work }, input, output),
     }
 }

@@ -6,8 +6,8 @@
 ghost use Rattle.std.specs.Prelude.{◌≡◌, ◌≤◌, ℕ, map, MatchOption, string_bytes};
 ghost use Rattle.std.specs.Fmt.{decimal};
 ghost use Rattle.text_lines.specs.Reading.{Reads};
-ghost use Rattle.renju_cli.specs.declared.TheConstants.{MAX_WORK};
-ghost use Rattle.renju_cli.specs.Forms.{AreTwoCounts};
+ghost use Rattle.table_commands.specs.declared.TheConstants.{MAX_WORK};
+ghost use Rattle.renju_cli.specs.Words.{AreTwoCounts};
 
 use text_lines::large_number;
 

@@ -5,19 +5,19 @@
 #![tactic(auto)]
 
 ghost use Rattle.std.specs.Prelude.{map, string_bytes};
-ghost use Rattle.renju_cli.specs.Runs.{change, program_run, KeepsDevices};
-ghost use Rattle.renju_cli.specs.Checks.{ShowsWin};
-ghost use Rattle.renju_cli.specs.Fours.{ShowsSearch};
-ghost use Rattle.renju_cli.specs.Threats.{ShowsSequence};
-ghost use Rattle.renju_cli.specs.Solves.{ShowsSolution};
-ghost use Rattle.renju_cli.specs.Games.{ShowsHeldGames, ShowsOwnGames};
-ghost use Rattle.renju_cli.specs.Drills.{ShowsDrill};
-ghost use Rattle.renju_cli.specs.Referees.{ShowsReferee};
+ghost use Rattle.command_base.specs.Runs.{change, program_run, KeepsDevices};
+ghost use Rattle.table_commands.specs.Checks.{ShowsWin};
+ghost use Rattle.position_commands.specs.Fours.{ShowsSearch};
+ghost use Rattle.position_commands.specs.Threats.{ShowsSequence};
+ghost use Rattle.solve_command.specs.Solves.{ShowsSolution};
+ghost use Rattle.brain_commands.specs.Games.{ShowsHeldGames, ShowsOwnGames};
+ghost use Rattle.brain_commands.specs.Drills.{ShowsDrill};
+ghost use Rattle.table_commands.specs.Referees.{ShowsReferee};
 ghost use Rattle.renju_cli.specs.Reports.{Report, IsComplete};
-ghost use Rattle.renju_cli.specs.Images.{ShowsImage};
-ghost use Rattle.renju_cli.specs.Defends.{ShowsDefence};
-ghost use Rattle.renju_cli.specs.Books.{ShowsBook};
-ghost use Rattle.renju_cli.specs.Binds.{ShowsBinding};
+ghost use Rattle.table_commands.specs.Images.{ShowsImage};
+ghost use Rattle.position_commands.specs.Defends.{ShowsDefence};
+ghost use Rattle.table_commands.specs.Books.{ShowsBook};
+ghost use Rattle.table_commands.specs.Binds.{ShowsBinding};
 
 use crate::commands::run;
 use renju_io::{Shelf, Sink, Source};

@@ -30,7 +30,7 @@ use Rattle.brain_session.specs.HeldGames.{replies, answers_by}
 use Rattle.brain_session.specs.OwnGames.{BeginsOwnGame, win_game, win_attacks, win_answers}
 use Rattle.brain_session.proofs.HeldReplies.{session_by}
 use Rattle.brain_session.proofs.OwnGames.{own-games-go_well}
-use Rattle.renju_cli.specs.Brains.{nothing_held}
+use Rattle.brain_commands.specs.Brains.{nothing_held}
 use Rattle.worked_examples.specs.HeldSessions.{PlaysOwnGame, three_board, blocked_input, passed_input, passed_board, passed_game, one_five}
 use Rattle.worked_examples.proofs.OwnWins.{attack_goes_on, own_win_is, first_move, move-five, replied_board, second_move}
 use Rattle.worked_examples.proofs.TestedTables.{names_lower, lower_by}

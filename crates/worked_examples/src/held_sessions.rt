@@ -4,7 +4,7 @@
 ghost use Rattle.brain_session.specs.Sessions.{session_text};
 ghost use Rattle.brain_session.specs.ChosenMoves.{first_node};
 ghost use Rattle.brain_session.specs.States.{new_brain, point_at};
-ghost use Rattle.renju_cli.specs.Brains.{nothing_held};
+ghost use Rattle.brain_commands.specs.Brains.{nothing_held};
 ghost use Rattle.gomocup_text.specs.declared.Answer.TheVariants.{Move, Error};
 ghost use Rattle.gomocup_text.specs.declared.ErrorText.TheVariants.{OpponentFoul};
 ghost use Rattle.std.specs.Prelude.{◌≡◌, [], ◌∷◌, Some, codes};

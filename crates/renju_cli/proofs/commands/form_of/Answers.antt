@@ -20,86 +20,86 @@ returns-in_default c = record { form = λ h. no-words (subst HasForm (none strin
 
 pub returns-in-check : goal.returns-in-check
 returns-in-check c = record {
-  form = told-of c.form.result _ _ (codes "check") _
+  form = told-of c.check.result _ _ (codes "check") _
       (first-word string_bytes c.args.words.now c.name-item.result c.in-len1-up.len_at_least c.name-item.is)
-      (sym c.as_str.ensures.value ∙ c.in-check.is) c.form.ensures.form;
+      (sym c.as_str.ensures.value ∙ c.in-check.is) c.check.ensures.form;
 }
 
 pub returns-in-foul : goal.returns-in-foul
 returns-in-foul c = record {
-  form = told-of c.form-in-foul.result _ _ (codes "foul") _
+  form = told-of c.foul.result _ _ (codes "foul") _
       (first-word string_bytes c.args.words.now c.name-item.result c.in-len1-up.len_at_least c.name-item.is)
-      (sym c.as_str.ensures.value ∙ c.in-foul.is) c.form-in-foul.ensures.form;
+      (sym c.as_str.ensures.value ∙ c.in-foul.is) c.foul.ensures.form;
 }
 
 pub returns-in-fours : goal.returns-in-fours
 returns-in-fours c = record {
-  form = told-of c.form-in-fours.result _ _ (codes "fours") _
+  form = told-of c.fours.result _ _ (codes "fours") _
       (first-word string_bytes c.args.words.now c.name-item.result c.in-len1-up.len_at_least c.name-item.is)
-      (sym c.as_str.ensures.value ∙ c.in-fours.is) c.form-in-fours.ensures.form;
+      (sym c.as_str.ensures.value ∙ c.in-fours.is) c.fours.ensures.form;
 }
 
 pub returns-in-threats : goal.returns-in-threats
 returns-in-threats c = record {
-  form = told-of c.form-in-threats.result _ _ (codes "threats") _
+  form = told-of c.threats.result _ _ (codes "threats") _
       (first-word string_bytes c.args.words.now c.name-item.result c.in-len1-up.len_at_least c.name-item.is)
-      (sym c.as_str.ensures.value ∙ c.in-threats.is) c.form-in-threats.ensures.form;
+      (sym c.as_str.ensures.value ∙ c.in-threats.is) c.threats.ensures.form;
 }
 
 pub returns-in-solve : goal.returns-in-solve
 returns-in-solve c = record {
-  form = told-of c.form-in-solve.result _ _ (codes "solve") _
+  form = told-of c.solve.result _ _ (codes "solve") _
       (first-word string_bytes c.args.words.now c.name-item.result c.in-len1-up.len_at_least c.name-item.is)
-      (sym c.as_str.ensures.value ∙ c.in-solve.is) c.form-in-solve.ensures.form;
+      (sym c.as_str.ensures.value ∙ c.in-solve.is) c.solve.ensures.form;
 }
 
 pub returns-in-brain : goal.returns-in-brain
 returns-in-brain c = record {
-  form = told-of c.form-in-brain.result _ _ (codes "brain") _
+  form = told-of c.brain.result _ _ (codes "brain") _
       (first-word string_bytes c.args.words.now c.name-item.result c.in-len1-up.len_at_least c.name-item.is)
-      (sym c.as_str.ensures.value ∙ c.in-brain.is) c.form-in-brain.ensures.form;
+      (sym c.as_str.ensures.value ∙ c.in-brain.is) c.brain.ensures.form;
 }
 
 pub returns-in-drill : goal.returns-in-drill
 returns-in-drill c = record {
-  form = told-of c.form-in-drill.result _ _ (codes "drill") _
+  form = told-of c.drill.result _ _ (codes "drill") _
       (first-word string_bytes c.args.words.now c.name-item.result c.in-len1-up.len_at_least c.name-item.is)
-      (sym c.as_str.ensures.value ∙ c.in-drill.is) c.form-in-drill.ensures.form;
+      (sym c.as_str.ensures.value ∙ c.in-drill.is) c.drill.ensures.form;
 }
 
 pub returns-in-image : goal.returns-in-image
 returns-in-image c = record {
-  form = told-of c.form-in-image.result _ _ (codes "image") _
+  form = told-of c.image.result _ _ (codes "image") _
       (first-word string_bytes c.args.words.now c.name-item.result c.in-len1-up.len_at_least c.name-item.is)
-      (sym c.as_str.ensures.value ∙ c.in-image.is) c.form-in-image.ensures.form;
+      (sym c.as_str.ensures.value ∙ c.in-image.is) c.image.ensures.form;
 }
 
 pub returns-in-referee : goal.returns-in-referee
 returns-in-referee c = record {
-  form = told-of c.form-in-referee.result _ _ (codes "referee") _
+  form = told-of c.referee.result _ _ (codes "referee") _
       (first-word string_bytes c.args.words.now c.name-item.result c.in-len1-up.len_at_least c.name-item.is)
-      (sym c.as_str.ensures.value ∙ c.in-referee.is) c.form-in-referee.ensures.form;
+      (sym c.as_str.ensures.value ∙ c.in-referee.is) c.referee.ensures.form;
 }
 
 pub returns-in-defend : goal.returns-in-defend
 returns-in-defend c = record {
-  form = told-of c.form-in-defend.result _ _ (codes "defend") _
+  form = told-of c.defend.result _ _ (codes "defend") _
       (first-word string_bytes c.args.words.now c.name-item.result c.in-len1-up.len_at_least c.name-item.is)
-      (sym c.as_str.ensures.value ∙ c.in-defend.is) c.form-in-defend.ensures.form;
+      (sym c.as_str.ensures.value ∙ c.in-defend.is) c.defend.ensures.form;
 }
 
 pub returns-in-book : goal.returns-in-book
 returns-in-book c = record {
-  form = told-of c.form-in-book.result _ _ (codes "book") _
+  form = told-of c.book.result _ _ (codes "book") _
       (first-word string_bytes c.args.words.now c.name-item.result c.in-len1-up.len_at_least c.name-item.is)
-      (sym c.as_str.ensures.value ∙ c.in-book.is) c.form-in-book.ensures.form;
+      (sym c.as_str.ensures.value ∙ c.in-book.is) c.book.ensures.form;
 }
 
 pub returns-in-bind : goal.returns-in-bind
 returns-in-bind c = record {
-  form = told-of c.form-in-bind.result _ _ (codes "bind") _
+  form = told-of c.bind.result _ _ (codes "bind") _
       (first-word string_bytes c.args.words.now c.name-item.result c.in-len1-up.len_at_least c.name-item.is)
-      (sym c.as_str.ensures.value ∙ c.in-bind.is) c.form-in-bind.ensures.form;
+      (sym c.as_str.ensures.value ∙ c.in-bind.is) c.bind.ensures.form;
 }
 
 -- the first word is that of no command

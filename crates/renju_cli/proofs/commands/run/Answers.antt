@@ -3,10 +3,10 @@ use Rattle.std.specs.Prelude.{map, string_bytes}
 use Rattle.renju_io.proofs.AskedCalls.{by_each_none}
 use Rattle.renju_cli.specs.declared.commands.Form.{Form}
 use Rattle.renju_cli.specs.declared.commands.Form.TheVariants.{BrainWith, RefereeWith, Bind}
-use Rattle.renju_cli.specs.Statuses.{status_number}
-use Rattle.renju_cli.specs.declared.status.Status.TheVariants.{Usage}
-use Rattle.renju_cli.specs.Runs.{Run, IsDelivered, program_run, change}
-use Rattle.renju_cli.specs.Brains.{second_word}
+use Rattle.command_base.specs.Statuses.{status_number}
+use Rattle.command_base.specs.declared.status.Status.TheVariants.{Usage}
+use Rattle.command_base.specs.Runs.{Run, IsDelivered, program_run, change}
+use Rattle.renju_cli.specs.Words.{second_word}
 use Rattle.renju_cli.specs.Commands.{IsForm}
 use Rattle.renju_cli.proofs.Words.{same-count, word-after, words-after}
 use Rattle.renju_cli.proofs.ReportLaws.{bind-reported, file-reported, game-reported}
@@ -41,12 +41,12 @@ pub returns-in-Some-Bind-clause-devices : goal.returns-in-Some-Bind-clause-devic
 returns-in-Some-Bind-clause-devices g c = record {
   taken = by_each_none (g.I.Source.left c.args.input.now) (g.I.Source.asked c.args.input.now);
   input = omega arith;
-  output = c.bind.ensures.output;
-  shelf = c.bind.ensures.shelf;
-  files = c.bind.ensures.files;
+  output = c.bind_book.ensures.output;
+  shelf = c.bind_book.ensures.shelf;
+  files = c.bind_book.ensures.files;
   reads = λ _. refl;
-  writes = c.bind.ensures.writes;
-  loads = c.bind.ensures.loads;
+  writes = c.bind_book.ensures.writes;
+  loads = c.bind_book.ensures.loads;
 }
 
 -- the file is the second word
@@ -85,8 +85,8 @@ pub returns-in-Some-Bind-clause-report : goal.returns-in-Some-Bind-clause-report
 returns-in-Some-Bind-clause-report g c =
     let words = map string_bytes c.args.words.now in
     let input = change g.I.Source.left g.I.Source.faults g.I.Source.asked c.args.input.now c.args.input.now in
-    let run : Run = program_run words input (change g.O.Sink.written g.O.Sink.faults g.O.Sink.asked c.args.output.now c.bind.new.output)
-    (change g.F.Shelf.files g.F.Shelf.faults g.F.Shelf.asked c.args.shelf.now c.bind.new.shelf) (status_number c.bind.result) in
+    let run : Run = program_run words input (change g.O.Sink.written g.O.Sink.faults g.O.Sink.asked c.args.output.now c.bind_book.new.output)
+    (change g.F.Shelf.files g.F.Shelf.faults g.F.Shelf.asked c.args.shelf.now c.bind_book.new.shelf) (status_number c.bind_book.result) in
     let form : IsForm words Bind = subst (λ (f : Form). IsForm words f) c.in-Some-Bind.field-0-is c.in-Some-Bind.ensures.form in
     bind-reported run _ form (words-after string_bytes c.args.words.now)
-    (c.bind.ensures.binds words input (record { same = refl; faults = refl; asked = refl }))
+    (c.bind_book.ensures.binds words input (record { same = refl; faults = refl; asked = refl }))

@@ -2,32 +2,35 @@
 use Rattle.std.proofs.Common.{◌≡◌, sym, ap, subst, ℕ, List}
 use Rattle.renju_cli.specs.declared.commands.Form.TheVariants.{Check, Fours, Threats, Solve, Brain, BrainWith, Drill, Image, Book}
 use Rattle.renju_cli.specs.declared.commands.Form.TheVariants.{RefereeWith, Defend, Bind}
-use Rattle.renju_cli.specs.Runs.{Run}
-use Rattle.renju_cli.specs.Forms.{HasWords}
-use Rattle.renju_cli.specs.Checks.{ShowsWin}
-use Rattle.renju_cli.specs.Fours.{ShowsSearch}
-use Rattle.renju_cli.specs.Threats.{ShowsSequence}
-use Rattle.renju_cli.specs.Solves.{ShowsSolution}
-use Rattle.renju_cli.specs.Brains.{brain_with_words, IsFileName, second_word, IsBrainWith}
-use Rattle.renju_cli.specs.Games.{ShowsHeldGames, ShowsOwnGames}
-use Rattle.renju_cli.specs.Drills.{ShowsDrill}
-use Rattle.renju_cli.specs.Images.{ShowsImage}
-use Rattle.renju_cli.specs.Referees.{referee_with_words, IsRefereeWith, ShowsReferee}
-use Rattle.renju_cli.specs.Defends.{ShowsDefence}
-use Rattle.renju_cli.specs.Binds.{AreNames, IsBind, ShowsBinding, bind_words, words_after}
-use Rattle.renju_cli.specs.Books.{ShowsBook}
+use Rattle.command_base.specs.Runs.{Run}
+use Rattle.command_base.specs.Forms.{HasWords}
+use Rattle.table_commands.specs.Checks.{ShowsWin}
+use Rattle.position_commands.specs.Fours.{ShowsSearch}
+use Rattle.position_commands.specs.Threats.{ShowsSequence}
+use Rattle.solve_command.specs.Solves.{ShowsSolution}
+use Rattle.brain_commands.specs.Brains.{brain_with_words, IsBrainWith}
+use Rattle.file_loading.specs.HeldFiles.{IsFileName}
+use Rattle.renju_cli.specs.Words.{second_word}
+use Rattle.brain_commands.specs.Games.{ShowsHeldGames, ShowsOwnGames}
+use Rattle.brain_commands.specs.Drills.{ShowsDrill}
+use Rattle.table_commands.specs.Images.{ShowsImage}
+use Rattle.table_commands.specs.Referees.{referee_with_words, IsRefereeWith, ShowsReferee}
+use Rattle.position_commands.specs.Defends.{ShowsDefence}
+use Rattle.table_commands.specs.Binds.{AreNames, IsBind, ShowsBinding, bind_words}
+use Rattle.renju_cli.specs.Words.{words_after}
+use Rattle.table_commands.specs.Books.{ShowsBook}
 use Rattle.renju_cli.specs.Reports.{Report}
-use Rattle.renju_cli.proofs.CheckLaws.{check-won}
-use Rattle.renju_cli.proofs.FoursLaws.{fours-searched}
-use Rattle.renju_cli.proofs.ThreatsLaws.{threats-searched}
-use Rattle.renju_cli.proofs.SolveLaws.{solve-shown}
-use Rattle.renju_cli.proofs.GameLaws.{brain-plays, brain-plays-own, file-plays-own}
-use Rattle.renju_cli.proofs.DrillLaws.{drill-shown}
-use Rattle.renju_cli.proofs.ImageLaws.{image-shown}
-use Rattle.renju_cli.proofs.RefereeLaws.{referee-shown}
-use Rattle.renju_cli.proofs.DefendLaws.{defend-shown}
-use Rattle.renju_cli.proofs.BindLaws.{bind-shown}
-use Rattle.renju_cli.proofs.BookLaws.{book-shown}
+use Rattle.table_commands.proofs.CheckLaws.{check-won}
+use Rattle.position_commands.proofs.FoursLaws.{fours-searched}
+use Rattle.position_commands.proofs.ThreatsLaws.{threats-searched}
+use Rattle.solve_command.proofs.SolveLaws.{solve-shown}
+use Rattle.brain_commands.proofs.GameLaws.{brain-plays, brain-plays-own, file-plays-own}
+use Rattle.brain_commands.proofs.DrillLaws.{drill-shown}
+use Rattle.table_commands.proofs.ImageLaws.{image-shown}
+use Rattle.table_commands.proofs.RefereeLaws.{referee-shown}
+use Rattle.position_commands.proofs.DefendLaws.{defend-shown}
+use Rattle.table_commands.proofs.BindLaws.{bind-shown}
+use Rattle.table_commands.proofs.BookLaws.{book-shown}
 use Rattle.renju_cli.proofs.ReportLaws.{does-of, has_words, report-complete}
 use Rattle.renju_cli.proofs.run.run_renju.Goals as goal
 

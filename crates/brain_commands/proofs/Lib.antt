@@ -1,0 +1,3 @@
+pub mod BrainLaws
+pub mod GameLaws
+pub mod DrillLaws

@@ -1,0 +1,3 @@
+pub mod TableFileLaws
+pub mod BookFileLaws
+pub mod HeldFileLaws

@@ -1,0 +1,43 @@
+use Rattle.std.proofs.Common.{inl, inr, ap}
+use Rattle.std.proofs.lemmas.Result.{IfOk-weaker}
+use Rattle.std.specs.Prelude.{Err}
+use Rattle.command_base.specs.declared.answer.Answer.{Answer}
+use Rattle.command_base.specs.Runs.{change}
+use Rattle.file_loading.specs.HeldFiles.{IsLoaded}
+use Rattle.file_loading.specs.Loading.{IsLoadedAs, IsLoadedFrom}
+use Rattle.file_loading.proofs.HeldFileLaws.{loaded-from, long-file}
+use Rattle.file_loading.proofs.loading.load_file.Goals as goal
+
+pub returns-in-Ok-clause-loaded : goal.returns-in-Ok-clause-loaded
+returns-in-Ok-clause-loaded g c =
+    let shelf = change g.F.Shelf.files g.F.Shelf.faults g.F.Shelf.asked c.args.shelf.now c.load.new.self in
+    let loaded : IsLoaded shelf c.args.file.now c.as_slice.result.now =
+    rw c.as_slice.ensures.value (record { found = c.in-Ok.ensures.found; sound = c.in-Ok.ensures.uncounted }) in
+    IfOk-weaker c.load_text.result (IsLoadedAs c.args.holdable c.as_slice.result.now)
+    (IsLoadedFrom c.args.holdable shelf c.args.file.now)
+    (λ text. loaded-from c.args.holdable shelf c.args.file.now c.as_slice.result.now loaded
+    (rw c.as_slice.ensures.value c.in-Ok.ensures.short)
+    text)
+    c.load_text.ensures.loaded
+
+pub returns-in-Err-Failed-clause-loaded : goal.returns-in-Err-Failed-clause-loaded
+returns-in-Err-Failed-clause-loaded g c = inr (inr (record {
+  failed = c.in-Err-Failed.ensures.failed (ap Err c.in-Err-Failed.field-0-is);
+  ends = ap (λ (a : Answer). a.status) c.fixed.ensures.answer;
+  line = ap (λ (a : Answer). a.text) c.fixed.ensures.answer;
+}))
+
+pub returns-in-Err-TooLong-clause-loaded : goal.returns-in-Err-TooLong-clause-loaded
+returns-in-Err-TooLong-clause-loaded g c =
+    let long = long-file c.args.file.now _ (c.in-Err-TooLong.ensures.too_long (ap Err c.in-Err-TooLong.field-0-is)) in
+    inr (inl (record {
+      bytes = long.0;
+      loaded = record {
+        found = long.1;
+        sound = c.in-Err-TooLong.ensures.not_failed
+            (let is = c.in-Err-TooLong.field-0-is in λ failed. absurd (cc));
+      };
+      long = long.2;
+      ends = ap (λ (a : Answer). a.status) c.fixed-in-Err-TooLong.ensures.answer;
+      line = ap (λ (a : Answer). a.text) c.fixed-in-Err-TooLong.ensures.answer;
+    }))

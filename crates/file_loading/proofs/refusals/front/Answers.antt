@@ -1,0 +1,7 @@
+use Rattle.std.proofs.Common.{append_assoc}
+use Rattle.std.specs.Prelude.{string_bytes}
+use Rattle.text_lines.proofs.TextLaws.{regroup}
+use Rattle.file_loading.proofs.refusals.front.Goals as goal
+
+pub returns : goal.returns
+returns c = record { front = regroup string_bytes c.format.result _ _ (simp append_assoc) c.format.ensures.ok }

@@ -1,0 +1,160 @@
+-- The command `defend`: its words, its answers, and what its statuses show.
+use Rattle.std.proofs.Common.{◌≡◌, inl, inr, sym, ap, subst, ◌∙◌, ◌⊎◌, ℕ, ◌*◌, ◌≤◌, Bool, true, false, cond}
+use Rattle.std.proofs.Common.{List, [], ◌∷◌, length, Option, Some, None, MatchOption, arith}
+use Rattle.std.specs.Prelude.{IfOk, IfSome, Result, Ok, Err}
+use Rattle.std.specs.List.{sum_by}
+use Rattle.std.proofs.lemmas.List.Sums.{sum_by-cons}
+use Rattle.game_rules.proofs.Common.{Grid, IsBoard, is_empty, points_of}
+use Rattle.game_rules.specs.declared.RuleKind.{RuleKind}
+use Rattle.game_rules.specs.declared.Point.{Point}
+use Rattle.game_rules.proofs.Places.{points_few}
+use Rattle.strategy_graph.specs.declared.Node.{Node}
+use Rattle.strategy_graph.specs.declared.Reply.{Reply}
+use Rattle.strategy_graph.specs.declared.roots.Root.TheVariants.{Defend}
+use Rattle.strategy_graph.specs.Tables.{Answers, start_depth}
+use Rattle.strategy_compiler.specs.Starts.{IsMadeOfAnswers}
+use Rattle.position_files.specs.Tables.{IsTextOfTable}
+use Rattle.defence_finder.specs.Defences.{defences_of, first_spent, IsShortAfter}
+use Rattle.defence_finder.specs.Answers.{AreBeaten, IsLostStart, nodes_after, most_nodes}
+use Rattle.defence_finder.proofs.Telling.{spent-told}
+use Rattle.defence_finder.proofs.Losing.{beaten-replies-win, no_defence-loses}
+use Rattle.position_files.specs.declared.PositionFile.{PositionFile}
+use Rattle.renju_io.specs.Told.{Takes}
+use Rattle.command_base.specs.declared.answer.Answer.{Answer}
+use Rattle.command_base.specs.declared.status.Status.{Status}
+use Rattle.command_base.specs.declared.status.Status.TheVariants.{Done}
+use Rattle.command_base.specs.Statuses.{status_number}
+use Rattle.command_base.specs.Runs.{Run}
+use Rattle.command_base.specs.Told.{IsTold, IsYielded}
+use Rattle.command_base.specs.Positions.{SaysOfPosition}
+use Rattle.command_base.specs.Searches.{ShowsOfPosition}
+use Rattle.position_commands.specs.Defends.{DefenceSays, IsEnoughAfterEach, IsJudgedDefence, IsLostText, ListsDefences, SpeaksOfDefence}
+use Rattle.position_commands.specs.Defends.{WritesStart, defend_command, first_spent_at}
+use Rattle.command_base.proofs.PositionLaws.{file_at, shows-of-position}
+
+-- ---- the budget
+
+module _ (limit nodes : ℕ) (file : PositionFile) where
+  pub enough-at : first_spent_at limit nodes file ≡ None → IsEnoughAfterEach limit nodes file
+  enough-at e =
+      subst (λ (o : Option Point). MatchOption o (IsEnoughAfterEach limit nodes file) (IsShortAfter file.kind limit nodes file.board)) e
+      (spent-told file.kind limit nodes file.board)
+
+  pub short-at : (q : Point) → first_spent_at limit nodes file ≡ Some q → IsShortAfter file.kind limit nodes file.board q
+  short-at q e =
+      subst (λ (o : Option Point). MatchOption o (IsEnoughAfterEach limit nodes file) (IsShortAfter file.kind limit nodes file.board)) e
+      (spent-told file.kind limit nodes file.board)
+
+-- what is said of a position where the budget is enough after each move is an answer
+pub defend-answers : (limit nodes : ℕ) (file : PositionFile) → (defend_command limit nodes).IsEnough file → (status : Status)
+    (text : List ℕ) → DefenceSays limit nodes file status text → (defend_command limit nodes).IsAnswer status
+defend-answers limit nodes file enough status text (inl list) = list.ends
+defend-answers limit nodes file enough status text (inr (inl lost)) = lost.ends
+defend-answers limit nodes file enough status text (inr (inr spent)) =
+    let short = short-at limit nodes file spent.at spent.first in
+    let few = enough spent.at short.0 in
+    let more = short.1 in
+    absurd (omega (arith, few, more))
+
+-- ---- what is said of the position at a board under a rule
+
+-- the start that is made of the answers to the beaten moves, and its text
+module _ (limit : ℕ) (kind : RuleKind) (b : Grid) (t : List Node) (bad given : List Reply) (same : given ≡ bad)
+    (none : defences_of kind limit b ≡ []) (beaten : AreBeaten kind limit b t bad) (u : List Node) (a : Answers)
+    (made : IsMadeOfAnswers t given u a) where
+  pub lost-made : IsLostStart kind limit b u a
+  lost-made = beaten-replies-win kind limit b t bad u a none beaten (subst (λ (rs : List Reply). IsMadeOfAnswers t rs u a) same made)
+
+  pub lost-text : length u ≤ most_nodes limit b → (moves : ℕ) → moves ≡ start_depth u a → (text : List ℕ)
+      → IsTextOfTable (record { kind = kind; board = b; table = u; root = Defend a; moves = moves }) text
+      → IsLostText limit (file_at kind b) text
+  lost-text few moves deep text written = record {
+    table = u;
+    start = a;
+    accepted = lost-made.accepted;
+    within = lost-made.within;
+    different = made.different;
+    reached = made.reached;
+    few = few;
+    written = subst (λ (m : ℕ). IsTextOfTable (record { kind = kind; board = b; table = u; root = Defend a; moves = m }) text) deep written;
+  }
+
+-- where no move holds, the text of that start is what is said
+pub lost-says : {E : Type 0} (limit nodes : ℕ) (rule : RuleKind) (p : Grid) (r : Result Answer E) (b : Grid) (t : List Node)
+    (bad : List Reply) → b ≡ p → defences_of rule limit p ≡ [] → None ≡ first_spent rule limit nodes p → AreBeaten rule limit p t bad
+    → length t ≤ most_nodes limit p → IfOk r (λ a. a.status ≡ Done)
+    → IfOk r (λ a. (limit : ℕ) → defences_of rule limit b ≡ [] → AreBeaten rule limit b t bad → length t ≤ most_nodes limit b
+    → IsLostText limit (file_at rule b) a.text) → IfOk r (λ a. DefenceSays limit nodes (file_at rule p) a.status a.text)
+lost-says limit nodes rule p (Err e) b t bad there none enough beaten short done text = tt
+lost-says limit nodes rule p (Ok a) b t bad there none enough beaten short done text =
+    let at : (limit : ℕ) → defences_of rule limit p ≡ [] → AreBeaten rule limit p t bad → length t ≤ most_nodes limit p
+    → IsLostText limit (file_at rule p) a.text =
+    subst (λ (c : Grid). (limit : ℕ) → defences_of rule limit c ≡ [] → AreBeaten rule limit c t bad → length t ≤ most_nodes limit c
+    → IsLostText limit (file_at rule c) a.text) there text in
+    inr (inl (record { enough = sym enough; none = none; ends = done; lost = at limit none beaten short }))
+
+-- ---- a new compiler has room
+
+one-few : (n : ℕ) (b : Grid) (q : Point) → n ≤ 60 → nodes_after n b q ≤ 120
+one-few n b q few = by_test (is_empty b q) where
+  by_test : (r : Bool) → cond r (2 * n) 0 ≤ 120
+  by_test true = omega (arith, few)
+  by_test false = omega arith
+
+all-few : (n : ℕ) (b : Grid) → n ≤ 60 → (ps : List Point) → sum_by (nodes_after n b) ps ≤ 120 * length ps
+all-few n b few [] = omega arith
+all-few n b few (q ∷ ps) = let split = sum_by-cons (nodes_after n b) q ps in omega (arith, split, one-few n b q few, all-few n b few ps)
+
+pub few-nodes : (n : ℕ) (b : Grid) → n ≤ 60 → IsBoard b → most_nodes n b ≤ 122880
+few-nodes n b few board = omega (arith, all-few n b few (points_of b), points_few b board)
+
+-- ---- the statuses
+
+-- a status that stands in place of others speaks of no position, nor does that of a refused text
+silent : (number : ℕ) → IsYielded number ⊎ (number ≡ 3) → SpeaksOfDefence number → ⊥
+silent number other e = grind arith
+
+module _ (limit nodes : ℕ) (run : Run) where
+  done-judged : (file : PositionFile) → run.status ≡ 0 → IsEnoughAfterEach limit nodes file
+      → ListsDefences limit file run.output ⊎ WritesStart limit file run.output → IsJudgedDefence limit nodes file run
+  done-judged file here enough said = record {
+    found = λ e. (enough, said);
+    spent = λ (e : run.status ≡ 5). absurd (omega (arith, here, e));
+    only = inl (inl here);
+  }
+
+  judged-by : (file : PositionFile) (status : Status) (text : List ℕ) → run.status ≡ status_number status
+      → Takes run.output.before text run.output.after → DefenceSays limit nodes file status text → IsJudgedDefence limit nodes file run
+  judged-by file status text ends whole (inl list) =
+      done-judged file (ends ∙ ap status_number list.ends) (enough-at limit nodes file list.enough)
+      (inl (record { some = list.some; whole = subst (λ (t : List ℕ). Takes run.output.before t run.output.after) list.list whole }))
+  judged-by file status text ends whole (inr (inl lost)) =
+      done-judged file (ends ∙ ap status_number lost.ends) (enough-at limit nodes file lost.enough)
+      (inr (record {
+        none = lost.none;
+        text = text;
+        lost = lost.lost;
+        whole = whole;
+        loses = no_defence-loses file.kind limit file.board lost.none;
+      }))
+  judged-by file status text ends whole (inr (inr spent)) =
+      let here = ends ∙ ap status_number spent.ends in
+      record {
+        found = λ (e : run.status ≡ 0). absurd (omega (arith, here, e));
+        spent = λ e. (spent.at, short-at limit nodes file spent.at spent.first);
+        only = inl (inr here);
+      }
+
+  yielded-judged : (file : PositionFile) → IsYielded run.status → IsJudgedDefence limit nodes file run
+  yielded-judged file y = record {
+    found = λ e. absurd (silent run.status (inl y) (inl e));
+    spent = λ e. absurd (silent run.status (inl y) (inr e));
+    only = inr y;
+  }
+
+  -- what `defend` did in a run
+  pub defend-shown : IsTold (SaysOfPosition (DefenceSays limit nodes)) run
+      → IfSome run.input.before (ShowsOfPosition (SpeaksOfDefence run.status) (λ file. IsJudgedDefence limit nodes file run))
+  defend-shown =
+      shows-of-position (DefenceSays limit nodes) SpeaksOfDefence silent run (λ file. IsJudgedDefence limit nodes file run) judged-by
+      yielded-judged

@@ -1,0 +1,5 @@
+pub mod Searches
+pub mod FoulLaws
+pub mod FoursLaws
+pub mod ThreatsLaws
+pub mod DefendLaws

@@ -1,0 +1,9 @@
+use Rattle.std.proofs.Common.{◌≡◌, ◌++◌, take}
+use Rattle.std.specs.Prelude.{string_bytes}
+use Rattle.std.specs.List.{flat_map}
+use Rattle.position_commands.specs.Threats.{threat_line}
+use Rattle.position_commands.proofs.threats.push_threats.Given as goal
+
+-- the lines so far stand behind the text
+abbrev pub invariant-loop-threat : goal.invariant-loop-threat
+invariant-loop-threat l = string_bytes l.text ≡ string_bytes l.fn.text ++ flat_map threat_line (take l.threat-index l.threats)

@@ -1,7 +1,0 @@
-use Rattle.std.proofs.Common.{append_assoc}
-use Rattle.std.specs.Prelude.{string_bytes}
-use Rattle.text_lines.proofs.TextLaws.{regroup}
-use Rattle.renju_cli.proofs.refusals.uneven.Goals as goal
-
-pub returns : goal.returns
-returns c = record { line = regroup string_bytes c.format.result _ _ (simp append_assoc) c.format.ensures.ok }

@@ -1,0 +1,142 @@
+-- What is said of the position of a text, by the step of `solve` that decides.
+use Rattle.std.proofs.Common.{◌≡◌, true, false, ◌↔◌, inl, inr, ℕ, ◌*◌, ◌<◌, ◌≤◌, sym, subst, ◌∙◌, List}
+use Rattle.std.proofs.Common.{length, arith}
+use Rattle.std.specs.Prelude.{Result, Ok, Err, IfOk}
+use Rattle.std.proofs.lemmas.Bool.{true_from_ne_false}
+use Rattle.game_rules.specs.Games.{has_threat}
+use Rattle.game_rules.proofs.Games.{WinsUnder-more}
+use Rattle.game_rules.specs.Grid.{Grid}
+use Rattle.game_rules.specs.declared.RuleKind.{RuleKind}
+use Rattle.strategy_graph.specs.declared.Node.{Node}
+use Rattle.strategy_compiler.specs.declared.wins.WrittenWin.{WrittenWin}
+use Rattle.strategy_compiler.specs.Wins.{IsWrittenWin}
+use Rattle.strategy_compiler.proofs.Growing.{win-within}
+use Rattle.four_search.specs.Answers.{IsFourWin}
+use Rattle.four_search.specs.FourGame.{four_cost}
+use Rattle.threat_moves.specs.declared.threat_list.Threat.{Threat}
+use Rattle.line_proof.specs.Lines.{line_wins, line_tree}
+use Rattle.line_proof.specs.declared.proof.LineAnswer.{LineAnswer}
+use Rattle.line_proof.specs.declared.proof.LineAnswer.TheVariants.{Proved, Fails}
+use Rattle.threat_game.specs.ThreatGame.{threat_tree}
+use Rattle.threat_game.proofs.TreeLaws.{tree-more}
+use Rattle.position_files.specs.declared.PositionFile.{PositionFile}
+use Rattle.command_base.specs.declared.answer.Answer.{Answer}
+use Rattle.command_base.specs.declared.status.Status.TheVariants.{Done, NotFound, Spent, Full}
+use Rattle.position_commands.specs.Fours.{IsFourText, IsShortWinText}
+use Rattle.command_base.specs.Texts.{none_line, spent_line, full_line}
+use Rattle.solve_command.specs.declared.solve.Searched.TheVariants.{Win, None as NoWin}
+use Rattle.solve_command.specs.Solves.{SolutionSays, IsWonByFours, IsFirstLine, IsLeftOver, IsToldByThreats, MayBeTooGreat}
+use Rattle.command_base.proofs.PositionLaws.{file_at}
+use Rattle.position_commands.proofs.Searches.{not-above}
+
+-- a line that is proved wins
+pub line-proved : (rule : RuleKind) (line : List Threat) (n : ℕ) (b : Grid) (a : LineAnswer) (win : WrittenWin) → a ≡ Proved win
+    → (a ≡ Fails) ↔ (line_wins rule line n b ≡ false) → line_wins rule line n b ≡ true
+line-proved rule line n b a win e fails =
+    true_from_ne_false (line_wins rule line n b) (λ f. let no : Proved win ≡ Fails = sym e ∙ fails.1 f in absurd (cc))
+
+module _ {E : Type 0} (r : Result Answer E) (limit nodes : ℕ) (rule : RuleKind) (p b : Grid) (there : b ≡ p) (compiled : List Node)
+    (win : WrittenWin) where
+  -- the text of a win that is written has a table that is no longer than the compiler
+  written-text : (a : Answer) → IsWrittenWin rule limit p compiled win
+      → ((limit : ℕ) → IsWrittenWin rule limit b compiled win → IsShortWinText limit (length compiled) (file_at rule b) a.text)
+      → IsShortWinText limit (length compiled) (file_at rule p) a.text
+  written-text a is shown =
+      let at : IsWrittenWin rule limit b compiled win = subst (λ (c : Grid). IsWrittenWin rule limit c compiled win) (sym there) is in
+      subst (λ (c : Grid). IsShortWinText limit (length compiled) (file_at rule c) a.text) there (shown limit at)
+
+  -- the text of the table of a win of the first step is what is said
+  pub first-says : IsFourWin rule limit p compiled win → length compiled ≤ 2 * win.moves → (nodes < four_cost rule limit p → ⊥)
+      → IfOk r (λ a. a.status ≡ Done) → IfOk r (λ a. (limit : ℕ) → IsFourWin rule limit b compiled win
+      → length compiled ≤ 2 * win.moves → IsFourText limit (file_at rule b) a.text) → IfOk r (λ a. (limit : ℕ)
+      → IsWrittenWin rule limit b compiled win → IsShortWinText limit (length compiled) (file_at rule b) a.text)
+      → IfOk r (λ a. SolutionSays limit nodes (file_at rule p) a.status a.text)
+  first-says is short few done text shown = elim r as (λ (r : Result Answer E). IfOk r (λ a. a.status ≡ Done)
+      → IfOk r (λ a. (limit : ℕ) → IsFourWin rule limit b compiled win → length compiled ≤ 2 * win.moves
+      → IsFourText limit (file_at rule b) a.text) → IfOk r (λ a. (limit : ℕ) → IsWrittenWin rule limit b compiled win
+      → IsShortWinText limit (length compiled) (file_at rule b) a.text)
+      → IfOk r (λ a. SolutionSays limit nodes (file_at rule p) a.status a.text)) [
+        | Ok a ↦ λ done text shown.
+            let at : IsFourWin rule limit b compiled win = subst (λ (c : Grid). IsFourWin rule limit c compiled win) (sym there) is in
+            let written : IsFourText limit (file_at rule p) a.text =
+            subst (λ (c : Grid). IsFourText limit (file_at rule c) a.text) there (text limit at short) in
+            let win_text : IsShortWinText limit (length compiled) (file_at rule p) a.text = written-text a is.written shown in
+            inl (record {
+              found = record { enough = not-above nodes (four_cost rule limit p) few; win = written; ends = done };
+              win = win_text.0;
+              few = let table = win_text.1 in let within = is.written.within in omega (arith, table, short, within);
+            })
+        | Err e ↦ λ done text shown. tt
+      ] done text shown
+
+  -- so is that of the second, where the first has none
+  pub line-says : (line : List Threat) → IsWrittenWin rule limit p compiled win → length compiled ≤ line_tree rule line limit p
+      → ¬ IsWonByFours limit nodes (file_at rule p) → IsFirstLine limit nodes (file_at rule p) line → line_wins rule line limit p ≡ true
+      → IfOk r (λ a. a.status ≡ Done) → IfOk r (λ a. (limit : ℕ) → IsWrittenWin rule limit b compiled win
+      → IsShortWinText limit (length compiled) (file_at rule b) a.text)
+      → IfOk r (λ a. SolutionSays limit nodes (file_at rule p) a.status a.text)
+  line-says line is short later first wins done shown = elim r as (λ (r : Result Answer E). IfOk r (λ a. a.status ≡ Done)
+      → IfOk r (λ a. (limit : ℕ) → IsWrittenWin rule limit b compiled win
+      → IsShortWinText limit (length compiled) (file_at rule b) a.text)
+      → IfOk r (λ a. SolutionSays limit nodes (file_at rule p) a.status a.text)) [
+        | Ok a ↦ λ done shown.
+            let win_text : IsShortWinText limit (length compiled) (file_at rule p) a.text = written-text a is shown in
+            inr (inl (record {
+              later = later;
+              along = record { line = line; first = first; wins = wins };
+              win = win_text.0;
+              few = let table = win_text.1 in omega (arith, table, short);
+              ends = done;
+            }))
+        | Err e ↦ λ done shown. tt
+      ] done shown
+
+  -- and that of the third, where the first two have none
+  pub threats-says : IsToldByThreats rule limit nodes p (Win compiled win) → IsLeftOver limit nodes (file_at rule p)
+      → IfOk r (λ a. a.status ≡ Done) → IfOk r (λ a. (limit : ℕ) → IsWrittenWin rule limit b compiled win
+      → IsShortWinText limit (length compiled) (file_at rule b) a.text)
+      → IfOk r (λ a. SolutionSays limit nodes (file_at rule p) a.status a.text)
+  threats-says is left done shown = elim r as (λ (r : Result Answer E). IfOk r (λ a. a.status ≡ Done)
+      → IfOk r (λ a. (limit : ℕ) → IsWrittenWin rule limit b compiled win
+      → IsShortWinText limit (length compiled) (file_at rule b) a.text)
+      → IfOk r (λ a. SolutionSays limit nodes (file_at rule p) a.status a.text)) [
+        | Ok a ↦ λ done shown.
+            let win_text : IsShortWinText limit (length compiled) (file_at rule p) a.text = written-text a is.0.written shown in
+            inr (inr (inl (record {
+              left = left;
+              by_threats = is.0.by_threats;
+              win = win_text.0;
+              few = let table = win_text.1 in let short = is.1 in omega (arith, table, short);
+              ends = done;
+            })))
+        | Err e ↦ λ done shown. tt
+      ] done shown
+
+module _ (a : Answer) (limit nodes : ℕ) (file : PositionFile) where
+  -- what is said where the last step finds none
+  pub unwon-says : IsLeftOver limit nodes file → IsToldByThreats file.kind limit nodes file.board NoWin → a.status ≡ NotFound
+      → a.text ≡ none_line → SolutionSays limit nodes file a.status a.text
+  unwon-says left told ends line =
+      inr (inr (inr (inl (record { left = left; none = told.0; denial = told.1; ends = ends; line = line }))))
+
+  -- where the budget is not enough
+  pub undecided-says : IsLeftOver limit nodes file → nodes < threat_tree file.kind limit file.board → a.status ≡ Spent
+      → a.text ≡ spent_line → SolutionSays limit nodes file a.status a.text
+  undecided-says left more ends line = inr (inr (inr (inr (inl (record { left = left; more = more; ends = ends; line = line })))))
+
+  -- and where a table has no room
+  pub full-says : ¬ IsWonByFours limit nodes file → MayBeTooGreat limit nodes file → a.status ≡ Full → a.text ≡ full_line
+      → SolutionSays limit nodes file a.status a.text
+  full-says later great ends line = inr (inr (inr (inr (inr (record { later = later; great = great; ends = ends; line = line })))))
+
+-- a win that is found within fewer moves is one within more, and no more nodes are written
+pub longer-win : (rule : RuleKind) (n m nodes : ℕ) (b : Grid) (t : List Node) (win : WrittenWin) → n ≤ m
+    → IsToldByThreats rule n nodes b (Win t win) → IsToldByThreats rule m nodes b (Win t win)
+longer-win rule n m nodes b t win few is = (
+  record {
+    written = win-within rule n m b t win few is.0.written;
+    by_threats = WinsUnder-more (has_threat rule) rule n m b few is.0.by_threats;
+    within = is.0.within;
+  },
+  let more = tree-more rule n m b few in let short = is.1 in omega (arith, more, short),
+)

@@ -1,0 +1,25 @@
+use Rattle.std.proofs.Common.{subst}
+use Rattle.strategy_compiler.specs.Wins.{IsWrittenWin}
+use Rattle.line_proof.specs.Answers.{OnProved}
+use Rattle.line_proof.specs.declared.proof.LineAnswer.{LineAnswer}
+use Rattle.position_commands.proofs.Searches.{new-few}
+use Rattle.solve_command.proofs.Solutions.{line-says, line-proved}
+use Rattle.solve_command.proofs.solve.prove_first.Goals as goal
+
+pub returns-in-Ok-Proved : goal.returns-in-Ok-Proved
+returns-in-Ok-Proved g c =
+    let rule = g.R.Rule.KIND in
+    let p = c.args.position in
+    let compiled = c.prove_line.new.compiler in
+    let win = c.in-Ok-Proved.win in
+    let is : IsWrittenWin rule c.args.depth p compiled win =
+    subst (λ (a : LineAnswer). OnProved a (IsWrittenWin rule c.args.depth p compiled)) c.in-Ok-Proved.field-0-is
+    c.in-Ok-Proved.ensures.proved in
+    record {
+      says = line-says c.win_text.result c.args.depth c.args.nodes rule p c.prove_line.new.view c.prove_line.ensures.same compiled win
+          c.args.line.now is (new-few c.new-compiler.result compiled _ c.new-compiler.ensures.empty c.prove_line.ensures.added)
+          c.requires.no_fours c.requires.line
+          (line-proved rule c.args.line.now c.args.depth p c.in-Ok-Proved.field-0 win c.in-Ok-Proved.field-0-is
+          c.in-Ok-Proved.ensures.fails)
+          c.win_text.ensures.status c.win_text.ensures.shown;
+    }

@@ -1,0 +1,36 @@
+use Rattle.std.proofs.Common.{◌<◌, ◌≤◌, ◌+◌, subst, ap, List, length, arith}
+use Rattle.std.specs.Prelude.{Err, min}
+use Rattle.strategy_graph.specs.declared.Node.{Node}
+use Rattle.strategy_graph.specs.declared.TheConstants.{MAX_NODES}
+use Rattle.threat_game.specs.ThreatGame.{threat_tree}
+use Rattle.threat_game.specs.Wins.{IsThreatWin}
+use Rattle.proof_number.specs.Answers.{OnWin}
+use Rattle.proof_number.specs.declared.answer.ProofAnswer.{ProofAnswer}
+use Rattle.solve_command.proofs.solve.searched_within.Goals as goal
+
+-- a new compiler has no nodes
+pub returns-in-Ok-Win-clause-told : goal.returns-in-Ok-Win-clause-told
+returns-in-Ok-Win-clause-told g c =
+    let rule = g.R.Rule.KIND in
+    let b = c.args.view.now in
+    let added = c.proof_number.new.compiler in
+    let is : IsThreatWin rule c.args.moves b added c.in-Ok-Win.win =
+    subst (λ (a : ProofAnswer). OnWin a (IsThreatWin rule c.args.moves b added)) c.in-Ok-Win.field-0-is c.in-Ok-Win.ensures.win in
+    let few : length added ≤ 0 + min c.args.nodes (threat_tree rule c.args.moves b) =
+    subst (λ (t : List Node). length added ≤ length t + min c.args.nodes (threat_tree rule c.args.moves b)) c.new-compiler.ensures.empty
+    c.in-Ok-Win.ensures.few in
+    (is, omega (arith, few))
+
+pub returns-in-Ok-None-clause-told : goal.returns-in-Ok-None-clause-told
+returns-in-Ok-None-clause-told g c =
+    let none = c.in-Ok-None.ensures.none c.in-Ok-None.field-0-is in
+    (none.no_threats, c.in-Ok-None.ensures.denial c.in-Ok-None.field-0-is)
+
+pub returns-in-Err-Full-clause-told : goal.returns-in-Err-Full-clause-told
+returns-in-Err-Full-clause-told g c =
+    let b = c.args.view.now in
+    let more = c.in-Err-Full.ensures.full (ap Err c.in-Err-Full.field-0-is) in
+    let none : MAX_NODES < 0 + min c.args.nodes (threat_tree g.R.Rule.KIND c.args.moves b) =
+    subst (λ (t : List Node). MAX_NODES < length t + min c.args.nodes (threat_tree g.R.Rule.KIND c.args.moves b))
+    c.new-compiler.ensures.empty more in
+    omega (arith, none)
