@@ -6,6 +6,8 @@ use Rattle.strategy_graph.specs.declared.Why.{Why}
 use Rattle.strategy_graph.specs.declared.Why.TheVariants.{AttackRefused, AttackFouls, AttackDraws, NotWon, ReplyWins, ReplyDraws}
 use Rattle.strategy_graph.specs.declared.Why.TheVariants.{NoAnswer}
 use Rattle.strategy_graph.specs.Roots.{root_depth, root_arrivals, AcceptedRoot, LeadsRoot}
+use Rattle.strategy_checker.specs.declared.error.HeldError.{HeldError}
+use Rattle.strategy_checker.specs.declared.error.HeldError.TheVariants.{Refused as RefusedRoot, Spent as SpentRoot, Memory as NotHeld}
 use Rattle.text_lines.specs.Lines.{ended}
 use Rattle.text_lines.specs.Spellings.{points_text}
 use Rattle.position_files.specs.declared.TableFile.{TableFile}
@@ -48,3 +50,9 @@ pub record IsSpentWork (work : ℕ) (file : TableFile) (status : Status) (text :
   pub more : work < root_arrivals file.kind file.table file.root file.board
   pub ends : status ≡ Spent
   pub line : text ≡ spent_line
+
+-- what is told of a root that is not accepted, by why it is not; for want of memory nothing is told
+abbrev pub IsToldOf : HeldError → Status → List ℕ → Type 0
+IsToldOf (RefusedRoot line why) status text = (status ≡ RefusedTable) × (text ≡ refused_table_line (why_word why) line)
+IsToldOf SpentRoot status text = (status ≡ Spent) × (text ≡ spent_line)
+IsToldOf NotHeld status text = ⊥

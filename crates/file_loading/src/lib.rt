@@ -8,4 +8,4 @@ mod loading;
 mod refusals;
 
 pub use loading::{Fitted, Holdable, Loaded, fit, load_file};
-pub use refusals::{refused_book, refused_entry, refused_table};
+pub use refusals::{refused_book, refused_entry, refused_root};

@@ -13,15 +13,13 @@ ghost use Rattle.command_base.specs.Runs.{IsAskedOnly, change};
 ghost use Rattle.file_loading.specs.Loading.{IsLoadedAs, IsLoadedBook, IsLoadedBookText, IsLoadedFile, IsLoadedFrom, IsLoadedHeld};
 ghost use Rattle.file_loading.specs.Loading.{IsLoadedText, IsFittedFile, IsFittedText};
 
-use crate::refusals::{refused_book, refused_entry, refused_table};
+use crate::refusals::{refused_book, refused_entry, refused_root};
 use brain_session::BRAIN_WORK;
-use command_base::{Answer, SHELF_FAILED, Status, TOO_LONG, refused_text, spent};
-use foul_judge::Position;
+use command_base::{Answer, SHELF_FAILED, Status, TOO_LONG, refused_text};
 use position_files::{TableFile, read_table};
 use renju_io::{LoadError, Shelf};
-use row_shapes::{Rule, under_rule};
 use std::alloc::{AllocError, Global};
-use strategy_checker::{Held, HeldError, Verdict, check_root};
+use strategy_checker::{Held, check_root};
 use table_book::{Book, hold_book, is_book, read_book};
 
 /// What comes of the text of a FILE: its table is held, or it is told why not.
@@ -133,34 +131,20 @@ fn hold(alloc: Global, file: TableFile) -> Result<Loaded, AllocError>
     requires root { root_below file.root (length file.table) ≡ true }
     ensures loaded { IfOk result (IsLoadedFile file) }
 {
-    under_rule!(file.kind, hold_under(alloc, file))
-}
-
-/// The same under the rule of the text.
-fn hold_under<R: Rule>(alloc: Global, file: TableFile) -> Result<Loaded, AllocError>
-    requires kind { file.kind ≡ R.KIND }
-    requires lawful { IsPosition file.kind file.board }
-    requires root { root_below file.root (length file.table) ≡ true }
-    ensures loaded { IfOk result (IsLoadedFile file) }
-{
     let TableFile {
-        kind: _,
+        kind,
         board,
         table,
         root,
         moves: _,
     } = file;
     let mut held = Held::new(alloc, table);
-    match held.add::<R>(root, Position::<R>::new(board), BRAIN_WORK) {
+    match held.add_at(kind, board, root, BRAIN_WORK) {
         Ok(_) => Ok(Loaded::Holds(held)),
-        Err(HeldError::Refused { line, why }) => {
-            Ok(Loaded::Tells(Answer::told(
-                Status::RefusedTable,
-                refused_table(alloc, why, line.as_slice())?,
-            )))
+        Err(error) => {
+            let told = refused_root(alloc, error)?;
+            Ok(Loaded::Tells(told))
         }
-        Err(HeldError::Spent) => Ok(Loaded::Tells(spent())),
-        Err(HeldError::Memory) => Err(AllocError),
     }
 }
 
@@ -181,42 +165,18 @@ fn fit_file(alloc: Global, file: TableFile) -> Result<Fitted, AllocError>
     requires moves { file.moves ≡ root_depth file.table file.root }
     ensures fitted { IfOk result (IsFittedFile file) }
 {
-    under_rule!(file.kind, fit_under(alloc, file))
-}
-
-/// The same under the rule of the text.
-fn fit_under<R: Rule>(alloc: Global, file: TableFile) -> Result<Fitted, AllocError>
-    requires kind { file.kind ≡ R.KIND }
-    requires lawful { IsPosition file.kind file.board }
-    requires root { root_below file.root (length file.table) ≡ true }
-    requires moves { file.moves ≡ root_depth file.table file.root }
-    ensures fitted { IfOk result (IsFittedFile file) }
-{
-    let TableFile {
-        kind,
-        board,
-        table,
-        root,
-        moves,
-    } = file;
-    let mut position = Position::<R>::new(board);
-    match check_root(alloc, &table, &root, moves, &mut position, BRAIN_WORK)? {
-        Verdict::Accepted { .. } => {
-            let board = position.into_board();
-            Ok(Fitted::Fits(TableFile {
-                kind,
-                board,
-                table,
-                root,
-                moves,
-            }))
+    match check_root(
+        alloc,
+        file.kind,
+        &file.board,
+        &file.table,
+        &file.root,
+        BRAIN_WORK,
+    ) {
+        Ok(_) => Ok(Fitted::Fits(file)),
+        Err(error) => {
+            let told = refused_root(alloc, error)?;
+            Ok(Fitted::Tells(told))
         }
-        Verdict::Refused { line, why } => {
-            Ok(Fitted::Tells(Answer::told(
-                Status::RefusedTable,
-                refused_table(alloc, why, line.as_slice())?,
-            )))
-        }
-        Verdict::Spent => Ok(Fitted::Tells(spent())),
     }
 }

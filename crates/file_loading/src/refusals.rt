@@ -4,7 +4,7 @@
 #![tactic(auto)]
 
 ghost use Rattle.std.specs.Prelude.{◌≡◌, codes, IfOk, string_bytes, ◌≢◌, ◌++◌};
-ghost use Rattle.file_loading.specs.TableFiles.{why_word as why_word_lem, refused_table_line};
+ghost use Rattle.file_loading.specs.TableFiles.{IsToldOf, why_word as why_word_lem, refused_table_line};
 ghost use Rattle.std.specs.Fmt.{decimal};
 ghost use Rattle.file_loading.specs.BookFiles.{book_refusal_line, entry_line, hold_refusal_line, hold_refusal_status};
 
@@ -12,12 +12,27 @@ use command_base::{Answer, Status, refused_text, spent};
 use position_files::FileError;
 use std::alloc::{AllocError, Global};
 use stone_board::Point;
+use strategy_checker::HeldError;
 use strategy_graph::Why;
 use table_book::{BookError, HoldError};
 use text_lines::push_points;
 
+/// What is said of a table whose root is not accepted. Want of memory is handed on.
+pub fn refused_root(alloc: Global, error: HeldError) -> Result<Answer, AllocError>
+    ensures told { IfOk result (λ answer. IsToldOf error answer.status answer.text) }
+{
+    match error {
+        HeldError::Refused { line, why } => {
+            let text = refused_table(alloc, why, line.as_slice())?;
+            Ok(Answer::told(Status::RefusedTable, text))
+        }
+        HeldError::Spent => Ok(spent()),
+        HeldError::Memory => Err(AllocError),
+    }
+}
+
 /// The line of a refused table: why, and the moves that lead to the fault.
-pub fn refused_table(alloc: Global, why: Why, moves: &[Point]) -> Result<String, AllocError>
+fn refused_table(alloc: Global, why: Why, moves: &[Point]) -> Result<String, AllocError>
     ensures line { IfOk result (λ text. string_bytes text ≡ refused_table_line (why_word_lem why) moves.now) }
 {
     let mut text = String::from_str(alloc, "refused ")?;

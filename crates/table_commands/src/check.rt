@@ -9,13 +9,11 @@ ghost use Rattle.strategy_graph.specs.Roots.{root_below, root_depth};
 ghost use Rattle.table_commands.specs.Checks.{CheckSays, TableSays, accepted_line};
 
 use crate::MAX_WORK;
-use command_base::{Answer, Status, Told, refused_text, spent};
-use file_loading::refused_table;
-use foul_judge::Position;
+use command_base::{Answer, Status, Told, refused_text};
+use file_loading::refused_root;
 use position_files::{TableFile, read_table};
-use row_shapes::{Rule, under_rule};
 use std::alloc::{AllocError, Global};
-use strategy_checker::{Verdict, check_root};
+use strategy_checker::check_root;
 
 /// `check WORK`.
 #[derive(Clone, Copy)]
@@ -35,49 +33,25 @@ impl Told for Check {
 
     fn say(&self, alloc: Global, bytes: &[u8]) -> Result<Answer, AllocError> {
         match read_table(alloc, bytes) {
-            Ok(file) => check_file(alloc, file, self.work),
+            Ok(file) => check_file(alloc, &file, self.work),
             Err(error) => refused_text(alloc, error),
         }
     }
 }
 
 /// What is said of a text that was read.
-fn check_file(alloc: Global, file: TableFile, work: u64) -> Result<Answer, AllocError>
-    requires lawful { IsPosition file.kind file.board }
-    requires root { root_below file.root (length file.table) ≡ true }
-    requires moves { file.moves ≡ root_depth file.table file.root }
-    ensures says { IfOk result (λ answer. TableSays work file answer.status answer.text) }
+fn check_file(alloc: Global, file: &TableFile, work: u64) -> Result<Answer, AllocError>
+    requires lawful { IsPosition file.now.kind file.now.board }
+    requires root { root_below file.now.root (length file.now.table) ≡ true }
+    requires moves { file.now.moves ≡ root_depth file.now.table file.now.root }
+    ensures says { IfOk result (λ answer. TableSays work file.now answer.status answer.text) }
 {
-    under_rule!(file.kind, check_under(alloc, file, work))
-}
-
-/// The same under the rule of the text.
-fn check_under<R: Rule>(alloc: Global, file: TableFile, work: u64) -> Result<Answer, AllocError>
-    requires kind { file.kind ≡ R.KIND }
-    requires lawful { IsPosition file.kind file.board }
-    requires root { root_below file.root (length file.table) ≡ true }
-    requires moves { file.moves ≡ root_depth file.table file.root }
-    ensures says { IfOk result (λ answer. TableSays work file answer.status answer.text) }
-{
-    let TableFile {
-        kind: _,
-        board,
-        table,
-        root,
-        moves,
-    } = file;
-    let mut position = Position::<R>::new(board);
-    match check_root(alloc, &table, &root, moves, &mut position, work)? {
-        Verdict::Accepted { moves, arrivals } => {
-            Ok(Answer::told(Status::Done, accepted(alloc, moves, arrivals)?))
+    match check_root(alloc, file.kind, &file.board, &file.table, &file.root, work) {
+        Ok(arrivals) => {
+            let text = accepted(alloc, file.moves, arrivals)?;
+            Ok(Answer::told(Status::Done, text))
         }
-        Verdict::Refused { line, why } => {
-            Ok(Answer::told(
-                Status::RefusedTable,
-                refused_table(alloc, why, line.as_slice())?,
-            ))
-        }
-        Verdict::Spent => Ok(spent()),
+        Err(error) => refused_root(alloc, error),
     }
 }
 
