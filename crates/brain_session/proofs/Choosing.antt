@@ -7,9 +7,9 @@ use Rattle.game_rules.specs.declared.RuleKind.{RuleKind}
 use Rattle.game_rules.specs.declared.Point.{Point}
 use Rattle.strategy_graph.specs.Tables.{IsTable}
 use Rattle.strategy_checker.specs.HeldRoots.{HeldTable}
+use Rattle.four_search.specs.declared.fewest.FourTable.{FourTable}
 use Rattle.brain_session.specs.declared.choice.ChosenMove.{ChosenMove}
 use Rattle.brain_session.specs.declared.guide.Guide.{Guide}
-use Rattle.brain_session.specs.declared.own_win.OwnTable.{OwnTable}
 use Rattle.brain_session.specs.States.{Followed, HeldNode, OwnWin, Game, board_of}
 use Rattle.brain_session.specs.ChosenMoves.{Choice, or_else, move_by, by_following, first_node, by_held, own_win, by_own_win, by_plain_move}
 use Rattle.brain_session.specs.ChosenMoves.{chosen_anew}
@@ -65,9 +65,9 @@ module _ (h : HeldTable) (g : Game) (c : ChosenMove) (guide : Guide) (is : c.gui
       (record { table = table; node = stands })
 
 -- what is found on a board that is b
-pub found-own : (rule : RuleKind) (b d : Grid) (o : Option OwnTable) (own : OwnTable) → o ≡ Some own → d ≡ b → IsFound rule d o
+pub found-own : (rule : RuleKind) (b d : Grid) (o : Option FourTable) (own : FourTable) → o ≡ Some own → d ≡ b → IsFound rule d o
     → IsOwnTable rule b own
 found-own rule b d o own is same found = subst (λ (x : Grid). IsOwnTable rule x own) same (subst (IsFound rule d) is found)
 
-pub found-nothing : (rule : RuleKind) (b d : Grid) (o : Option OwnTable) → o ≡ None → d ≡ b → IsFound rule d o → own_win rule b ≡ None
+pub found-nothing : (rule : RuleKind) (b d : Grid) (o : Option FourTable) → o ≡ None → d ≡ b → IsFound rule d o → own_win rule b ≡ None
 found-nothing rule b d o is same found = subst (λ (x : Grid). own_win rule x ≡ None) same (subst (IsFound rule d) is found)

@@ -18,9 +18,9 @@ use Rattle.strategy_graph.proofs.Answering.{IsSomeAnd-map}
 use Rattle.strategy_graph.proofs.Following.{accepted-in_table, accepted-replies, attack_empty}
 use Rattle.strategy_compiler.specs.Trees.{StandsFor}
 use Rattle.strategy_checker.specs.HeldRoots.{HeldTable}
+use Rattle.four_search.specs.declared.fewest.FourTable.{FourTable}
 use Rattle.four_search.specs.Plans.{four_plan}
 use Rattle.four_search.proofs.Written.{plan-attacks, plan-replies, PlanAt}
-use Rattle.brain_session.specs.declared.own_win.OwnTable.{OwnTable}
 use Rattle.brain_session.specs.declared.guide.Guide.{Guide}
 use Rattle.brain_session.specs.declared.guide.Guide.TheVariants.{HeldNode as HeldGuide, OwnWin as OwnGuide}
 use Rattle.brain_session.specs.Running.{FollowsAt}
@@ -34,7 +34,7 @@ pub held-moves : (h : HeldTable) (rule : RuleKind) (b : Grid) (g : Guide) (node 
     → slice_get h.table node ≡ Some n → move_by h rule b (followed_of g) ≡ Some n.attack
 held-moves h rule b g node n is at = ap (λ (x : Guide). move_by h rule b (followed_of x)) is ∙ ap (option_map (λ (m : Node). m.attack)) at
 
-pub own-moves : (h : HeldTable) (rule : RuleKind) (b : Grid) (g : Guide) (own : OwnTable) (n : Node) → g ≡ OwnGuide own
+pub own-moves : (h : HeldTable) (rule : RuleKind) (b : Grid) (g : Guide) (own : FourTable) (n : Node) → g ≡ OwnGuide own
     → slice_get own.table own.node ≡ Some n → NodeStandsAt h rule b g → move_by h rule b (followed_of g) ≡ Some n.attack
 own-moves h rule b g own n is at stands =
     let here : OwnStandsAt rule b own = subst (NodeStandsAt h rule b) is stands in
@@ -89,7 +89,7 @@ held_after : (h : HeldTable) (rule : RuleKind) (b : Grid) (o : Option ℕ) → I
 held_after h rule b None answered = answered
 held_after h rule b (Some j) answered = (accepted-in_table rule h.table j b answered, answered)
 
-own_after : (h : HeldTable) (rule : RuleKind) (b : Grid) (own : OwnTable) → wins_by_fours rule (own.moves - 1) b ≡ true → (o : Option ℕ)
+own_after : (h : HeldTable) (rule : RuleKind) (b : Grid) (own : FourTable) → wins_by_fours rule (own.moves - 1) b ≡ true → (o : Option ℕ)
     → IsSomeAnd o (λ j. StandsFor own.table j (four_plan rule (own.moves - 1) b) × Accepted rule own.table j b)
     → MatchOption (option_map (λ j. OwnGuide (record own { node = j; moves = own.moves - 1 })) o) ⊥ (NodeStandsAt h rule b)
 own_after h rule b own wins None answered = answered

@@ -15,12 +15,12 @@ use Rattle.strategy_graph.specs.Acceptance.{Accepted}
 use Rattle.strategy_compiler.specs.Trees.{StandsFor}
 use Rattle.strategy_compiler.specs.Walks.{IsTableOf, last}
 use Rattle.strategy_checker.specs.HeldRoots.{HeldTable}
+use Rattle.four_search.specs.declared.fewest.FourTable.{FourTable}
 use Rattle.four_search.specs.Plans.{four_plan}
 use Rattle.brain_session.specs.declared.guide.Guide.{Guide}
 use Rattle.brain_session.specs.declared.guide.Guide.TheVariants.{HeldNode as HeldGuide, OwnWin as OwnGuide}
 use Rattle.brain_session.specs.declared.game.SessionGame.{SessionGame}
 use Rattle.brain_session.specs.declared.choice.ChosenMove.{ChosenMove}
-use Rattle.brain_session.specs.declared.own_win.OwnTable.{OwnTable}
 use Rattle.brain_session.specs.States.{Followed, HeldNode, OwnWin, Game, board_after, board_of, empty_board, Place, NoBoard, Fresh, InGame}
 use Rattle.brain_session.specs.States.{State}
 use Rattle.gomocup_text.specs.declared.Command.{Command}
@@ -85,7 +85,7 @@ place_in (Some place) = place
 
 -- A table of the brain's own goes on at b, where the opponent is to move: each move there is none, fouls, or goes on to a board
 -- where the answer of the node to it stands for the plan of the win that is left, and is accepted.
-pub record OwnGoesOn (rule : RuleKind) (b : Grid) (own : OwnTable) : Type 0 where
+pub record OwnGoesOn (rule : RuleKind) (b : Grid) (own : FourTable) : Type 0 where
   pub moves_left : 1 ≤ own.moves
   pub in_table : own.node < length own.table
   pub answers : (q : Point) → LosesOr (outcome rule b q) (IsSomeAnd (answer_at own.table own.node q)
@@ -112,7 +112,7 @@ IsSessionBoard m None = IsUntouched m
 IsSessionBoard m (Some c) = IsBoard m.start × GuidesOn c.ended c.kind (board_after m.start m.moves) c.guide
 
 -- a table of the brain's own with its node at b: the node stands for the plan of the win, and is accepted
-pub record OwnStandsAt (rule : RuleKind) (b : Grid) (own : OwnTable) : Type 0 where
+pub record OwnStandsAt (rule : RuleKind) (b : Grid) (own : FourTable) : Type 0 where
   pub in_table : own.node < length own.table
   pub wins : wins_by_fours rule own.moves b ≡ true
   pub stands : StandsFor own.table own.node (four_plan rule own.moves b)
@@ -150,14 +150,14 @@ choice_of c = record { at = c.at; followed = option_map followed_of c.guide }
 
 -- The table of the brain's own win at b: it is the table of the plan of the win, and its last node, which is followed, is
 -- accepted.
-pub record IsOwnTable (rule : RuleKind) (b : Grid) (own : OwnTable) : Type 0 where
+pub record IsOwnTable (rule : RuleKind) (b : Grid) (own : FourTable) : Type 0 where
   pub fewest : own_win rule b ≡ Some own.moves
   pub plan : IsTableOf (four_plan rule own.moves b) own.table
   pub last_node : own.node ≡ last own.table
   pub accepted : Accepted rule own.table own.node b
 
 -- a table is found exactly where there is such a win
-abbrev pub IsFound : RuleKind → Grid → Option OwnTable → Type 0
+abbrev pub IsFound : RuleKind → Grid → Option FourTable → Type 0
 IsFound rule b None = own_win rule b ≡ None
 IsFound rule b (Some own) = IsOwnTable rule b own
 

@@ -11,7 +11,7 @@ ghost use Rattle.strategy_graph.specs.Tables.{IsTable, answer_at};
 ghost use Rattle.brain_session.specs.ChosenMoves.{move_by};
 ghost use Rattle.brain_session.specs.Kept.{IsInTable, NodeStandsAt, followed_of, guide_after, nodes_of};
 
-use crate::own_win::OwnTable;
+use four_search::FourTable;
 use game_rules::Point;
 use strategy_checker::Held;
 use strategy_graph::Table;
@@ -20,7 +20,7 @@ use strategy_graph::Table;
 #[derive(Drop)]
 pub(crate) enum Guide {
     HeldNode { node: u32 },
-    OwnWin { own: OwnTable },
+    OwnWin { own: FourTable },
 }
 
 impl Guide {
@@ -43,25 +43,23 @@ impl Guide {
     {
         match self {
             Guide::HeldNode { node } => goes_on(held.table(), node, reply),
-            Guide::OwnWin { own } => own.answer(reply),
+            Guide::OwnWin { own } => goes_on_in(own, reply),
         }
     }
 }
 
-impl OwnTable {
-    /// Goes on to the node that answers the reply, and answers whether there is one.
-    fn answer(&mut self, reply: Point) -> bool
-        requires in_table { self.old.node < length self.old.table }
-        requires moves { 1 ≤ self.old.moves }
-        ensures answered { MatchOption (answer_at self.old.table self.old.node reply) ((result ≡ false) × (self.new ≡ self.old))
-            (λ j. (result ≡ true) × (self.new ≡ record self.old { node = j; moves = self.old.moves - 1 })) }
-    {
-        let answered = goes_on(&self.table, &mut self.node, reply);
-        if answered {
-            self.moves -= 1;
-        }
-        answered
+/// Goes on in a table of the brain's own to the node that answers the reply, and answers whether there is one.
+fn goes_on_in(own: &mut FourTable, reply: Point) -> bool
+    requires in_table { own.old.node < length own.old.table }
+    requires moves { 1 ≤ own.old.moves }
+    ensures answered { MatchOption (answer_at own.old.table own.old.node reply) ((result ≡ false) × (own.new ≡ own.old))
+        (λ j. (result ≡ true) × (own.new ≡ record own.old { node = j; moves = own.old.moves - 1 })) }
+{
+    let answered = goes_on(&own.table, &mut own.node, reply);
+    if answered {
+        own.moves -= 1;
     }
+    answered
 }
 
 /// Goes on from the node to the one that answers the reply, and answers whether there is one.

@@ -8,9 +8,10 @@ ghost use Rattle.game_rules.specs.Play.{IsPosition, outcome as outcome_lem};
 ghost use Rattle.brain_session.specs.ChosenMoves.{plain_move as plain_move_lem};
 ghost use Rattle.brain_session.specs.Kept.{IsFound};
 
-use crate::own_win::{OwnTable, own_win as own_win_under};
+use crate::own_win::own_win as own_win_under;
 use crate::plain_move::plain_move as plain_move_under;
 use foul_judge::{Outcome, outcome_at};
+use four_search::FourTable;
 use game_rules::{Point, RuleKind};
 use row_shapes::under_rule;
 use std::alloc::{AllocError, Global};
@@ -30,7 +31,7 @@ pub(crate) fn own_win(
     alloc: Global,
     kind: RuleKind,
     board: &Board,
-) -> Result<Option<OwnTable>, AllocError>
+) -> Result<Option<FourTable>, AllocError>
     requires lawful { IsPosition kind board.now }
     ensures found { IfOk result (IsFound kind board.now) }
 {
