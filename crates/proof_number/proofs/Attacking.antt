@@ -18,11 +18,13 @@ use Rattle.proof_tree.proofs.SumLaws.{IsFresh, fresh-sum}
 use Rattle.threat_game.proofs.Common.{threat_tree, move_at, nowhere, OthersFail, tried_moves}
 use Rattle.proof_number.specs.declared.notes.Note.{Note}
 use Rattle.proof_number.specs.declared.search.Search.{Search}
+use Rattle.proof_number.specs.Searches.Grows.{known_grown}
+use Rattle.proof_number.proofs.Opening.{leaf-facts}
 use Rattle.proof_number.proofs.Common.{no_note, note_at, AreTried, GameTree, HasTried, board_at, left_at, IsTrueMemo, Grows, HasGrown}
 use Rattle.proof_number.proofs.Common.{HasSpent, IsAtLeaf, IsExpandedAt, IsSettledAt, StandsAt, attacks_behind, behind_at, defences_behind}
 use Rattle.proof_number.proofs.Common.{game_of, is_attack, sum_below}
 use Rattle.threat_game.proofs.TreeLaws.{IsTriedMove, replies-positive, tried-at, tried-behind}
-use Rattle.proof_number.proofs.ExpandedCounts.{IsNewNote, expanded-grown, new_behind, unwritten_child, sum-nothing, sum-under}
+use Rattle.proof_number.proofs.ExpandedCounts.{Expansion, IsNewNote, expanded-grown, new_behind, unwritten_child, sum-nothing, sum-under}
 use Rattle.proof_number.proofs.Expanding.{IsNewChild}
 use Rattle.proof_number.proofs.Recording.{keeps-all}
 use Rattle.proof_number.proofs.Steps.{attack-moves, attack-no_five, leaf-compiled, leaf-lawful, leaf-noted, lost-step}
@@ -106,22 +108,21 @@ module _ (rule : RuleKind) (b : Grid) (lawful : IsPosition rule b) (none : has_f
 
 -- ---- at a leaf of the attacker
 
-module _ (rule : RuleKind) (s : Search) (t : Tree) (c : List Node) (leaf : ℕ) (stands : StandsAt rule s t c leaf s.board)
+module _ {rule : RuleKind} {s : Search} {t : Tree} {c : List Node} {leaf : ℕ} (stands : StandsAt rule s t c leaf s.board)
     (attack : (link_at t.links leaf).kind ≡ Attack) (others : OthersFail rule s.board) where
   here : IsAtLeaf rule s t c leaf s.board
-  unfolding StandsAt
-  here = stands
+  here = leaf-facts stands
 
   no-five : has_five rule s.board (mover s.board) ≡ false
-  no-five = attack-no_five rule s t c leaf s.board stands attack
+  no-five = attack-no_five stands attack
 
   two-moves : 2 ≤ (note_at s.notes.items leaf).left
-  two-moves = attack-moves rule s t c leaf s.board stands attack
+  two-moves = attack-moves stands attack
 
   -- where there is no move to be tried the leaf is settled
   pub none-grows : tried_moves rule s.board ≡ [] → (u : Tree) → IsSettledAt t u leaf false → Grows rule s s t u c leaf
   none-grows empty u st =
-      lost-step rule s t c leaf s.board stands attack u st s refl refl here.searching.remembered
+      lost-step stands attack u st s refl refl here.searching.remembered
       (none-tried rule (note_at s.notes.items leaf).left s.board no-five others empty (let l = two-moves in omega (arith, l)))
       (λ several. record {
         no_five = no-five;
@@ -134,7 +135,7 @@ module _ (rule : RuleKind) (s : Search) (t : Tree) (c : List Node) (leaf : ℕ) 
       })
 
   left-noted : left_at (game_of rule s t).left leaf ≡ (note_at s.notes.items leaf).left
-  left-noted = get_or-map (λ (n : Note). n.left) s.notes.items leaf no_note 0 (leaf-noted rule s t c leaf s.board stands)
+  left-noted = get_or-map (λ (n : Note). n.left) s.notes.items leaf no_note 0 (leaf-noted stands)
 
   -- the positions of the defender behind the leaf are counted from the root
   defences-fit : s.defended + threat_tree rule (note_at s.notes.items leaf).left s.board ≤ 1 + threat_tree rule s.depth s.root
@@ -152,7 +153,7 @@ module _ (rule : RuleKind) (s : Search) (t : Tree) (c : List Node) (leaf : ℕ) 
       let tree_is : threat_tree rule (note_at s.notes.items leaf).left s.board ≡ threat_tree rule (left_at g.left leaf) (board_at g leaf) =
       ap (λ (n : ℕ). threat_tree rule n s.board) (sym left-noted) ∙ ap (threat_tree rule (left_at g.left leaf)) here.view_is in
       let first : left_at g.left 0 ≡ s.depth = get_or-map (λ (n : Note). n.left) s.notes.items 0 no_note 0
-      (let l = leaf-noted rule s t c leaf s.board stands in omega (arith, l)) ∙ here.searching.depth in
+      (let l = leaf-noted stands in omega (arith, l)) ∙ here.searching.depth in
       let root_is : threat_tree rule (left_at g.left 0) s.root ≡ threat_tree rule s.depth s.root =
       ap (λ (n : ℕ). threat_tree rule n s.root) first in
       omega (arith, nothing, low, tree_is, root_is, here.searching.counted.defences)
@@ -162,7 +163,7 @@ module _ (rule : RuleKind) (s : Search) (t : Tree) (c : List Node) (leaf : ℕ) 
     one-move = let l = two-moves in omega (arith, l, left_is)
 
     lawful-here : IsPosition rule s.board
-    lawful-here = leaf-lawful rule s t c leaf s.board stands
+    lawful-here = leaf-lawful stands
 
     tree-here : threat_tree rule (note_at s.notes.items leaf).left s.board ≡ threat_tree rule (suc m) s.board
     tree-here = ap (λ (n : ℕ). threat_tree rule n s.board) left_is
@@ -264,8 +265,7 @@ module _ (rule : RuleKind) (s : Search) (t : Tree) (c : List Node) (leaf : ℕ) 
           (λ j low. ap (λ (k : Kind). cond (is_attack (other_kind k)) 1 0) attack)
 
       pub moves-grow : Grows rule s v t u c leaf
-      unfolding Grows
-      moves-grow =
+      moves-grow = known_grown (
           let attacks = same-sum attacks_behind in
           let defences = same-sum defences_behind in
           let all = behind-all rule s.board lawful-here no-five others m one-move in
@@ -282,21 +282,32 @@ module _ (rule : RuleKind) (s : Search) (t : Tree) (c : List Node) (leaf : ℕ) 
           let size = long in
           let unwritten = written-none in
           let same_table : v.settled ≡ s.settled = ap (λ (w : Search). w.settled) rest in
+          let x : Expansion rule s v t u c [] leaf s.board more ms = record {
+            at_leaf = here;
+            expanded = e;
+            rest = rest ∙ ap (λ (w : Search). record s
+                { board = w.board; notes = v.notes; settled = w.settled; attacked = w.attacked; defended = w.defended }) (sym rest);
+            same_board = ap (λ (w : Search). w.board) rest;
+            compiled = subst IsCompiled (sym (append-nil c)) (leaf-compiled stands);
+            table = subst (λ (d : List Node). IsTrueMemo rule d (game_of rule s t) v.settled) (sym (append-nil c))
+                (subst (IsTrueMemo rule c (game_of rule s t)) (sym same_table) here.searching.remembered);
+            items = items;
+            many = ap length noted ∙ length-map (tried_moves rule s.board) (open_note m) ∙ sym long;
+            some = omega (arith, some, size);
+            tried = tried-here;
+            each = child-at;
+            noted = noted-at;
+            attacked_more = omega (arith, count);
+            defended_more = omega (arith, defended);
+            attacked_fits = omega (arith, count, budget);
+            defended_fits = omega (arith, defended, fits);
+            nodes_counted = omega (arith, count, defended, size);
+            low = λ kind. fresh-sum kind more fresh;
+            met = λ defends q on none. let bad : Attack ≡ Defend = sym attack ∙ defends in cc;
+            short = omega (arith, count, unwritten);
+            attackers_counted = omega (arith, count, attackers-none);
+            attacks_counted = omega (arith, count, attacks, all, attacks_left);
+            defences_counted = omega (arith, defended, defences, all, each, defences_left);
+          } in
           subst (λ (d : List Node). HasGrown rule s v t u d leaf) (append-nil c)
-          (expanded-grown rule s t c leaf s.board here u more e v []
-          (rest ∙ ap (λ (w : Search). record s
-          { board = w.board; notes = v.notes; settled = w.settled; attacked = w.attacked; defended = w.defended }) (sym rest))
-          (ap (λ (w : Search). w.board) rest)
-          (subst IsCompiled (sym (append-nil c)) (leaf-compiled rule s t c leaf s.board stands))
-          (subst (λ (d : List Node). IsTrueMemo rule d (game_of rule s t) v.settled) (sym (append-nil c))
-          (subst (IsTrueMemo rule c (game_of rule s t)) (sym same_table) here.searching.remembered))
-          ms items (ap length noted ∙ length-map (tried_moves rule s.board) (open_note m) ∙ sym long) (omega (arith, some, size))
-          tried-here child-at noted-at
-          (omega (arith, count)) (omega (arith, defended)) (omega (arith, count, budget)) (omega (arith, defended, fits))
-          (omega (arith, count, defended, size))
-          (λ kind. fresh-sum kind more fresh)
-          (λ defends q on none. let bad : Attack ≡ Defend = sym attack ∙ defends in cc)
-          (omega (arith, count, unwritten))
-          (omega (arith, count, attackers-none))
-          (omega (arith, count, attacks, all, attacks_left))
-          (omega (arith, defended, defences, all, each, defences_left)))
+          (expanded-grown x))

@@ -1,13 +1,14 @@
 -- A search whose tree has one node: the root is open, or it is settled as won or lost.
 use Rattle.std.proofs.Common.{◌≡◌, ◌∙◌, ℕ, ◌+◌, ◌-◌, ◌<◌, ◌≤◌, Bool, true, false, cond, ◌&&◌, not, refl, sym, ap, subst, arith, List, []}
-use Rattle.std.proofs.Common.{length, nat_eq}
+use Rattle.std.proofs.Common.{length, nat_eq, Result, Ok, OnOk}
 use Rattle.std.proofs.lemmas.Bool.{eq-eqb, ne_eqb}
 use Rattle.std.proofs.lemmas.List.{get_or-set_same, length-map, length-set}
 use Rattle.game_rules.proofs.Common.{Grid, IsPosition, mover, WinsByThreats, has_five}
 use Rattle.game_rules.specs.declared.RuleKind.{RuleKind}
 use Rattle.position_table.proofs.Remembering.{true-none}
 use Rattle.strategy_graph.specs.declared.Node.{Node}
-use Rattle.strategy_compiler.proofs.Common.{IsCompiled, GrowsBy}
+use Rattle.strategy_compiler.proofs.Common.{IsCompiled, Writes}
+use Rattle.strategy_compiler.specs.declared.error.SearchError.{SearchError}
 use Rattle.strategy_compiler.specs.declared.wins.WrittenWin.{WrittenWin}
 use Rattle.proof_tree.proofs.Common.{is_settled, settled_numbers, IsTree, Tree, link_at, numbers_at}
 use Rattle.proof_tree.specs.declared.Kind.{Kind}
@@ -18,12 +19,14 @@ use Rattle.threat_game.proofs.Common.{threat_tree, IsThreatWin}
 use Rattle.proof_number.specs.declared.notes.Note.{Note}
 use Rattle.proof_number.specs.declared.search.Search.{Search}
 use Rattle.proof_number.proofs.Common.{no_note, note_at, win_of, CanGrow, GameTree, IsGameTree, TellsTruly, WinsAt, board_at, left_at}
-use Rattle.proof_number.proofs.Common.{IsLostAt, IsTrueOf, AreWritten, IsCounted, IsNew, IsNotedWin, IsSettledAt, Searches, attacks_behind}
+use Rattle.proof_number.proofs.Common.{IsLostAt, IsTrueOf, AreWritten, CanBegin, HasBegun, IsSameAim, IsCounted, IsNotedWin, IsSettledAt}
+use Rattle.proof_number.proofs.Common.{Searches, attacks_behind}
 use Rattle.proof_number.proofs.Common.{behind_at}
 use Rattle.proof_number.proofs.Common.{behind_leaves, defences_behind, game_of, is_attack, noted_won, sum_below, unwritten}
 use Rattle.proof_number.proofs.GameTruths.{board-root, left-root}
-use Rattle.strategy_compiler.proofs.Growing.{grows-length, win-some}
+use Rattle.strategy_compiler.proofs.Growing.{grows-length, win-some, writes-nothing, writes-tells}
 use Rattle.proof_number.proofs.Sums.{sum-suc, sum-zero}
+use Rattle.proof_number.specs.Searches.Searches.{known_searching}
 use Rattle.threat_game.proofs.TreeLaws.{tree-positive, one_where}
 
 -- ---- five points that are listed
@@ -55,7 +58,7 @@ pub record IsBegun (rule : RuleKind) (s : Search) (t : Tree) (c : List Node) : T
   pub defended_is : s.defended ≡ 0
   pub compiled : IsCompiled c
 
-module _ (rule : RuleKind) (s : Search) (t : Tree) (c : List Node) (begun : IsBegun rule s t c) (root : IsRootOf rule s t c) where
+module _ {rule : RuleKind} {s : Search} {t : Tree} {c : List Node} (begun : IsBegun rule s t c) (root : IsRootOf rule s t c) where
   abbrev Game : GameTree
   Game = game_of rule s t
 
@@ -178,8 +181,7 @@ module _ (rule : RuleKind) (s : Search) (t : Tree) (c : List Node) (begun : IsBe
   }
 
   pub lone-searches : Searches rule s t c (λ i. ⊥)
-  unfolding Searches
-  lone-searches = record {
+  lone-searches = known_searching (record {
     tree = begun.tree;
     game = lone-game;
     depth = begun.depth_is;
@@ -194,20 +196,28 @@ module _ (rule : RuleKind) (s : Search) (t : Tree) (c : List Node) (begun : IsBe
         ap (λ (k : Kind). one_where (is_attack k && nat_eq (note_at s.notes.items 0).moves 0)) attacks in
         omega (arith, lone-sum (unwritten t s.notes.items), b, root.few, begun.attacked_is)
         );
-  }
+  })
 
 -- ---- the first look at the root
 
-module _ (rule : RuleKind) (s : Search) (t : Tree) (c : List Node) (b : Grid) (begins : IsNew s.depth s.budget (length c) b s)
-    (lawful : IsPosition rule b) (tree : IsTree t) (one : length t.links ≡ 1)
-    (depth_fits : s.depth ≤ 60) (some_budget : 1 ≤ s.budget) (budget_fits : s.budget ≤ 10000000) where
+begun-aim : (s v : Search) → v ≡ record s { board = v.board; notes = v.notes } → IsSameAim s v
+begun-aim s v rest = record {
+  depth = ap (λ (w : Search). w.depth) rest;
+  budget = ap (λ (w : Search). w.budget) rest;
+  before = ap (λ (w : Search). w.before) rest;
+  root = ap (λ (w : Search). w.root) rest;
+}
+
+module _ {rule : RuleKind} {s : Search} {t : Tree} {c : List Node} {b : Grid} (can : CanBegin s t c b) (lawful : IsPosition rule b)
+    (tree : IsTree t) where
+  open can use {new as begins, one_node as one, depth_fits, some_budget, budget_fits, unsettled}
+
   first-lawful : IsPosition rule s.root
   first-lawful = subst (IsPosition rule) (sym begins.root_is) lawful
 
   -- nothing is known of the root yet
-  pub begun-open : IsCompiled c → is_settled (numbers_at t.numbers 0) ≡ false → 2 ≤ s.depth → has_five rule b (mover b) ≡ false
-      → Searches rule s t c (λ i. ⊥)
-  begun-open compiled unsettled deep none = lone-searches rule s t c (record {
+  open-searches : IsCompiled c → 2 ≤ s.depth → has_five rule b (mover b) ≡ false → Searches rule s t c (λ i. ⊥)
+  open-searches compiled deep none = lone-searches (record {
     tree = tree;
     one_node = one;
     one_note = begins.one;
@@ -240,6 +250,30 @@ module _ (rule : RuleKind) (s : Search) (t : Tree) (c : List Node) (b : Grid) (b
     not-settled : (p : Bool) → numbers_at t.numbers 0 ≡ settled_numbers p → ⊥
     not-settled p e = let bad : true ≡ false = sym (settled-test p) ∙ ap is_settled (sym e) ∙ unsettled in cc
 
+  pub begun-open : IsCompiled c → 2 ≤ s.depth → has_five rule b (mover b) ≡ false → HasBegun rule s s t c c (Ok tt)
+  begun-open compiled deep none = record {
+    searching = open-searches compiled deep none;
+    aim = same-aim;
+    board = refl;
+    tree = tree;
+    one_node = one;
+    writes = writes-nothing c c 1 tt compiled refl;
+  } where
+    same-aim : IsSameAim s s
+    same-aim = record { depth = refl; budget = refl; before = refl; root = refl }
+
+  -- a call that failed wrote no more than a win needs
+  pub begun-refused : {v : Search} {d : List Node} {r : Result (Unit {0}) SearchError} → v ≡ record s { board = v.board; notes = v.notes }
+      → v.board ≡ s.board → OnOk r (Searches rule v t d (λ i. ⊥)) → Writes c d 1 r → HasBegun rule s v t c d r
+  begun-refused {v = v} rest board none writes = record {
+    searching = none;
+    aim = begun-aim s v rest;
+    board = board;
+    tree = tree;
+    one_node = one;
+    writes = writes;
+  }
+
   -- the search changes but in what it notes
   module _ (v : Search) (u : Tree) (d : List Node) (rest : v ≡ record s { board = v.board; notes = v.notes }) (links : u.links ≡ t.links)
       (tree_now : IsTree u) (compiled : IsCompiled d)
@@ -261,9 +295,9 @@ module _ (rule : RuleKind) (s : Search) (t : Tree) (c : List Node) (b : Grid) (b
     }
 
   -- the root is won, and its win is compiled
-  module _ (v : Search) (u : Tree) (d : List Node) (win : WrittenWin) (rest : v ≡ record s { board = v.board; notes = v.notes })
-      (items : v.notes.items ≡ noted_won s.notes.items 0 win)
-      (st : IsSettledAt t u 0 true) (grown : GrowsBy c d 1) (compiled : IsCompiled d) (is : IsThreatWin rule s.depth b d win) where
+  module _ {v : Search} {u : Tree} {d : List Node} {win : WrittenWin} (rest : v ≡ record s { board = v.board; notes = v.notes })
+      (board : v.board ≡ s.board) (items : v.notes.items ≡ noted_won s.notes.items 0 win)
+      (st : IsSettledAt t u 0 true) (writes : Writes c d 1 (Ok win)) (is : IsThreatWin rule s.depth b d win) where
     own-note : note_at v.notes.items 0 ≡ record (note_at s.notes.items 0) { moves = win.moves; node = win.node }
     own-note =
         let some : 0 < length s.notes.items = let one = begins.one in omega (arith, one) in
@@ -277,7 +311,7 @@ module _ (rule : RuleKind) (s : Search) (t : Tree) (c : List Node) (b : Grid) (b
     win-moves = let a = won-moves in let m = win-some rule s.depth b d win is.written in omega (arith, a, m)
 
     won-begun : IsBegun rule v u d
-    won-begun = still-begun v u d rest st.links st.tree compiled
+    won-begun = still-begun v u d rest st.links st.tree writes.compiled
         (ap length items ∙ length-set s.notes.items 0 (record (note_at s.notes.items 0) { moves = win.moves; node = win.node })
         ∙ begins.one)
         (ap (λ (n : Note). n.left) own-note ∙ begins.left)
@@ -289,8 +323,8 @@ module _ (rule : RuleKind) (s : Search) (t : Tree) (c : List Node) (b : Grid) (b
         (subst (λ (w : Grid). IsNotedWin rule s.depth w d win) (sym (ap (λ (w : Search). w.root) rest ∙ begins.root_is))
         (is.written, is.by_threats)))
 
-    pub begun-won : Searches rule v u d (λ i. ⊥)
-    begun-won = lone-searches rule v u d won-begun (record {
+    won-searches : Searches rule v u d (λ i. ⊥)
+    won-searches = lone-searches won-begun (record {
       can_grow = λ e. let bad : true ≡ false = sym (ap is_settled st.settled) ∙ e in cc;
       fresh = λ e. let bad : true ≡ false = sym (ap is_settled st.settled) ∙ e in cc;
       truth = record {
@@ -304,21 +338,31 @@ module _ (rule : RuleKind) (s : Search) (t : Tree) (c : List Node) (b : Grid) (b
           let e = ap (λ (w : Search). w.before) rest ∙ begins.before_is in
           let f : one_where (nat_eq (note_at v.notes.items 0).moves 0) ≡ 0 =
           ap one_where (ne_eqb (note_at v.notes.items 0).moves 0 (λ z. let m = win-moves in omega (arith, z, m))) in
-          omega (arith, grows-length c d 1 grown, e, f)
+          omega (arith, grows-length c d 1 writes.grows, e, f)
           );
     })
 
+    pub begun-won : HasBegun rule s v u c d (Ok tt)
+    begun-won = record {
+      searching = won-searches;
+      aim = begun-aim s v rest;
+      board = board;
+      tree = st.tree;
+      one_node = ap length st.links ∙ one;
+      writes = writes-tells c d 1 1 win tt writes (omega arith);
+    }
+
   -- the root is lost: one move is left, and it does not win
-  module _ (v : Search) (u : Tree) (rest : v ≡ record s { board = v.board }) (st : IsSettledAt t u 0 false) (compiled : IsCompiled c)
-      (last : s.depth ≡ 1) (none : WinsByThreats rule 1 b → ⊥) where
+  module _ {v : Search} {u : Tree} (rest : v ≡ record s { board = v.board }) (board : v.board ≡ s.board) (st : IsSettledAt t u 0 false)
+      (compiled : IsCompiled c) (last : s.depth ≡ 1) (none : WinsByThreats rule 1 b → ⊥) where
     lost-begun : IsBegun rule v u c
     lost-begun = still-begun v u c (rest ∙ ap (λ (w : Search). record s { board = v.board; notes = w.notes }) (sym rest)) st.links st.tree
         compiled
         (ap (λ (w : Search). length w.notes.items) rest ∙ begins.one)
         (ap (λ (w : Search). (note_at w.notes.items 0).left) rest ∙ begins.left)
 
-    pub begun-lost : Searches rule v u c (λ i. ⊥)
-    begun-lost = lone-searches rule v u c lost-begun (record {
+    lost-searches : Searches rule v u c (λ i. ⊥)
+    lost-searches = lone-searches lost-begun (record {
       can_grow = λ e. let bad : true ≡ false = sym (ap is_settled st.settled) ∙ e in cc;
       fresh = λ e. let bad : true ≡ false = sym (ap is_settled st.settled) ∙ e in cc;
       truth = record {
@@ -339,3 +383,13 @@ module _ (rule : RuleKind) (s : Search) (t : Tree) (c : List Node) (b : Grid) (b
           omega (arith, a, f)
           );
     })
+
+    pub begun-lost : HasBegun rule s v u c c (Ok tt)
+    begun-lost = record {
+      searching = lost-searches;
+      aim = begun-aim s v (rest ∙ ap (λ (w : Search). record s { board = v.board; notes = w.notes }) (sym rest));
+      board = board;
+      tree = st.tree;
+      one_node = ap length st.links ∙ one;
+      writes = writes-nothing c c 1 tt compiled refl;
+    }

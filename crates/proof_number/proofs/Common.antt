@@ -11,4 +11,7 @@ pub use Rattle.proof_number.specs.Searches.{AreWritten, HasGrown, HasSpent, HasS
 pub use Rattle.proof_number.specs.Searches.{IsNew, IsNotedWin, IsSameAim, IsSearching, IsSettledAt, KeepsTree, OnStep, attacks_behind}
 pub use Rattle.proof_number.specs.Searches.{behind_at, behind_leaves, closed_nodes, defences_behind, game_of, is_attack, is_open_leaf}
 pub use Rattle.proof_number.specs.Searches.{attack_nodes, noted_won, unwritten}
-unfoldable pub use Rattle.proof_number.specs.Searches.{Grows, Searches, StandsAt, sum_below}
+pub use Rattle.proof_number.specs.Searches.{CanBegin, Grows, HasBegun, HasStepped, IsBack, IsOverBudget, IsPassed, IsStep, IsTried}
+pub use Rattle.proof_number.specs.Searches.{Searches}
+pub use Rattle.proof_number.specs.Searches.{StandsAt}
+unfoldable pub use Rattle.proof_number.specs.Searches.{most_nodes, room_in, sum_below}

@@ -20,7 +20,6 @@ use Rattle.proof_tree.proofs.Common.{combined, is_settled, other_kind, settled_n
 use Rattle.proof_tree.proofs.Common.{link_at, numbers_at}
 use Rattle.proof_tree.proofs.Settled.{settled-proved, above-low}
 use Rattle.strategy_graph.specs.declared.Node.{Node}
-use Rattle.strategy_graph.specs.declared.TheConstants.{MAX_NODES}
 use Rattle.strategy_graph.proofs.Filling.{IsTable-lower}
 use Rattle.strategy_graph.proofs.Common.{NamesLower, depth, greatest}
 use Rattle.strategy_compiler.specs.declared.wins.WrittenWin.{WrittenWin}
@@ -31,6 +30,9 @@ use Rattle.threat_game.proofs.Common.{move_at, nowhere}
 use Rattle.threat_game.proofs.TreeLaws.{one_where}
 use Rattle.proof_number.specs.declared.notes.Note.{Note}
 use Rattle.proof_number.specs.declared.search.Search.{Search}
+use Rattle.proof_number.specs.Searches.Searches.{known_searching}
+use Rattle.proof_number.proofs.Opening.{searching-facts}
+use Rattle.proof_number.proofs.Common.{room_in}
 use Rattle.proof_number.proofs.Common.{all_notes, answer_of, no_note, note_at, noted_for, win_of, AreMet, GameTree, HasTried, IsGameTree}
 use Rattle.proof_number.proofs.Common.{among, board_at, left_at, left_before, moves_of, noted_tree, AreWritten, IsAbove, IsCounted}
 use Rattle.proof_number.proofs.Common.{IsNotedWin, IsSearching, IsTrueMemo, KeepsTree, game_of, is_attack, noted_won, sum_below, unwritten}
@@ -55,7 +57,7 @@ won-places rule s t items i win is =
     (record (note_at s.notes.items i) { moves = win.moves; node = win.node }) no_note refl in
     λ r. record { rule = rule; start = s.root; tree = t; moves = moves r; left = left r }
 
-module _ (rule : RuleKind) (s : Search) (t : Tree) (c : List Node) (node : ℕ) (h : IsSearching rule s t c (IsOnWayUp t.links node))
+module _ {rule : RuleKind} {s : Search} {t : Tree} {c : List Node} {node : ℕ} (h : IsSearching rule s t c (IsOnWayUp t.links node))
     (inside : node < length t.links)
     (attack : (link_at t.links node).kind ≡ Attack) (proved : numbers_at t.numbers node ≡ settled_numbers true)
     (unwon : (note_at s.notes.items node).moves ≡ 0) where
@@ -71,7 +73,7 @@ module _ (rule : RuleKind) (s : Search) (t : Tree) (c : List Node) (node : ℕ) 
 
   module _ (j : ℕ) (child : IsChild (link_at t.links node) j) (zero_proof : (numbers_at t.numbers j).proof ≡ 0) where
     facts : IsChildOf (game_of rule s t) node j
-    facts = child-of (game_of rule s t) h.tree h.game node j inside child
+    facts = child-of h.tree h.game node j inside child
 
     defends : (link_at t.links j).kind ≡ Defend
     defends = facts.kind ∙ ap other_kind attack
@@ -133,11 +135,11 @@ module _ (rule : RuleKind) (s : Search) (t : Tree) (c : List Node) (node : ℕ) 
     kid-win k low =
         let m : ℕ = (link_at t.links j).first + k in
         let kid : IsChild (link_at t.links j) m = record { from_first = omega arith; below_end = omega (arith, low) } in
-        let f = child-of (game_of rule s t) h.tree h.game j m facts.inside kid in
+        let f = child-of h.tree h.game j m facts.inside kid in
         let attacks : (link_at t.links m).kind ≡ Attack = f.kind ∙ ap other_kind defends in
         let numbers : numbers_at t.numbers m ≡ settled_numbers true =
         settled-proved (numbers_at t.numbers m) (h.tree.numbered.each m f.inside)
-        (each-zero (game_of rule s t) h.tree h.game j facts.inside (λ n. n.proof) own-total m kid) in
+        (each-zero h.tree h.game j facts.inside (λ n. n.proof) own-total m kid) in
         let beside : IsOnWayUp t.links node m → ⊥ = λ way.
         omega (arith, above-low t.links h.tree.linked way.0 node inside, way.1, facts.later, f.later) in
         let some = h.written.all m f.inside attacks numbers beside in
@@ -170,7 +172,7 @@ module _ (rule : RuleKind) (s : Search) (t : Tree) (c : List Node) (node : ℕ) 
         let below : k < (link_at t.links j).count = let e = kids-length in omega (arith, e, low) in
         let m : ℕ = (link_at t.links j).first + k in
         let kid : IsChild (link_at t.links j) m = record { from_first = omega arith; below_end = omega (arith, below) } in
-        let f = child-of (game_of rule s t) h.tree h.game j m facts.inside kid in
+        let f = child-of h.tree h.game j m facts.inside kid in
         let moved : move_at (map (λ n. n.at) s.notes.items) m ≡ (note_at s.notes.items m).at =
         get_or-map (λ (n : Note). n.at) s.notes.items m no_note nowhere
         (let long = notes-long in let i = f.inside in omega (arith, long, i)) in
@@ -394,16 +396,15 @@ module _ (rule : RuleKind) (s : Search) (t : Tree) (c : List Node) (node : ℕ) 
           few = won-few;
         })
 
-module _ (rule : RuleKind) (s : Search) (t : Tree) (c : List Node) (node : ℕ) (searches : Searches rule s t c (IsOnWayUp t.links node))
+module _ {rule : RuleKind} {s : Search} {t : Tree} {c : List Node} {node : ℕ} (searches : Searches rule s t c (IsOnWayUp t.links node))
     (inside : node < length t.links)
     (attack : (link_at t.links node).kind ≡ Attack) (proved : numbers_at t.numbers node ≡ settled_numbers true)
     (unwon : (note_at s.notes.items node).moves ≡ 0) where
   h : IsSearching rule s t c (IsOnWayUp t.links node)
-  unfolding Searches
-  h = searches
+  h = searching-facts searches
 
   pub compile-some : 0 < (link_at t.links node).count
-  compile-some = node-some rule s t c node h inside attack proved unwon
+  compile-some = node-some h inside attack proved unwon
 
   noted-length : length s.notes.items ≡ length t.links
   noted-length = sym (length-map s.notes.items (λ (n : Note). n.at)) ∙ h.game.moves
@@ -415,11 +416,11 @@ module _ (rule : RuleKind) (s : Search) (t : Tree) (c : List Node) (node : ℕ) 
   own-left =
       let root : left_at (game_of rule s t).left 0 ≡ (note_at s.notes.items 0).left =
       get_or-map (λ (n : Note). n.left) s.notes.items 0 no_note 0 (let l = compile-here in omega (arith, l)) in
-      omega (arith, left-low (game_of rule s t) h.tree.linked h.game node inside, root, h.depth, h.depth_fits)
+      omega (arith, left-low h.tree.linked h.game node inside, root, h.depth, h.depth_fits)
 
   module _ (j : ℕ) (child : IsChild (link_at t.links node) j) (nothing : (numbers_at t.numbers j).proof ≡ 0) where
     pub compile-inside : j < length t.links
-    compile-inside = child-inside rule s t c node h inside attack proved unwon j child nothing
+    compile-inside = child-inside h inside attack proved unwon j child nothing
 
     pub compile-noted : j < length s.notes.items
     compile-noted = let e = noted-length in let l = compile-inside in omega (arith, e, l)
@@ -430,11 +431,11 @@ module _ (rule : RuleKind) (s : Search) (t : Tree) (c : List Node) (node : ℕ) 
     module _ (kids : List Note) (are : kids ≡ take (link_at t.links j).count (drop (link_at t.links j).first s.notes.items)) where
       pub compile-kids : 0 < length kids
       compile-kids = subst (λ (ns : List Note). 0 < length ns) (sym are)
-          (kids-some rule s t c node h inside attack proved unwon j child nothing)
+          (kids-some h inside attack proved unwon j child nothing)
 
       pub compile-below : All (λ n. n.node < length c) kids
       compile-below = subst (λ (ns : List Note). All (λ n. n.node < length c) ns) (sym are)
-          (kids-below rule s t c node h inside attack proved unwon j child nothing)
+          (kids-below h inside attack proved unwon j child nothing)
 
       module _ (d : List Node) (p : Point) (move : (note_at s.notes.items j).at ≡ p) (win : WrittenWin) (writes : Writes c d 1 (Ok win))
           (wins : WinsByAnswers c p (map answer_of (all_notes kids (points_of s.root))) d win.node)
@@ -444,9 +445,6 @@ module _ (rule : RuleKind) (s : Search) (t : Tree) (c : List Node) (node : ℕ) 
 
         compiled : IsCompiled d
         compiled = writes.compiled
-
-        pub compile-kept : (more : List Node) × (d ≡ c ++ more)
-        compile-kept = (writes.grows.added, writes.grows.is)
 
         pub compile-won : IsWrittenWin rule (left_at (game_of rule s t).left node) (board_at (game_of rule s t) node) d win
         compile-won =
@@ -459,7 +457,7 @@ module _ (rule : RuleKind) (s : Search) (t : Tree) (c : List Node) (node : ℕ) 
                   ∙ sym moves) i;
             } in
             subst (λ (w : WrittenWin). IsWrittenWin rule (left_at (game_of rule s t).left node) (board_at (game_of rule s t) node) d w) same
-            (node-win rule s t c node h inside attack proved unwon j child nothing d win.node p move
+            (node-win h inside attack proved unwon j child nothing d win.node p move
             (subst (λ (ns : List Note). WinsByAnswers c p (map answer_of (all_notes ns (points_of s.root))) d win.node) are wins))
 
         pub compile-few : win.moves < 256
@@ -472,20 +470,19 @@ module _ (rule : RuleKind) (s : Search) (t : Tree) (c : List Node) (node : ℕ) 
           pub compile-keeps : KeepsTree s u
           compile-keeps =
               let a = added in
-              won-keeps rule s t c node h inside attack proved unwon a.0 a.2 (subst IsCompiled a.1 compiled) win
+              won-keeps h inside attack proved unwon a.0 a.2 (subst IsCompiled a.1 compiled) win
               (win-some rule (left_at (game_of rule s t).left node) (board_at (game_of rule s t) node) d win compile-won)
               (subst (λ (x : List Node). IsNotedWin rule (left_at (game_of rule s t).left node) (board_at (game_of rule s t) node) x win)
               a.1 noted) u rest items
 
           pub compile-searches : Searches rule u t d (IsAbove t.links node)
-          unfolding Searches
-          compile-searches =
+          compile-searches = known_searching (
               let a = added in
               subst (λ (x : List Node). IsSearching rule u t x (IsAbove t.links node)) (sym a.1)
-              (won-searching rule s t c node h inside attack proved unwon a.0 a.2 (subst IsCompiled a.1 compiled) win
+              (won-searching h inside attack proved unwon a.0 a.2 (subst IsCompiled a.1 compiled) win
               (win-some rule (left_at (game_of rule s t).left node) (board_at (game_of rule s t) node) d win compile-won)
               (subst (λ (x : List Node). IsNotedWin rule (left_at (game_of rule s t).left node) (board_at (game_of rule s t) node) x win)
-              a.1 noted) u rest items)
+              a.1 noted) u rest items))
 
   was-one : unwritten t s.notes.items node ≡ 1
   was-one =
@@ -498,6 +495,7 @@ module _ (rule : RuleKind) (s : Search) (t : Tree) (c : List Node) (node : ℕ) 
       (let e = was-one in omega (arith, e)) in
       omega (arith, sum-zeros (length t.links), less)
 
-  -- where the compiler is full, more positions are counted than it has room for
-  pub compile-full : MAX_NODES < length c + 1 → MAX_NODES < s.before + s.attacked
-  compile-full full = let few = h.few in let one = sum-one in omega (arith, few, one, full)
+  -- there is room for the node
+  pub compile-room : 1 ≤ room_in (s.before + s.attacked) c
+  unfolding room_in
+  compile-room = omega (arith, h.few, sum-one)

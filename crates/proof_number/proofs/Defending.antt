@@ -23,7 +23,6 @@ use Rattle.proof_tree.proofs.Common.{no_numbers, numbers_at, is_settled, other_k
 use Rattle.proof_tree.proofs.SumLaws.{IsFresh, fresh-sum}
 use Rattle.proof_tree.proofs.Settled.{proved-apart}
 use Rattle.strategy_graph.specs.declared.Node.{Node}
-use Rattle.strategy_graph.specs.declared.TheConstants.{MAX_NODES}
 use Rattle.strategy_graph.proofs.Common.{NamesLower}
 use Rattle.strategy_graph.proofs.Filling.{IsTable-lower}
 use Rattle.strategy_compiler.specs.declared.wins.WrittenWin.{WrittenWin}
@@ -42,12 +41,14 @@ use Rattle.threat_game.proofs.TreeLaws.{whole-by}
 use Rattle.threat_game.proofs.AttackLaws.{escape-saves}
 use Rattle.proof_number.specs.declared.notes.Note.{Note}
 use Rattle.proof_number.specs.declared.search.Search.{Search}
-use Rattle.proof_number.specs.Searches.{HasNoRoom}
+use Rattle.proof_number.specs.Searches.Grows.{known_grown}
+use Rattle.proof_number.proofs.Opening.{leaf-facts}
+use Rattle.proof_number.proofs.Common.{most_nodes, room_in}
 use Rattle.proof_number.proofs.Common.{AreSettled, IsSettledChild, child_at, child_note, child_numbers, no_child, no_note, note_at, win_of}
 use Rattle.proof_number.proofs.Common.{open_numbers, AreMet, CanGrow, GameTree, HasTried, TellsTruly, WinsAt, among, board_at, left_at}
 use Rattle.proof_number.proofs.Common.{IsTrueMemo, Grows, HasGrown, HasSpent, IsAtLeaf, IsExpandedAt, IsNotedWin, IsSettledAt, StandsAt}
 use Rattle.proof_number.proofs.Common.{attacks_behind, behind_at, defences_behind, game_of, is_attack, sum_below, IsLostAt, WinsByFewFours}
-use Rattle.proof_number.proofs.ExpandedCounts.{IsNewNote, expanded-grown, new_behind, unwritten_child, sum-nothing}
+use Rattle.proof_number.proofs.ExpandedCounts.{Expansion, IsNewNote, expanded-grown, new_behind, unwritten_child, sum-nothing}
 use Rattle.proof_number.proofs.Expanding.{IsNewChild}
 use Rattle.proof_number.proofs.Growing.{lost-grown}
 use Rattle.proof_number.proofs.Remembering.{memo-grown}
@@ -348,14 +349,13 @@ child-whole rule left b lawful child is =
 
 -- ---- at a leaf of the defender
 
-module _ (rule : RuleKind) (s : Search) (t : Tree) (c : List Node) (leaf : ℕ) (view : Grid) (stands : StandsAt rule s t c leaf view)
+module _ {rule : RuleKind} {s : Search} {t : Tree} {c : List Node} {leaf : ℕ} {view : Grid} (stands : StandsAt rule s t c leaf view)
     (defend : (link_at t.links leaf).kind ≡ Defend) where
   here : IsAtLeaf rule s t c leaf view
-  unfolding StandsAt
-  here = stands
+  here = leaf-facts stands
 
   left-noted : left_at (game_of rule s t).left leaf ≡ (note_at s.notes.items leaf).left
-  left-noted = get_or-map (λ (n : Note). n.left) s.notes.items leaf no_note 0 (leaf-noted rule s t c leaf view stands)
+  left-noted = get_or-map (λ (n : Note). n.left) s.notes.items leaf no_note 0 (leaf-noted stands)
 
   can-grow : CanGrow Defend rule (left_at (game_of rule s t).left leaf) (board_at (game_of rule s t) leaf)
   can-grow = subst (λ (q : Kind). CanGrow q rule (left_at (game_of rule s t).left leaf) (board_at (game_of rule s t) leaf)) defend
@@ -381,21 +381,19 @@ module _ (rule : RuleKind) (s : Search) (t : Tree) (c : List Node) (leaf : ℕ) 
   -- where a reply leaves no win the leaf is settled
   pub escape-grows : HasEscape rule (note_at s.notes.items leaf).left view → (note_at s.notes.items leaf).left ≤ 2 → (u : Tree)
       → IsSettledAt t u leaf false → (b : Grid) → b ≡ s.board → Grows rule s (record s { board = b }) t u c leaf
-  unfolding Grows
-  escape-grows escape few u st b same =
-      lost-grown rule s t c leaf view here u st (record s { board = b }) refl same here.searching.remembered
+  escape-grows escape few u st b same = known_grown (
+      lost-grown here st (record s { board = b }) refl same here.searching.remembered
       (at-leaf-is (λ k n d. WinsAt k rule n d → ⊥) (escape-saves rule (note_at s.notes.items leaf).left view escape))
       (at-leaf-is (λ k n d. IsLostAt k (game_of rule s t) n d)
-      (inr (inr (record { reply = escape.reply; on = escape.on; denied = inr (few, escape.no_win) }))))
+      (inr (inr (record { reply = escape.reply; on = escape.on; denied = inr (few, escape.no_win) })))))
 
   -- where the other side wins by its own fours the leaf is settled
   pub denied-grows : ((moves : ℕ) → LosesToThreats rule moves view → ⊥) → WinsByFewFours rule view → (u : Tree)
       → IsSettledAt t u leaf false → Grows rule s s t u c leaf
-  unfolding Grows
-  denied-grows denied fours u st =
-      lost-grown rule s t c leaf view here u st s refl refl here.searching.remembered
+  denied-grows denied fours u st = known_grown (
+      lost-grown here st s refl refl here.searching.remembered
       (at-leaf-is (λ k n d. WinsAt k rule n d → ⊥) (denied (note_at s.notes.items leaf).left))
-      (at-leaf-is (λ k n d. IsLostAt k (game_of rule s t) n d) (inr (inl fours)))
+      (at-leaf-is (λ k n d. IsLostAt k (game_of rule s t) n d) (inr (inl fours))))
 
   -- the positions behind the leaf are counted from the root
   attacks-fit : s.attacked + behind_replies rule (threat_tree rule (note_at s.notes.items leaf).left) view ≤ threat_tree rule s.depth s.root
@@ -412,13 +410,13 @@ module _ (rule : RuleKind) (s : Search) (t : Tree) (c : List Node) (leaf : ℕ) 
       let low = sum-less (length t.links) (λ i. 0) (behind_at attacks_behind g) leaf count here.in_tree (λ j l other. omega arith)
       (omega (arith, own)) in
       let first : left_at g.left 0 ≡ s.depth = get_or-map (λ (n : Note). n.left) s.notes.items 0 no_note 0
-      (let l = leaf-noted rule s t c leaf view stands in omega (arith, l)) ∙ here.searching.depth in
+      (let l = leaf-noted stands in omega (arith, l)) ∙ here.searching.depth in
       let root_is : threat_tree rule (left_at g.left 0) s.root ≡ threat_tree rule s.depth s.root =
       ap (λ (n : ℕ). threat_tree rule n s.root) first in
       omega (arith, nothing, low, root_is, here.searching.counted.attacks)
 
   pub lawful-here : IsPosition rule view
-  lawful-here = leaf-lawful rule s t c leaf view stands
+  lawful-here = leaf-lawful stands
 
   module _ (children : Children) (are : AreChildren rule (note_at s.notes.items leaf).left view children) where
     -- where the budget does not reach, the game has more positions
@@ -459,17 +457,11 @@ module _ (rule : RuleKind) (s : Search) (t : Tree) (c : List Node) (leaf : ℕ) 
         let all = all-sum (λ (x : Child). counted_for x.judged) in
         omega (arith, sum, are.count_is, short, all)
 
-    -- where the compiler is full, more positions are counted than it has room for
-    pub replies-full : {E : Type 0} → s.attacked + children.count ≤ s.budget
-        → (E → MAX_NODES < length c + sum_by (λ (x : Child). nodes_for x.judged) children.all.items) → E
-        → HasNoRoom rule s
-    replies-full fits refused e =
-        let over = refused e in
-        let nodes = nodes-few in
-        let a = attacks-fit in
-        let few = are.few in
-        let size = here.searching.few in
-        (omega (arith, over, nodes, size, fits), omega (arith, over, nodes, size, a, few))
+    -- there is room for the nodes of the children
+    pub replies-room : s.attacked + children.count ≤ s.budget
+        → sum_by (λ (x : Child). nodes_for x.judged) children.all.items ≤ room_in (most_nodes rule s) c
+    unfolding room_in most_nodes
+    replies-room fits = omega (arith, nodes-few, attacks-fit, are.few, here.searching.few, fits)
 
     -- what is counted and stands behind the children is no more than the game has there
     counted-whole : children.count + sum_by (open_behind rule (note_at s.notes.items leaf).left view) children.all.items ≤ behind_replies
@@ -603,8 +595,7 @@ module _ (rule : RuleKind) (s : Search) (t : Tree) (c : List Node) (leaf : ℕ) 
           (length children.all.items) more ms) grown.is settled
 
       pub replies-grow : Grows rule s v t u d leaf
-      unfolding Grows
-      replies-grow =
+      replies-grow = known_grown (
           let left : ℕ = (note_at s.notes.items leaf).left in
           let count = count-is in
           let defended = defended-is in
@@ -626,20 +617,32 @@ module _ (rule : RuleKind) (s : Search) (t : Tree) (c : List Node) (leaf : ℕ) 
           let some = are.some in
           let defended_fits = here.searching.counted.defended_fits in
           let same_table : v.settled ≡ s.settled = ap (λ (w : Search). w.settled) rest in
+          let x : Expansion rule s v t u c grown.added leaf view more ms = record {
+            at_leaf = here;
+            expanded = e;
+            rest = rest ∙ ap (λ (w : Search). record s
+                { board = v.board; notes = v.notes; settled = w.settled; attacked = w.attacked; defended = w.defended }) (sym rest);
+            same_board = same_board;
+            compiled = subst IsCompiled grown.is compiled;
+            table = memo-grown rule (game_of rule s t) c grown.added v.settled (IsTable-lower c here.searching.compiled.table)
+                (subst (IsTrueMemo rule c (game_of rule s t)) (sym same_table) here.searching.remembered);
+            items = items;
+            many = settled.notes_count ∙ sym settled.numbers_count;
+            some = some-new d more ms settled;
+            tried = tried-here d more ms settled;
+            each = child-at d more ms settled;
+            noted = noted-at (c ++ grown.added) more ms settled-now;
+            attacked_more = omega (arith, count);
+            defended_more = omega (arith, defended);
+            attacked_fits = omega (arith, count, fits);
+            defended_fits = omega (arith, defended, defended_fits);
+            nodes_counted = omega (arith, count, defended, many, size);
+            low = λ kind. fresh-sum kind more (all-fresh d more ms settled);
+            met = met-here (c ++ grown.added) more ms settled-now;
+            short = omega (arith, count, nodes, added, unwritten);
+            attackers_counted = omega (arith, count, many, size, attackers);
+            attacks_counted = omega (arith, count, attacks, whole, attacks_left);
+            defences_counted = omega (arith, defended, defences, whole, many, some, defences_left);
+          } in
           subst (λ (x : List Node). HasGrown rule s v t u x leaf) (sym grown.is)
-          (expanded-grown rule s t c leaf view here u more e v grown.added
-          (rest ∙ ap (λ (w : Search). record s
-          { board = v.board; notes = v.notes; settled = w.settled; attacked = w.attacked; defended = w.defended }) (sym rest))
-          same_board (subst IsCompiled grown.is compiled)
-          (memo-grown rule (game_of rule s t) c grown.added v.settled (IsTable-lower c here.searching.compiled.table)
-          (subst (IsTrueMemo rule c (game_of rule s t)) (sym same_table) here.searching.remembered))
-          ms items (settled.notes_count ∙ sym settled.numbers_count) (some-new d more ms settled)
-          (tried-here d more ms settled) (child-at d more ms settled) (noted-at (c ++ grown.added) more ms settled-now)
-          (omega (arith, count)) (omega (arith, defended)) (omega (arith, count, fits)) (omega (arith, defended, defended_fits))
-          (omega (arith, count, defended, many, size))
-          (λ kind. fresh-sum kind more (all-fresh d more ms settled))
-          (met-here (c ++ grown.added) more ms settled-now)
-          (omega (arith, count, nodes, added, unwritten))
-          (omega (arith, count, many, size, attackers))
-          (omega (arith, count, attacks, whole, attacks_left))
-          (omega (arith, defended, defences, whole, many, some, defences_left)))
+          (expanded-grown x))

@@ -19,7 +19,7 @@ use Rattle.proof_number.proofs.DenialLaws.{denied-more, lost-more}
 use Rattle.proof_number.proofs.GameTruths.{all-tell, child-of, each-zero, fits, move-child, some-zero, tried-attack}
 use Rattle.proof_number.proofs.Sums.{sum-suc}
 
-module _ (g : GameTree) (ok : IsTree g.tree) (game : IsGameTree g) where
+module _ {g : GameTree} (ok : IsTree g.tree) (game : IsGameTree g) where
   -- a disproved node of the attacker denies it
   pub denied-node : (j : ℕ) → j < length g.tree.links → (link_at g.tree.links j).kind ≡ Attack
       → numbers_at g.tree.numbers j ≡ settled_numbers false → (n : ℕ) (b : Grid) → left_at g.left j ≡ n → board_at g j ≡ b
@@ -36,7 +36,7 @@ module _ (g : GameTree) (ok : IsTree g.tree) (game : IsGameTree g) where
     })
     | inr few ↦ inr (
       few,
-      λ win. (all-tell g ok game j inside).disproved lost
+      λ win. (all-tell ok game j inside).disproved lost
           (subst (λ (k : Kind). WinsAt k g.rule (left_at g.left j) (board_at g j)) (sym attack)
           (subst (λ (m : ℕ). WinsByThreats g.rule m (board_at g j)) (sym left)
           (subst (WinsByThreats g.rule n) (sym board) win))),
@@ -59,8 +59,8 @@ module _ (g : GameTree) (ok : IsTree g.tree) (game : IsGameTree g) where
         ∙ ap (λ (k : Kind). combined k (children_of (link_at g.tree.links i) g.tree.numbers)) defend in
         let nothing : least (map (λ n. n.disproof) (children_of (link_at g.tree.links i) g.tree.numbers)) ≡ 0 =
         ap (λ (n : Numbers). n.disproof) (sym own ∙ lost) in
-        let child = some-zero g ok game i inside (λ n. n.disproof) nothing in
-        let c = child-of g ok game i child.0 inside child.1 in
+        let child = some-zero ok game i inside (λ n. n.disproof) nothing in
+        let c = child-of ok game i child.0 inside child.1 in
         let attack : (link_at g.tree.links child.0).kind ≡ Attack = c.kind ∙ ap other_kind defend in
         let same : left_at g.left child.0 ≡ left_at g.left i =
         ap (λ (k : Kind). left_before k (left_at g.left child.0)) (sym attack) ∙ c.fewer in
@@ -95,8 +95,8 @@ module _ (g : GameTree) (ok : IsTree g.tree) (game : IsGameTree g) where
           no_five = tried.2.no_five;
           refuted = λ p threat. elim (tried.2.others p threat) [
             | inl listed ↦
-                let child = move-child (link_at g.tree.links i) g.moves p (fits g ok game i inside) listed in
-                let c = child-of g ok game i child.0 inside child.1 in
+                let child = move-child (link_at g.tree.links i) g.moves p (fits ok game i inside) listed in
+                let c = child-of ok game i child.0 inside child.1 in
                 let defend : (link_at g.tree.links child.0).kind ≡ Defend = c.kind ∙ ap other_kind attack in
                 let less : suc (left_at g.left child.0) ≡ left_at g.left i =
                 ap (λ (k : Kind). left_before k (left_at g.left child.0)) (sym defend) ∙ c.fewer in
@@ -104,7 +104,7 @@ module _ (g : GameTree) (ok : IsTree g.tree) (game : IsGameTree g) where
                 let there : board_at g child.0 ≡ after (board_at g i) p = c.board ∙ ap (after (board_at g i)) child.2 in
                 let gone : numbers_at g.tree.numbers child.0 ≡ settled_numbers false =
                 settled-disproved (numbers_at g.tree.numbers child.0) (ok.numbered.each child.0 c.inside)
-                (each-zero g ok game i inside (λ n. n.disproof) nothing child.0 child.1) in
+                (each-zero ok game i inside (λ n. n.disproof) nothing child.0 child.1) in
                 subst (λ (n : ℕ). IsRefuted g.rule (IsDisproved g) n (after (board_at g i) p)) same
                 (subst (IsRefuted g.rule (IsDisproved g) (left_at g.left child.0)) there
                 (refuted-at child.0 c.inside defend gone))
@@ -213,12 +213,12 @@ tree-denial g ok game n b left board lost most few =
       lost = λ m c has.
           let is = found.1.true_of m c has in
           let node : IsLost g.rule (IsDisproved g) (left_at g.left is.node) (board_at g is.node) =
-          lost-at g ok game is.node is.inside is.attack is.disproved (let l = is.several in let e = is.left_is in omega (arith, l, e)) in
+          lost-at ok game is.node is.inside is.attack is.disproved (let l = is.several in let e = is.left_is in omega (arith, l, e)) in
           lost-more g.rule (IsDisproved g) (λ k d. Contains found.0 (k, d)) (listed found.0 found.1) m c
           (subst (λ (k : ℕ). IsLost g.rule (IsDisproved g) k c) is.left_is
           (subst (IsLost g.rule (IsDisproved g) (left_at g.left is.node)) is.board_is node));
       denied = denied-more g.rule (IsDisproved g) (λ k d. Contains found.0 (k, d)) (listed found.0 found.1) n b
-          (denied-node g ok game 0 ok.linked.some ok.linked.root_attacks lost n b left board);
+          (denied-node ok game 0 ok.linked.some ok.linked.root_attacks lost n b left board);
       few = let low = found.1.few in omega (arith, low, few);
     } where
       listed : (all : List (ℕ × Grid)) → AreListed g (length g.tree.links) all → (k : ℕ) (d : Grid) → IsDisproved g k d

@@ -1,19 +1,30 @@
 -- The end of the search: what the note and the numbers of the root tell.
-use Rattle.std.proofs.Common.{◌≡◌, ◌∙◌, inl, inr, ℕ, zero, suc, ◌+◌, ◌*◌, ◌<◌, ◌≤◌, Bool, true, false, cond, sym, ap, subst, arith, List}
-use Rattle.std.proofs.Common.{length, get_or, min, Some, None}
+use Rattle.std.proofs.Common.{◌≡◌, ◌∙◌, inl, inr, ℕ, zero, suc, ◌*◌, ◌<◌, ◌≤◌, Bool, true, false, cond, sym, ap, subst, arith, List}
+use Rattle.std.proofs.Common.{length, get_or, min, Some, None, Result, Ok, Err, IfOk, OnOk, refl}
 use Rattle.std.proofs.lemmas.List.{get_or_default, length-map}
 use Rattle.game_rules.proofs.Common.{Grid, WinsByThreats, WinsWithin}
 use Rattle.game_rules.specs.declared.RuleKind.{RuleKind}
 use Rattle.game_rules.proofs.Games.{WinsByFours-WinsByThreats}
 use Rattle.strategy_graph.specs.declared.Node.{Node}
-use Rattle.strategy_graph.specs.declared.TheConstants.{MAX_NODES}
+use Rattle.strategy_compiler.specs.declared.error.SearchError.{SearchError}
+use Rattle.strategy_compiler.proofs.Common.{Writes}
 use Rattle.strategy_graph.proofs.Soundness.{accepted-wins}
 use Rattle.strategy_compiler.specs.declared.wins.WrittenWin.{WrittenWin}
-use Rattle.proof_tree.proofs.Common.{is_settled, settled_numbers, Tree, numbers_at}
+use Rattle.proof_tree.proofs.Common.{is_settled, settled_numbers, IsTree, Tree, numbers_at}
 use Rattle.proof_tree.specs.declared.Kind.{Kind}
 use Rattle.proof_tree.proofs.Settled.{settled-one}
 use Rattle.proof_number.specs.declared.notes.Note.{Note}
 use Rattle.proof_number.specs.declared.search.Search.{Search}
+use Rattle.proof_number.specs.declared.answer.ProofAnswer.{ProofAnswer}
+use Rattle.proof_number.specs.declared.answer.ProofAnswer.TheVariants.{Win, None as NoWin, Spent}
+use Rattle.proof_number.specs.declared.TheConstants.{MAX_BUDGET, MAX_DEPTH}
+use Rattle.proof_number.specs.Answers.{Leaves, OnWin}
+use Rattle.proof_number.specs.Told.{IsTold, IsTrueAnswer}
+use Rattle.proof_number.proofs.Opening.{searching-facts}
+use Rattle.proof_number.proofs.Steps.{most-same}
+use Rattle.proof_number.proofs.StepLaws.{writes-on}
+use Rattle.proof_number.proofs.Common.{CanBegin, IsNew, IsSameAim, most_nodes, room_in}
+use Rattle.threat_game.proofs.TreeLaws.{tree-positive}
 use Rattle.proof_number.proofs.Common.{HasDenial, HasNoThreatWin, no_note, note_at, noted_win, win_of, GameTree, TellsTruly, WinsAt}
 use Rattle.proof_number.proofs.Common.{board_at, left_at}
 use Rattle.proof_number.proofs.Common.{IsNotedWin, IsSearching, Searches, closed_nodes, game_of, is_open_leaf, sum_below}
@@ -34,10 +45,9 @@ sum-ones (suc n) f =
       one-least true = omega arith
       one-least false = omega arith
 
-module _ (rule : RuleKind) (s : Search) (t : Tree) (c : List Node) (searches : Searches rule s t c (λ i. ⊥)) where
+module _ {rule : RuleKind} {s : Search} {t : Tree} {c : List Node} (searches : Searches rule s t c (λ i. ⊥)) where
   h : IsSearching rule s t c (λ i. ⊥)
-  unfolding Searches
-  h = searches
+  h = searching-facts searches
 
   abbrev Game : GameTree
   Game = game_of rule s t
@@ -57,22 +67,7 @@ module _ (rule : RuleKind) (s : Search) (t : Tree) (c : List Node) (searches : S
   root-left : left_at Game.left 0 ≡ s.depth
   root-left = left-root s.notes.items s.depth root-noted h.depth
 
-  -- no more nodes were added than positions are counted
-  pub added-few : length c ≤ s.before + min s.budget (threat_tree rule s.depth s.root)
-  added-few =
-      let first : threat_tree rule (left_at Game.left 0) s.root ≡ threat_tree rule s.depth s.root =
-      ap (λ (n : ℕ). threat_tree rule n s.root) root-left in
-      omega (arith, h.few, h.counted.attacked_fits, h.counted.attacks, first)
-
-  -- the same for what the search was begun with
-  pub told-few : (n budget : ℕ) (b : Grid) (old : List Node) → s.depth ≡ n → s.budget ≡ budget → s.root ≡ b → s.before ≡ length old
-      → length c ≤ length old + min budget (threat_tree rule n b)
-  told-few n budget b old deep for_budget from before =
-      let same : threat_tree rule s.depth s.root ≡ threat_tree rule n b =
-      ap (λ (m : ℕ). threat_tree rule m s.root) deep ∙ ap (threat_tree rule n) from in
-      omega (arith, added-few, same, for_budget, before)
-
-  -- nor has the tree more nodes than positions of both sides are counted
+  -- the tree has no more nodes than positions of both sides are counted
   tree-few : length t.links ≤ 2 * min s.budget (threat_tree rule s.depth s.root)
   tree-few =
       let first : threat_tree rule (left_at Game.left 0) s.root ≡ threat_tree rule s.depth s.root =
@@ -95,7 +90,7 @@ module _ (rule : RuleKind) (s : Search) (t : Tree) (c : List Node) (searches : S
       (subst (λ (n : ℕ). TellsTruly (numbers_at t.numbers 0) (WinsByThreats rule n (board_at Game 0))) root-left
       (subst (λ (k : Kind). TellsTruly (numbers_at t.numbers 0) (WinsAt k rule (left_at Game.left 0) (board_at Game 0)))
       h.tree.linked.root_attacks
-      (all-tell Game h.tree h.game 0 root-inside)))
+      (all-tell h.tree h.game 0 root-inside)))
 
   -- where a win is noted
   module _ (w : WrittenWin) (e : noted_win (note_at s.notes.items 0) ≡ Some w) where
@@ -177,9 +172,114 @@ module _ (rule : RuleKind) (s : Search) (t : Tree) (c : List Node) (searches : S
     pub told-lost : None ≡ noted_win note → is_settled (numbers_at t.numbers 0) ≡ true → numbers_at t.numbers 0 ≡ settled_numbers false
     told-lost e = root-lost (ap noted_win root-note ∙ sym e)
 
--- ---- counts
+-- ---- what is left
 
--- where a search that was begun for this is full, more positions are counted than the compiler has room for
-pub begun-full : {E : Type 0} (length budget positions : ℕ) → 1 ≤ budget → 1 ≤ positions → (E → MAX_NODES < length + 1) → E
-    → MAX_NODES < length + min budget positions
-begun-full length budget positions some more refused e = let over = refused e in omega (arith, over, some, more)
+-- all that may be counted may still be written at first
+room-new : (rule : RuleKind) (s : Search) (c : List Node) → s.before ≡ length c
+    → room_in (most_nodes rule s) c ≡ min s.budget (threat_tree rule s.depth s.root)
+unfolding room_in most_nodes
+room-new rule s c before = omega (arith, before)
+
+pub begun-room : (rule : RuleKind) {s : Search} {t : Tree} {c : List Node} {b : Grid} → CanBegin s t c b → 1 ≤ room_in (most_nodes rule s) c
+begun-room rule {s = s} {c = c} can =
+    let some = tree-positive rule s.depth s.root in
+    let more = can.some_budget in
+    let room = room-new rule s c can.new.before_is in
+    omega (arith, some, more, room)
+
+pub leaves-told : {A : Type 0} (rule : RuleKind) (s : Search) {t u : Tree} {c d : List Node} {r : Result A SearchError}
+    → s.before ≡ length c → IsTree u → length t.links ≤ length u.links
+    → OnOk r (length u.links ≤ 2 * min s.budget (threat_tree rule s.depth s.root)) → Writes c d (room_in (most_nodes rule s) c) r
+    → Leaves (min s.budget (threat_tree rule s.depth s.root)) t u c d r
+leaves-told rule s {c = c} {d = d} {r = r} before tree longer few writes = record {
+  tree = tree;
+  longer = longer;
+  tree_few = few;
+  writes = subst (λ (k : ℕ). Writes c d k r) (room-new rule s c before) writes;
+}
+
+-- a step and those before it
+pub steps-write : {A : Type 0} (rule : RuleKind) {s v : Search} {c d e : List Node} {r : Result A SearchError} → IsSameAim s v
+    → Writes {A = Unit {0}} c d (room_in (most_nodes rule s) c) (Ok tt) → Writes d e (room_in (most_nodes rule v) d) r
+    → Writes c e (room_in (most_nodes rule s) c) r
+steps-write rule aim first second = let same = most-same rule aim in writes-on first (omega (arith, same)) second
+
+-- ---- what is told, by what the search was begun with
+
+pub can-begin : {depth budget before : ℕ} {a b : Grid} {s : Search} {t : Tree} {c : List Node} → IsNew depth budget before a s
+    → 1 ≤ depth → depth ≤ MAX_DEPTH → 1 ≤ budget → budget ≤ MAX_BUDGET → length t.links ≡ 1 → is_settled (numbers_at t.numbers 0) ≡ false
+    → before ≡ length c → a ≡ b → CanBegin s t c b
+can-begin new some_depth depth_fits some_budget budget_fits one unsettled before board =
+    let depth_is = new.depth_is in
+    let budget_is = new.budget_is in
+    record {
+      new = record {
+        depth_is = refl;
+        budget_is = refl;
+        before_is = new.before_is ∙ before;
+        root_is = new.root_is ∙ board;
+        board_is = new.board_is ∙ board;
+        one = new.one;
+        left = new.left ∙ sym new.depth_is;
+        unwon = new.unwon;
+        none = new.none;
+        attacked_is = new.attacked_is;
+        defended_is = new.defended_is;
+      };
+      some_depth = omega (arith, depth_is, some_depth);
+      depth_fits = omega (arith, depth_is, depth_fits);
+      some_budget = omega (arith, budget_is, some_budget);
+      budget_fits = omega (arith, budget_is, budget_fits);
+      one_node = one;
+      unsettled = unsettled;
+    }
+
+module _ {rule : RuleKind} {depth budget before : ℕ} {a b : Grid} {s : Search} {t u : Tree} {c d : List Node}
+    {r : Result ProofAnswer SearchError} (new : IsNew depth budget before a s) (board : a ≡ b) (told : IsTold rule s t u c d r) where
+  told-true : IfOk r (IsTrueAnswer rule depth budget b d)
+  told-true =
+      subst (λ (n : ℕ). IfOk r (IsTrueAnswer rule n budget b d)) new.depth_is
+      (subst (λ (k : ℕ). IfOk r (IsTrueAnswer rule s.depth k b d)) new.budget_is
+      (subst (λ (g : Grid). IfOk r (IsTrueAnswer rule s.depth s.budget g d)) (new.root_is ∙ board) told.true_answer))
+
+  pub told-leaves : Leaves (min budget (threat_tree rule depth b)) t u c d r
+  told-leaves =
+      subst (λ (n : ℕ). Leaves (min budget (threat_tree rule n b)) t u c d r) new.depth_is
+      (subst (λ (k : ℕ). Leaves (min k (threat_tree rule s.depth b)) t u c d r) new.budget_is
+      (subst (λ (g : Grid). Leaves (min s.budget (threat_tree rule s.depth g)) t u c d r) (new.root_is ∙ board) told.leaves))
+
+  pub tells-win : IfOk r (λ x. OnWin x (IsThreatWin rule depth b d))
+  tells-win = by_answer r told-true where
+    by_answer : (q : Result ProofAnswer SearchError) → IfOk q (IsTrueAnswer rule depth budget b d)
+        → IfOk q (λ x. OnWin x (IsThreatWin rule depth b d))
+    by_answer (Err e) h = tt
+    by_answer (Ok (Win w)) h = h
+    by_answer (Ok NoWin) h = tt
+    by_answer (Ok Spent) h = tt
+
+  pub tells-none : IfOk r (λ x. x ≡ NoWin → HasNoThreatWin rule depth b)
+  tells-none = by_answer r told-true where
+    by_answer : (q : Result ProofAnswer SearchError) → IfOk q (IsTrueAnswer rule depth budget b d)
+        → IfOk q (λ x. x ≡ NoWin → HasNoThreatWin rule depth b)
+    by_answer (Err e) h = tt
+    by_answer (Ok (Win w)) h = λ is. cc
+    by_answer (Ok NoWin) h = λ is. h.0
+    by_answer (Ok Spent) h = λ is. cc
+
+  pub tells-denial : IfOk r (λ x. x ≡ NoWin → HasDenial rule depth b (min budget (threat_tree rule depth b)))
+  tells-denial = by_answer r told-true where
+    by_answer : (q : Result ProofAnswer SearchError) → IfOk q (IsTrueAnswer rule depth budget b d)
+        → IfOk q (λ x. x ≡ NoWin → HasDenial rule depth b (min budget (threat_tree rule depth b)))
+    by_answer (Err e) h = tt
+    by_answer (Ok (Win w)) h = λ is. cc
+    by_answer (Ok NoWin) h = λ is. h.1
+    by_answer (Ok Spent) h = λ is. cc
+
+  pub tells-spent : IfOk r (λ x. x ≡ Spent → budget < threat_tree rule depth b)
+  tells-spent = by_answer r told-true where
+    by_answer : (q : Result ProofAnswer SearchError) → IfOk q (IsTrueAnswer rule depth budget b d)
+        → IfOk q (λ x. x ≡ Spent → budget < threat_tree rule depth b)
+    by_answer (Err e) h = tt
+    by_answer (Ok (Win w)) h = λ is. cc
+    by_answer (Ok NoWin) h = λ is. cc
+    by_answer (Ok Spent) h = λ is. h

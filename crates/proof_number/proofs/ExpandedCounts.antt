@@ -25,7 +25,8 @@ use Rattle.threat_game.proofs.Common.{move_at, nowhere, threat_tree}
 use Rattle.threat_game.proofs.TreeLaws.{one_where}
 use Rattle.proof_number.specs.declared.notes.Note.{Note}
 use Rattle.proof_number.specs.declared.search.Search.{Search}
-use Rattle.proof_number.proofs.Common.{GameTree, HasTried, IsGameTree, among, board_at, board_of, left_at}
+use Rattle.proof_number.proofs.Opening.{leaf-facts}
+use Rattle.proof_number.proofs.Common.{GameTree, HasTried, IsGameTree, among, board_at, left_at}
 use Rattle.proof_number.proofs.Common.{moves_of, behind_at, sum_below, no_note}
 use Rattle.proof_number.proofs.Common.{note_at, win_of, noted_tree, IsTrueMemo, AreWritten, HasGrown, IsAtLeaf, IsCounted, IsExpandedAt}
 use Rattle.proof_number.proofs.Common.{IsMet, IsNotedWin, IsSearching, attacks_behind, defences_behind, game_of, is_attack, unwritten}
@@ -33,7 +34,8 @@ use Rattle.proof_number.proofs.Common.{StandsAt}
 use Rattle.proof_number.proofs.Remembering.{memo-kept}
 use Rattle.proof_number.proofs.Settling.{written-grown}
 use Rattle.proof_number.proofs.Sums.{sum-le, sum-more, sum-suc, sum-zero}
-use Rattle.proof_number.proofs.Expanding.{IsNewChild, behind-grown, child-behind, child-counts, closed-grown, disproved-grown, game-grown}
+use Rattle.proof_number.proofs.Expanding.{IsExpansion, IsNewChild, behind-grown, child-behind, child-counts, closed-grown, disproved-grown}
+use Rattle.proof_number.proofs.Expanding.{game-grown}
 use Rattle.proof_number.proofs.Expanding.{grown-moves, new-board, new-kind}
 use Rattle.proof_number.proofs.Expanding.{new-left, old-board, old-kind, old-left, old-moves_of, old-numbers, split}
 
@@ -51,31 +53,76 @@ unwritten_child kind note = one_where (is_attack (other_kind kind) && nat_eq not
 abbrev pub new_behind : (Kind → RuleKind → ℕ → Grid → ℕ) → RuleKind → Kind → Grid → Note → Numbers → ℕ
 new_behind f rule kind b note numbers = cond (not (is_settled numbers)) (f (other_kind kind) rule note.left (after b note.at)) 0
 
-module _ (rule : RuleKind) (s : Search) (t : Tree) (c : List Node) (leaf : ℕ) (view : Grid) (h : IsAtLeaf rule s t c leaf view) (u : Tree)
-    (more : List Numbers) (e : IsExpandedAt t u leaf more)
-    (v : Search) (nodes : List Node)
-    (rest : v ≡ record s { board = v.board; notes = v.notes; settled = v.settled; attacked = v.attacked; defended = v.defended })
-    (same_board : v.board ≡ s.board)
-    (compiled : IsCompiled (c ++ nodes)) (table : IsTrueMemo rule (c ++ nodes) (game_of rule s t) v.settled) (ms : List Note)
-    (items : v.notes.items ≡ s.notes.items ++ ms) (many : length ms ≡ length more) (some : 0 < length more)
-    (tried : HasTried (link_at t.links leaf).kind rule (left_at (game_of rule s t).left leaf) (board_at (game_of rule s t) leaf)
-    (map (λ n. n.at) ms))
-    (each : (j : ℕ) → j < length more → IsNewChild rule (link_at t.links leaf).kind (left_at (game_of rule s t).left leaf)
-    (board_at (game_of rule s t) leaf) (note_at ms j).at (note_at ms j).left (numbers_at more j))
-    (noted : (j : ℕ) → j < length more → IsNewNote rule (link_at t.links leaf).kind (board_at (game_of rule s t) leaf) (c ++ nodes)
-    (note_at ms j) (numbers_at more j))
-    (attacked_more : s.attacked ≤ v.attacked) (defended_more : s.defended ≤ v.defended) (attacked_fits : v.attacked ≤ s.budget)
-    (defended_fits : v.defended ≤ s.budget)
-    (nodes_counted : s.attacked + s.defended + length more ≤ v.attacked + v.defended)
-    (low : (kind : Kind) → finite_sum (map (sought kind) more) ≤ length more)
-    (met : (link_at t.links leaf).kind ≡ Defend → (q : Point) → outcome rule (board_at (game_of rule s t) leaf) q ≡ GoesOn
-    → among (map (λ n. n.at) ms) q ≡ false
-    → (0 < (note_at ms 0).moves) × IsNotedWin rule (left_at (game_of rule s t).left leaf) (after (board_at (game_of rule s t) leaf) q)
-    (c ++ nodes) (win_of (note_at ms 0)))
-    (short : s.attacked + length nodes + sum_below (length more) (λ j. unwritten_child (link_at t.links leaf).kind (note_at ms j))
-    ≤ v.attacked)
-    (attackers_counted : s.attacked + sum_below (length more) (λ j. cond (is_attack (other_kind (link_at t.links leaf).kind)) 1 0)
-    ≤ v.attacked) where
+-- A leaf of a search gets children: s stands at its leaf, and v is the search after it, where the tree is u and the compiler has more
+-- nodes. The children have these numbers and notes. What they stand for, what is noted of them, and what is counted for them is so.
+pub record Expansion (rule : RuleKind) (s v : Search) (t u : Tree) (c nodes : List Node) (leaf : ℕ) (view : Grid) (more : List Numbers)
+    (ms : List Note) : Type 0 where
+  pub at_leaf : IsAtLeaf rule s t c leaf view
+  pub expanded : IsExpandedAt t u leaf more
+  pub rest : v ≡ record s { board = v.board; notes = v.notes; settled = v.settled; attacked = v.attacked; defended = v.defended }
+  pub same_board : v.board ≡ s.board
+  pub compiled : IsCompiled (c ++ nodes)
+  pub table : IsTrueMemo rule (c ++ nodes) (game_of rule s t) v.settled
+  pub items : v.notes.items ≡ s.notes.items ++ ms
+  pub many : length ms ≡ length more
+  pub some : 0 < length more
+  pub tried : HasTried (link_at t.links leaf).kind rule (left_at (game_of rule s t).left leaf) (board_at (game_of rule s t) leaf)
+      (map (λ n. n.at) ms)
+  pub each : (j : ℕ) → j < length more → IsNewChild rule (link_at t.links leaf).kind (left_at (game_of rule s t).left leaf)
+      (board_at (game_of rule s t) leaf) (note_at ms j).at (note_at ms j).left (numbers_at more j)
+  pub noted : (j : ℕ) → j < length more → IsNewNote rule (link_at t.links leaf).kind (board_at (game_of rule s t) leaf) (c ++ nodes)
+      (note_at ms j) (numbers_at more j)
+  pub attacked_more : s.attacked ≤ v.attacked
+  pub defended_more : s.defended ≤ v.defended
+  pub attacked_fits : v.attacked ≤ s.budget
+  pub defended_fits : v.defended ≤ s.budget
+  pub nodes_counted : s.attacked + s.defended + length more ≤ v.attacked + v.defended
+  pub low : (kind : Kind) → finite_sum (map (sought kind) more) ≤ length more
+  pub met : (link_at t.links leaf).kind ≡ Defend → (q : Point) → outcome rule (board_at (game_of rule s t) leaf) q ≡ GoesOn
+      → among (map (λ n. n.at) ms) q ≡ false → (0 < (note_at ms 0).moves)
+      × IsNotedWin rule (left_at (game_of rule s t).left leaf) (after (board_at (game_of rule s t) leaf) q) (c ++ nodes)
+      (win_of (note_at ms 0))
+  pub short : s.attacked + length nodes + sum_below (length more) (λ j. unwritten_child (link_at t.links leaf).kind (note_at ms j))
+      ≤ v.attacked
+  pub attackers_counted : s.attacked + sum_below (length more) (λ j. cond (is_attack (other_kind (link_at t.links leaf).kind)) 1 0)
+      ≤ v.attacked
+  pub attacks_counted : v.attacked + sum_below (length more)
+      (λ j. new_behind attacks_behind rule (link_at t.links leaf).kind (board_at (game_of rule s t) leaf) (note_at ms j)
+      (numbers_at more j)) ≤ s.attacked + attacks_behind (link_at t.links leaf).kind rule (left_at (game_of rule s t).left leaf)
+      (board_at (game_of rule s t) leaf)
+  pub defences_counted : v.defended + sum_below (length more)
+      (λ j. new_behind defences_behind rule (link_at t.links leaf).kind (board_at (game_of rule s t) leaf) (note_at ms j)
+      (numbers_at more j)) ≤ s.defended + defences_behind (link_at t.links leaf).kind rule (left_at (game_of rule s t).left leaf)
+      (board_at (game_of rule s t) leaf)
+
+module _ {rule : RuleKind} {s v : Search} {t u : Tree} {c nodes : List Node} {leaf : ℕ} {view : Grid} {more : List Numbers} {ms : List Note}
+    (x : Expansion rule s v t u c nodes leaf view more ms) where
+  open x use {
+    at_leaf as h,
+    expanded as e,
+    rest,
+    same_board,
+    compiled,
+    table,
+    items,
+    many,
+    some,
+    tried,
+    each,
+    noted,
+    attacked_more,
+    defended_more,
+    attacked_fits,
+    defended_fits,
+    nodes_counted,
+    low,
+    met,
+    short,
+    attackers_counted,
+    attacks_counted,
+    defences_counted,
+  }
+
   pub long : IsGrown t.links leaf (length more) u.links
   long = subst (IsGrown t.links leaf (length more)) (sym e.links) (grown t.links leaf (length more) h.in_tree)
 
@@ -99,6 +146,34 @@ module _ (rule : RuleKind) (s : Search) (t : Tree) (c : List Node) (leaf : ℕ) 
       (board_at (game_of rule s t) leaf) p (left_at (map (λ (n : Note). n.left) ms) j) (numbers_at more j)) (sym (at-move j l))
       (subst (λ (n : ℕ). IsNewChild rule (link_at t.links leaf).kind (left_at (game_of rule s t).left leaf)
       (board_at (game_of rule s t) leaf) (note_at ms j).at n (numbers_at more j)) (sym (at-left j l)) (each j l))
+
+  expansion : IsExpansion (game_of rule s t) leaf u.links u.numbers more (map (λ (n : Note). n.at) ms) (map (λ (n : Note). n.left) ms)
+  expansion = record {
+    ok = h.searching.tree;
+    game = h.searching.game;
+    inside = h.in_tree;
+    childless = h.childless;
+    unsettled = h.leaf_open;
+    some = some;
+    points = points;
+    lefts = lefts;
+    long = long;
+    new = e.tree;
+    others = e.others;
+    children = e.children;
+    tried = tried;
+    each = each-child;
+  }
+
+  -- the game with the children
+  abbrev Now : GameTree
+  Now = record {
+    rule = rule;
+    start = s.root;
+    tree = record { links = u.links; numbers = u.numbers };
+    moves = map (λ (n : Note). n.at) s.notes.items ++ map (λ (n : Note). n.at) ms;
+    left = map (λ (n : Note). n.left) s.notes.items ++ map (λ (n : Note). n.left) ms;
+  }
 
   places : (w : Tree) → noted_tree rule s.root w v.notes.items
       ≡ record {
@@ -136,88 +211,58 @@ module _ (rule : RuleKind) (s : Search) (t : Tree) (c : List Node) (leaf : ℕ) 
   old-link i l other = long.others i l other
 
   new-link-kind : (j : ℕ) → j < length more → (link_at u.links (length t.links + j)).kind ≡ other_kind (link_at t.links leaf).kind
-  new-link-kind j l = new-kind (game_of rule s t) h.searching.tree leaf h.in_tree h.childless h.searching.game u.links u.numbers more
-      (map (λ (n : Note). n.at) ms) (map (λ (n : Note). n.left) ms) (length more) some points lefts refl long e.tree e.others e.children
-      tried h.leaf_open each-child j l
+  new-link-kind j l = new-kind expansion j l
 
   split-node : (i : ℕ) → i < length u.links → (i < length t.links) ⊎ ((j : ℕ) × (j < length more) × (i ≡ length t.links + j))
-  split-node i l = split (game_of rule s t) h.searching.tree leaf h.in_tree h.childless h.searching.game u.links u.numbers more
-      (map (λ (n : Note). n.at) ms) (map (λ (n : Note). n.left) ms) (length more) some points lefts refl long e.tree e.others e.children
-      tried h.leaf_open each-child i l
+  split-node i l = split expansion i l
 
   old-win : (i : ℕ) → i < length t.links → 0 < (note_at s.notes.items i).moves
-      → IsNotedWin rule (left_at (map (λ (n : Note). n.left) s.notes.items ++ map (λ (n : Note). n.left) ms) i)
-      (board_of u.links (map (λ (n : Note). n.at) s.notes.items ++ map (λ (n : Note). n.at) ms) s.root i) (c ++ nodes)
+      → IsNotedWin rule (left_at Now.left i)
+      (board_at Now i) (c ++ nodes)
       (win_of (note_at s.notes.items i))
   old-win i l positive =
       let grown = written-grown (game_of rule s t) s.notes.items c nodes (λ j. ⊥) (IsTable-lower c h.searching.compiled.table)
       h.searching.written in
       subst (λ (n : ℕ). IsNotedWin rule n
-      (board_of u.links (map (λ (n : Note). n.at) s.notes.items ++ map (λ (n : Note). n.at) ms) s.root i) (c ++ nodes)
+      (board_at Now i) (c ++ nodes)
       (win_of (note_at s.notes.items i)))
-      (sym (old-left (game_of rule s t) h.searching.tree leaf h.in_tree h.childless h.searching.game u.links u.numbers more
-      (map (λ (n : Note). n.at) ms) (map (λ (n : Note). n.left) ms) (length more) some points lefts refl long e.tree e.others e.children
-      tried h.leaf_open each-child i l))
+      (sym (old-left expansion i l))
       (subst (λ (b : Grid). IsNotedWin rule (left_at (game_of rule s t).left i) b (c ++ nodes) (win_of (note_at s.notes.items i)))
-      (sym (old-board (game_of rule s t) h.searching.tree leaf h.in_tree h.childless h.searching.game u.links u.numbers more
-      (map (λ (n : Note). n.at) ms) (map (λ (n : Note). n.left) ms) (length more) some points lefts refl long e.tree e.others e.children
-      tried h.leaf_open each-child i l)) (grown.true_wins i l positive))
+      (sym (old-board expansion i l)) (grown.true_wins i l positive))
 
   new-win : (j : ℕ) → j < length more → 0 < (note_at ms j).moves
-      → IsNotedWin rule (left_at (map (λ (n : Note). n.left) s.notes.items ++ map (λ (n : Note). n.left) ms) (length t.links + j))
-      (board_of u.links (map (λ (n : Note). n.at) s.notes.items ++ map (λ (n : Note). n.at) ms) s.root (length t.links + j)) (c ++ nodes)
+      → IsNotedWin rule (left_at Now.left (length t.links + j))
+      (board_at Now (length t.links + j)) (c ++ nodes)
       (win_of (note_at ms j))
   new-win j l positive =
-      let there : board_of u.links (map (λ (n : Note). n.at) s.notes.items ++ map (λ (n : Note). n.at) ms) s.root (length t.links + j)
-      ≡ after (board_at (game_of rule s t) leaf) (note_at ms j).at =
-      new-board (game_of rule s t) h.searching.tree leaf h.in_tree h.childless h.searching.game u.links u.numbers more
-      (map (λ (n : Note). n.at) ms) (map (λ (n : Note). n.left) ms) (length more) some points lefts refl long e.tree e.others e.children
-      tried h.leaf_open each-child j l ∙ ap (after (board_at (game_of rule s t) leaf)) (at-move j l) in
-      let left : left_at (map (λ (n : Note). n.left) s.notes.items ++ map (λ (n : Note). n.left) ms) (length t.links + j)
-      ≡ (note_at ms j).left = new-left (game_of rule s t) h.searching.tree leaf h.in_tree h.childless h.searching.game u.links u.numbers
-      more (map (λ (n : Note). n.at) ms) (map (λ (n : Note). n.left) ms) (length more) some points lefts refl long e.tree e.others
-      e.children tried h.leaf_open each-child j ∙ at-left j l in
+      let there : board_at Now (length t.links + j) ≡ after (board_at (game_of rule s t) leaf) (note_at ms j).at =
+      new-board expansion j l ∙ ap (after (board_at (game_of rule s t) leaf)) (at-move j l) in
+      let left : left_at Now.left (length t.links + j)
+      ≡ (note_at ms j).left = new-left expansion j ∙ at-left j l in
       subst (λ (n : ℕ). IsNotedWin rule n
-      (board_of u.links (map (λ (n : Note). n.at) s.notes.items ++ map (λ (n : Note). n.at) ms) s.root (length t.links + j))
+      (board_at Now (length t.links + j))
       (c ++ nodes) (win_of (note_at ms j))) (sym left)
       (subst (λ (b : Grid). IsNotedWin rule (note_at ms j).left b (c ++ nodes) (win_of (note_at ms j))) (sym there)
       ((noted j l).true_win positive))
 
   old-value : (i : ℕ) → i < length t.links → (link_at u.links i).count ≡ 0 → i ≢ leaf → numbers_at u.numbers i ≡ numbers_at t.numbers i
-  old-value i l none other = old-numbers (game_of rule s t) h.searching.tree leaf h.in_tree h.childless h.searching.game u.links u.numbers
-      more (map (λ (n : Note). n.at) ms) (map (λ (n : Note). n.left) ms) (length more) some points lefts refl long e.tree e.others
-      e.children tried h.leaf_open each-child i l none other
-
-  abbrev Now : GameTree
-  Now = record {
-    rule = rule;
-    start = s.root;
-    tree = record { links = u.links; numbers = u.numbers };
-    moves = map (λ (n : Note). n.at) s.notes.items ++ map (λ (n : Note). n.at) ms;
-    left = map (λ (n : Note). n.left) s.notes.items ++ map (λ (n : Note). n.left) ms;
-  }
+  old-value i l none other = old-numbers expansion i l none other
 
   here-left : left_at Now.left leaf ≡ left_at (game_of rule s t).left leaf
-  here-left = old-left (game_of rule s t) h.searching.tree leaf h.in_tree h.childless h.searching.game u.links u.numbers more
-      (map (λ (n : Note). n.at) ms) (map (λ (n : Note). n.left) ms) (length more) some points lefts refl long e.tree e.others e.children
-      tried h.leaf_open each-child leaf h.in_tree
+  here-left = old-left expansion leaf h.in_tree
 
-  here-board : board_of u.links Now.moves s.root leaf ≡ board_at (game_of rule s t) leaf
-  here-board = old-board (game_of rule s t) h.searching.tree leaf h.in_tree h.childless h.searching.game u.links u.numbers more
-      (map (λ (n : Note). n.at) ms) (map (λ (n : Note). n.left) ms) (length more) some points lefts refl long e.tree e.others e.children
-      tried h.leaf_open each-child leaf h.in_tree
+  here-board : board_at Now leaf ≡ board_at (game_of rule s t) leaf
+  here-board = old-board expansion leaf h.in_tree
 
   here-moves : moves_of (link_at u.links leaf) Now.moves ≡ map (λ (n : Note). n.at) ms
-  here-moves = grown-moves (game_of rule s t) h.searching.tree leaf h.in_tree h.childless h.searching.game u.links u.numbers more
-      (map (λ (n : Note). n.at) ms) (map (λ (n : Note). n.left) ms) (length more) some points lefts refl long e.tree e.others e.children
-      tried h.leaf_open each-child
+  here-moves = grown-moves expansion
 
   here-first : note_at v.notes.items (link_at u.links leaf).first ≡ note_at ms 0
   here-first =
       let first : length t.links ≡ length t.links + 0 = omega arith in
       ap (λ (k : Link). note_at v.notes.items k.first) long.here ∙ ap (note_at v.notes.items) first ∙ new-note 0
 
-  leaf-met : (link_at u.links leaf).kind ≡ Defend → (q : Point) → outcome rule (board_of u.links Now.moves s.root leaf) q ≡ GoesOn
+  leaf-met : (link_at u.links leaf).kind ≡ Defend → (q : Point) → outcome rule (board_at Now leaf) q ≡ GoesOn
       → among (moves_of (link_at u.links leaf) Now.moves) q ≡ false → IsMet Now v.notes.items (c ++ nodes) leaf q
   leaf-met defend q on none =
       let kind : (link_at t.links leaf).kind ≡ Defend = sym (ap (λ (k : Link). k.kind) long.here) ∙ defend in
@@ -226,7 +271,7 @@ module _ (rule : RuleKind) (s : Search) (t : Tree) (c : List Node) (leaf : ℕ) 
       record {
         some = subst (λ (n : Note). 0 < n.moves) (sym here-first) is.0;
         win =
-            subst (λ (n : Note). IsNotedWin rule (left_at Now.left leaf) (after (board_of u.links Now.moves s.root leaf) q) (c ++ nodes)
+            subst (λ (n : Note). IsNotedWin rule (left_at Now.left leaf) (after (board_at Now leaf) q) (c ++ nodes)
             (win_of n)) (sym here-first)
             (subst (λ (b : Grid). IsNotedWin rule (left_at Now.left leaf) (after b q) (c ++ nodes) (win_of (note_at ms 0))) (sym here-board)
             (subst (λ (n : ℕ). IsNotedWin rule n (after (board_at (game_of rule s t) leaf) q) (c ++ nodes) (win_of (note_at ms 0)))
@@ -234,7 +279,7 @@ module _ (rule : RuleKind) (s : Search) (t : Tree) (c : List Node) (leaf : ℕ) 
       }
 
   old-met : (i : ℕ) → i < length t.links → i ≢ leaf → (link_at u.links i).kind ≡ Defend → 0 < (link_at u.links i).count → (q : Point)
-      → outcome rule (board_of u.links Now.moves s.root i) q ≡ GoesOn
+      → outcome rule (board_at Now i) q ≡ GoesOn
       → among (moves_of (link_at u.links i) Now.moves) q ≡ false → IsMet Now v.notes.items (c ++ nodes) i q
   old-met i old other defend several q on none =
       let same = old-link i old other in
@@ -242,18 +287,12 @@ module _ (rule : RuleKind) (s : Search) (t : Tree) (c : List Node) (leaf : ℕ) 
       let first : ℕ = (link_at t.links i).first in
       let within = h.searching.tree.linked.within i old in
       let inside : first < length t.links = omega (arith, within, count) in
-      let board : board_of u.links Now.moves s.root i ≡ board_at (game_of rule s t) i =
-      old-board (game_of rule s t) h.searching.tree leaf h.in_tree h.childless h.searching.game u.links u.numbers more
-      (map (λ (n : Note). n.at) ms) (map (λ (n : Note). n.left) ms) (length more) some points lefts refl long e.tree e.others e.children
-      tried h.leaf_open each-child i old in
+      let board : board_at Now i ≡ board_at (game_of rule s t) i =
+      old-board expansion i old in
       let left : left_at Now.left i ≡ left_at (game_of rule s t).left i =
-      old-left (game_of rule s t) h.searching.tree leaf h.in_tree h.childless h.searching.game u.links u.numbers more
-      (map (λ (n : Note). n.at) ms) (map (λ (n : Note). n.left) ms) (length more) some points lefts refl long e.tree e.others e.children
-      tried h.leaf_open each-child i old in
+      old-left expansion i old in
       let moves : moves_of (link_at u.links i) Now.moves ≡ moves_of (link_at t.links i) (game_of rule s t).moves =
-      ap (λ (k : Link). moves_of k Now.moves) same ∙ old-moves_of (game_of rule s t) h.searching.tree leaf h.in_tree h.childless
-      h.searching.game u.links u.numbers more (map (λ (n : Note). n.at) ms) (map (λ (n : Note). n.left) ms) (length more) some points
-      lefts refl long e.tree e.others e.children tried h.leaf_open each-child i old in
+      ap (λ (k : Link). moves_of k Now.moves) same ∙ old-moves_of expansion i old in
       let grown_written = written-grown (game_of rule s t) s.notes.items c nodes (λ j. ⊥) (IsTable-lower c h.searching.compiled.table)
       h.searching.written in
       let is = grown_written.met i old (ap (λ (k : Link). k.kind) (sym same) ∙ defend) count q
@@ -263,7 +302,7 @@ module _ (rule : RuleKind) (s : Search) (t : Tree) (c : List Node) (leaf : ℕ) 
       record {
         some = subst (λ (n : Note). 0 < n.moves) (sym note) is.some;
         win =
-            subst (λ (n : Note). IsNotedWin rule (left_at Now.left i) (after (board_of u.links Now.moves s.root i) q) (c ++ nodes)
+            subst (λ (n : Note). IsNotedWin rule (left_at Now.left i) (after (board_at Now i) q) (c ++ nodes)
             (win_of n)) (sym note)
             (subst (λ (b : Grid). IsNotedWin rule (left_at Now.left i) (after b q) (c ++ nodes) (win_of (note_at s.notes.items first)))
             (sym board)
@@ -275,16 +314,16 @@ module _ (rule : RuleKind) (s : Search) (t : Tree) (c : List Node) (leaf : ℕ) 
   written-now = record {
     true_wins = λ i l positive. elim (split-node i l) [
       | inl old ↦
-          subst (λ (n : Note). IsNotedWin rule (left_at (map (λ (n : Note). n.left) s.notes.items ++ map (λ (n : Note). n.left) ms) i)
-          (board_of u.links (map (λ (n : Note). n.at) s.notes.items ++ map (λ (n : Note). n.at) ms) s.root i) (c ++ nodes) (win_of n))
+          subst (λ (n : Note). IsNotedWin rule (left_at Now.left i)
+          (board_at Now i) (c ++ nodes) (win_of n))
           (sym (old-note i old)) (old-win i old (subst (λ (n : Note). 0 < n.moves) (old-note i old) positive))
       | inr child ↦
           let here : note_at v.notes.items i ≡ note_at ms child.0 = ap (note_at v.notes.items) child.2 ∙ new-note child.0 in
-          subst (λ (n : Note). IsNotedWin rule (left_at (map (λ (n : Note). n.left) s.notes.items ++ map (λ (n : Note). n.left) ms) i)
-          (board_of u.links (map (λ (n : Note). n.at) s.notes.items ++ map (λ (n : Note). n.at) ms) s.root i) (c ++ nodes) (win_of n))
+          subst (λ (n : Note). IsNotedWin rule (left_at Now.left i)
+          (board_at Now i) (c ++ nodes) (win_of n))
           (sym here)
-          (subst (λ (m : ℕ). IsNotedWin rule (left_at (map (λ (n : Note). n.left) s.notes.items ++ map (λ (n : Note). n.left) ms) m)
-          (board_of u.links (map (λ (n : Note). n.at) s.notes.items ++ map (λ (n : Note). n.at) ms) s.root m) (c ++ nodes)
+          (subst (λ (m : ℕ). IsNotedWin rule (left_at Now.left m)
+          (board_at Now m) (c ++ nodes)
           (win_of (note_at ms child.0))) (sym child.2) (new-win child.0 child.1 (subst (λ (n : Note). 0 < n.moves) here positive)))
     ];
     fresh = λ i l none unsettled. elim (split-node i l) [
@@ -345,7 +384,7 @@ module _ (rule : RuleKind) (s : Search) (t : Tree) (c : List Node) (leaf : ℕ) 
         | inl same ↦
             subst (λ (k : ℕ). IsMet Now v.notes.items (c ++ nodes) k q) (sym same)
             (leaf-met (ap (λ (k : ℕ). (link_at u.links k).kind) (sym same) ∙ defend) q
-            (subst (λ (k : ℕ). outcome rule (board_of u.links Now.moves s.root k) q ≡ GoesOn) same on)
+            (subst (λ (k : ℕ). outcome rule (board_at Now k) q ≡ GoesOn) same on)
             (subst (λ (k : ℕ). among (moves_of (link_at u.links k) Now.moves) q ≡ false) same none))
         | inr other ↦ old-met i old other defend several q on none
       ]
@@ -372,9 +411,7 @@ module _ (rule : RuleKind) (s : Search) (t : Tree) (c : List Node) (leaf : ℕ) 
         old-unwritten : (i : ℕ) → i < length t.links → unwritten u v.notes.items i ≡ unwritten t s.notes.items i
         old-unwritten i l =
             ap (λ (kind : Kind). one_where (is_attack kind && nat_eq (note_at v.notes.items i).moves 0))
-            (old-kind (game_of rule s t) h.searching.tree leaf h.in_tree h.childless h.searching.game u.links u.numbers more
-            (map (λ (n : Note). n.at) ms) (map (λ (n : Note). n.left) ms) (length more) some points lefts refl long e.tree e.others
-            e.children tried h.leaf_open each-child i l)
+            (old-kind expansion i l)
             ∙ ap (λ (n : Note). one_where (is_attack (link_at t.links i).kind && nat_eq n.moves 0)) (old-note i l)
 
         new-unwritten : (j : ℕ) → j < length more → unwritten u v.notes.items (length t.links + j) ≡ unwritten_child
@@ -401,9 +438,7 @@ module _ (rule : RuleKind) (s : Search) (t : Tree) (c : List Node) (leaf : ℕ) 
             (cond (is_attack (link_at t.links i).kind) 1 0)
         old-attack i l =
             ap (λ (kind : Kind). cond (is_attack kind) 1 0)
-            (old-kind (game_of rule s t) h.searching.tree leaf h.in_tree h.childless h.searching.game u.links u.numbers more
-            (map (λ (n : Note). n.at) ms) (map (λ (n : Note). n.left) ms) (length more) some points lefts refl long e.tree e.others
-            e.children tried h.leaf_open each-child i l)
+            (old-kind expansion i l)
 
         new-attack : (j : ℕ) → j < length more → ◌≡◌ {A = ℕ} (cond (is_attack (link_at u.links (length t.links + j)).kind) 1 0)
             (cond (is_attack (other_kind (link_at t.links leaf).kind)) 1 0)
@@ -438,24 +473,16 @@ module _ (rule : RuleKind) (s : Search) (t : Tree) (c : List Node) (leaf : ℕ) 
   -- what is counted behind the new children, by their notes and numbers
   children-count : (f : Kind → RuleKind → ℕ → Grid → ℕ)
       → sum_below (length more)
-      (child-behind (game_of rule s t) h.searching.tree leaf h.in_tree h.childless h.searching.game u.links u.numbers more
-      (map (λ (n : Note). n.at) ms) (map (λ (n : Note). n.left) ms) (length more) some points lefts refl long e.tree e.others e.children
-      tried h.leaf_open each-child f) ≤ sum_below (length more)
+      (child-behind expansion f) ≤ sum_below (length more)
       (λ j. new_behind f rule (link_at t.links leaf).kind (board_at (game_of rule s t) leaf) (note_at ms j) (numbers_at more j))
   children-count f =
-      sum-le (length more) (child-behind (game_of rule s t) h.searching.tree leaf h.in_tree h.childless h.searching.game u.links u.numbers
-      more (map (λ (n : Note). n.at) ms) (map (λ (n : Note). n.left) ms) (length more) some points lefts refl long e.tree e.others
-      e.children tried h.leaf_open each-child f)
+      sum-le (length more) (child-behind expansion f)
       (λ j. new_behind f rule (link_at t.links leaf).kind (board_at (game_of rule s t) leaf) (note_at ms j) (numbers_at more j))
       (λ j l. let same = child-same j l in omega (arith, same)) where
-        child-same : (j : ℕ) → j < length more → child-behind (game_of rule s t) h.searching.tree leaf h.in_tree h.childless
-            h.searching.game u.links u.numbers more (map (λ (n : Note). n.at) ms) (map (λ (n : Note). n.left) ms) (length more) some points
-            lefts refl long e.tree e.others e.children tried h.leaf_open each-child f j ≡ new_behind f rule (link_at t.links leaf).kind
+        child-same : (j : ℕ) → j < length more → child-behind expansion f j ≡ new_behind f rule (link_at t.links leaf).kind
             (board_at (game_of rule s t) leaf) (note_at ms j) (numbers_at more j)
         child-same j l =
-            child-counts (game_of rule s t) h.searching.tree leaf h.in_tree h.childless h.searching.game u.links u.numbers more
-            (map (λ (n : Note). n.at) ms) (map (λ (n : Note). n.left) ms) (length more) some points lefts refl long e.tree e.others
-            e.children tried h.leaf_open each-child f j
+            child-counts expansion f j
             ∙ ap (λ (n : ℕ). cond (not (is_settled (numbers_at more j)))
             (f (other_kind (link_at t.links leaf).kind) rule n
             (after (board_at (game_of rule s t) leaf) (move_at (map (λ (n : Note). n.at) ms) j))) 0) (at-left j l)
@@ -463,104 +490,76 @@ module _ (rule : RuleKind) (s : Search) (t : Tree) (c : List Node) (leaf : ℕ) 
             (f (other_kind (link_at t.links leaf).kind) rule (note_at ms j).left (after (board_at (game_of rule s t) leaf) p)) 0)
             (at-move j l)
 
-  module _ (attacks_counted : v.attacked + sum_below (length more)
-      (λ j. new_behind attacks_behind rule (link_at t.links leaf).kind (board_at (game_of rule s t) leaf) (note_at ms j)
-      (numbers_at more j)) ≤ s.attacked + attacks_behind (link_at t.links leaf).kind rule (left_at (game_of rule s t).left leaf)
-      (board_at (game_of rule s t) leaf))
-      (defences_counted : v.defended + sum_below (length more)
-      (λ j. new_behind defences_behind rule (link_at t.links leaf).kind (board_at (game_of rule s t) leaf) (note_at ms j)
-      (numbers_at more j)) ≤ s.defended + defences_behind (link_at t.links leaf).kind rule (left_at (game_of rule s t).left leaf)
-      (board_at (game_of rule s t) leaf)) where
-    leaf-counts : (f : Kind → RuleKind → ℕ → Grid → ℕ)
-        → behind_at f (game_of rule s t) leaf ≡ f (link_at t.links leaf).kind rule (left_at (game_of rule s t).left leaf)
-        (board_at (game_of rule s t) leaf)
-    leaf-counts f =
-        ap (λ r. cond (r && not (is_settled (numbers_at t.numbers leaf)))
-        (f (link_at t.links leaf).kind rule (left_at (game_of rule s t).left leaf) (board_at (game_of rule s t) leaf)) 0)
-        (eq-eqb (link_at t.links leaf).count 0 h.childless)
-        ∙ ap (λ r. cond (not r) (f (link_at t.links leaf).kind rule (left_at (game_of rule s t).left leaf)
-        (board_at (game_of rule s t) leaf)) 0) h.leaf_open
+  leaf-counts : (f : Kind → RuleKind → ℕ → Grid → ℕ)
+      → behind_at f (game_of rule s t) leaf ≡ f (link_at t.links leaf).kind rule (left_at (game_of rule s t).left leaf)
+      (board_at (game_of rule s t) leaf)
+  leaf-counts f =
+      ap (λ r. cond (r && not (is_settled (numbers_at t.numbers leaf)))
+      (f (link_at t.links leaf).kind rule (left_at (game_of rule s t).left leaf) (board_at (game_of rule s t) leaf)) 0)
+      (eq-eqb (link_at t.links leaf).count 0 h.childless)
+      ∙ ap (λ r. cond (not r) (f (link_at t.links leaf).kind rule (left_at (game_of rule s t).left leaf)
+      (board_at (game_of rule s t) leaf)) 0) h.leaf_open
 
-    root-left : left_at (map (λ (n : Note). n.left) s.notes.items ++ map (λ (n : Note). n.left) ms) 0 ≡ left_at (game_of rule s t).left 0
-    root-left = old-left (game_of rule s t) h.searching.tree leaf h.in_tree h.childless h.searching.game u.links u.numbers more
-        (map (λ (n : Note). n.at) ms) (map (λ (n : Note). n.left) ms) (length more) some points lefts refl long e.tree e.others e.children
-        tried h.leaf_open each-child 0 (let some_nodes = h.searching.tree.linked.some in some_nodes)
+  root-left : left_at Now.left 0 ≡ left_at (game_of rule s t).left 0
+  root-left = old-left expansion 0 (let some_nodes = h.searching.tree.linked.some in some_nodes)
 
-    counted-now : IsCounted Now s.budget v.attacked v.defended
-    counted-now = record {
-      attacks =
-          let b = behind-grown (game_of rule s t) h.searching.tree leaf h.in_tree h.childless h.searching.game u.links u.numbers more
-          (map (λ (n : Note). n.at) ms) (map (λ (n : Note). n.left) ms) (length more) some points lefts refl long e.tree e.others
-          e.children tried h.leaf_open each-child attacks_behind in
-          let same = ap (λ (n : ℕ). threat_tree rule n s.root) root-left in
-          omega (arith, h.searching.counted.attacks, b, leaf-counts attacks_behind, children-count attacks_behind, attacks_counted, same);
-      defences =
-          let a = h.searching.counted.defences in
-          let b = behind-grown (game_of rule s t) h.searching.tree leaf h.in_tree h.childless h.searching.game u.links u.numbers more
-          (map (λ (n : Note). n.at) ms) (map (λ (n : Note). n.left) ms) (length more) some points lefts refl long e.tree e.others
-          e.children tried h.leaf_open each-child defences_behind in
-          let same = ap (λ (n : ℕ). threat_tree rule n s.root) root-left in
-          omega (arith, a, b, leaf-counts defences_behind, children-count defences_behind, defences_counted, same);
-      nodes = let a = h.searching.counted.nodes in let b = long.sized in omega (arith, a, b, nodes_counted);
-      attackers = attackers-now;
-      attacked_fits = attacked_fits;
-      defended_fits = defended_fits;
-      leaves = sums-now;
-    }
+  counted-now : IsCounted Now s.budget v.attacked v.defended
+  counted-now = record {
+    attacks =
+        let b = behind-grown expansion attacks_behind in
+        let same = ap (λ (n : ℕ). threat_tree rule n s.root) root-left in
+        omega (arith, h.searching.counted.attacks, b, leaf-counts attacks_behind, children-count attacks_behind, attacks_counted, same);
+    defences =
+        let a = h.searching.counted.defences in
+        let b = behind-grown expansion defences_behind in
+        let same = ap (λ (n : ℕ). threat_tree rule n s.root) root-left in
+        omega (arith, a, b, leaf-counts defences_behind, children-count defences_behind, defences_counted, same);
+    nodes = let a = h.searching.counted.nodes in let b = long.sized in omega (arith, a, b, nodes_counted);
+    attackers = attackers-now;
+    attacked_fits = attacked_fits;
+    defended_fits = defended_fits;
+    leaves = sums-now;
+  }
 
-    searching-now : IsSearching rule
-        (record s { board = v.board; notes = v.notes; settled = v.settled; attacked = v.attacked; defended = v.defended }) u (c ++ nodes)
-        (IsOnWayUp u.links leaf)
-    searching-now =
-        let to : noted_tree rule s.root u v.notes.items ≡ Now = places u in
-        record {
-          tree = e.tree;
-          game = subst IsGameTree (sym to)
-              (game-grown (game_of rule s t) h.searching.tree leaf h.in_tree h.childless h.searching.game u.links u.numbers more
-              (map (λ (n : Note). n.at) ms) (map (λ (n : Note). n.left) ms) (length more) some points lefts refl long e.tree e.others
-              e.children tried h.leaf_open each-child h.root_open h.leaf_is);
-          depth = ap (λ (n : Note). n.left) (old-note 0 h.searching.tree.linked.some) ∙ h.searching.depth;
-          depth_fits = h.searching.depth_fits;
-          budget_fits = h.searching.budget_fits;
-          written = subst (λ (w : GameTree). AreWritten w v.notes.items (c ++ nodes) (IsOnWayUp u.links leaf)) (sym to) written-now;
-          remembered = subst (λ (w : GameTree). IsTrueMemo rule (c ++ nodes) w v.settled) (sym to)
-              (memo-kept (game_of rule s t) (record {
-                rule = rule;
-                start = s.root;
-                tree = record { links = u.links; numbers = u.numbers };
-                moves = map (λ (n : Note). n.at) s.notes.items ++ map (λ (n : Note). n.at) ms;
-                left = map (λ (n : Note). n.left) s.notes.items ++ map (λ (n : Note). n.left) ms;
-              }) refl
-              (disproved-grown (game_of rule s t) h.searching.tree leaf h.in_tree h.childless h.searching.game u.links u.numbers more
-              (map (λ (n : Note). n.at) ms) (map (λ (n : Note). n.left) ms) (length more) some points lefts refl long e.tree e.others
-              e.children tried h.leaf_open each-child h.root_open h.leaf_is) rule (c ++ nodes) v.settled table);
-          counted = subst (λ (w : GameTree). IsCounted w s.budget v.attacked v.defended) (sym to) counted-now;
-          compiled = compiled;
-          few = few-now;
-        }
+  searching-now : IsSearching rule
+      (record s { board = v.board; notes = v.notes; settled = v.settled; attacked = v.attacked; defended = v.defended }) u (c ++ nodes)
+      (IsOnWayUp u.links leaf)
+  searching-now =
+      let to : noted_tree rule s.root u v.notes.items ≡ Now = places u in
+      record {
+        tree = e.tree;
+        game = subst IsGameTree (sym to)
+            (game-grown expansion h.root_open h.leaf_is);
+        depth = ap (λ (n : Note). n.left) (old-note 0 h.searching.tree.linked.some) ∙ h.searching.depth;
+        depth_fits = h.searching.depth_fits;
+        budget_fits = h.searching.budget_fits;
+        written = subst (λ (w : GameTree). AreWritten w v.notes.items (c ++ nodes) (IsOnWayUp u.links leaf)) (sym to) written-now;
+        remembered = subst (λ (w : GameTree). IsTrueMemo rule (c ++ nodes) w v.settled) (sym to)
+            (memo-kept (game_of rule s t) Now refl
+            (disproved-grown expansion h.root_open h.leaf_is) rule (c ++ nodes) v.settled table);
+        counted = subst (λ (w : GameTree). IsCounted w s.budget v.attacked v.defended) (sym to) counted-now;
+        compiled = compiled;
+        few = few-now;
+      }
 
-    pub expanded-grown : HasGrown rule s v t u (c ++ nodes) leaf
-    expanded-grown = record {
-      searching = subst (λ (w : Search). IsSearching rule w u (c ++ nodes) (IsOnWayUp u.links leaf)) (sym rest) searching-now;
-      in_tree = let a = long.sized in let b = h.in_tree in omega (arith, a, b);
-      aim = record {
-        depth = ap (λ (w : Search). w.depth) rest;
-        budget = ap (λ (w : Search). w.budget) rest;
-        before = ap (λ (w : Search). w.before) rest;
-        root = ap (λ (w : Search). w.root) rest;
-      };
-      board = same_board;
-      place =
-          ap (λ (w : Search). board_at (game_of rule w u) leaf) rest
-          ∙ ap (λ (w : GameTree). board_at w leaf) (places u)
-          ∙ old-board (game_of rule s t) h.searching.tree leaf h.in_tree h.childless h.searching.game u.links u.numbers more
-          (map (λ (n : Note). n.at) ms) (map (λ (n : Note). n.left) ms) (length more) some points lefts refl long e.tree e.others
-          e.children tried h.leaf_open each-child leaf h.in_tree;
-      progress = let a = closed-grown (game_of rule s t) h.searching.tree leaf h.in_tree h.childless h.searching.game u.links u.numbers more
-          (map (λ (n : Note). n.at) ms) (map (λ (n : Note). n.left) ms) (length more) some points lefts refl long e.tree e.others e.children
-          tried h.leaf_open each-child in omega (arith, a);
-      longer = let a = long.sized in omega (arith, a);
-    }
+  pub expanded-grown : HasGrown rule s v t u (c ++ nodes) leaf
+  expanded-grown = record {
+    searching = subst (λ (w : Search). IsSearching rule w u (c ++ nodes) (IsOnWayUp u.links leaf)) (sym rest) searching-now;
+    in_tree = let a = long.sized in let b = h.in_tree in omega (arith, a, b);
+    aim = record {
+      depth = ap (λ (w : Search). w.depth) rest;
+      budget = ap (λ (w : Search). w.budget) rest;
+      before = ap (λ (w : Search). w.before) rest;
+      root = ap (λ (w : Search). w.root) rest;
+    };
+    board = same_board;
+    place =
+        ap (λ (w : Search). board_at (game_of rule w u) leaf) rest
+        ∙ ap (λ (w : GameTree). board_at w leaf) (places u)
+        ∙ old-board expansion leaf h.in_tree;
+    progress = let a = closed-grown expansion in omega (arith, a);
+    longer = let a = long.sized in omega (arith, a);
+  }
 
 -- a sum of nothing
 pub sum-nothing : (n : ℕ) (f : ℕ → ℕ) → ((i : ℕ) → i < n → f i ≡ 0) → sum_below n f ≡ 0
@@ -578,10 +577,9 @@ sum-under (suc n) f g h =
     let here = h n (omega arith) in
     omega (arith, sum-suc n f, sum-suc n g, rest, here)
 
-module _ (rule : RuleKind) (s : Search) (t : Tree) (c : List Node) (leaf : ℕ) (view : Grid) (stands : StandsAt rule s t c leaf view) where
+module _ {rule : RuleKind} {s : Search} {t : Tree} {c : List Node} {leaf : ℕ} {view : Grid} (stands : StandsAt rule s t c leaf view) where
   here : IsAtLeaf rule s t c leaf view
-  unfolding StandsAt
-  here = stands
+  here = leaf-facts stands
 
   -- the tree has no more nodes than the budget of both sides
   pub nodes-few : length t.links ≤ 20000000

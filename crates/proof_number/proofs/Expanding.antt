@@ -35,17 +35,29 @@ pub record IsNewChild (rule : RuleKind) (kind : Kind) (left : ℕ) (b : Grid) (p
   pub tells : TellsTruly numbers (WinsAt (other_kind kind) rule n (after b p))
   pub not_lost : numbers ≡ settled_numbers false → ⊥
 
-module _ (g : GameTree) (ok : IsTree g.tree) (leaf : ℕ) (inside : leaf < length g.tree.links)
-    (childless : (link_at g.tree.links leaf).count ≡ 0) (game : IsGameTree g)
-    (links : List Link) (numbers more : List Numbers) (ps : List Point) (ns : List ℕ) (count : ℕ) (some : 0 < count)
-    (points : length ps ≡ count) (lefts : length ns ≡ count) (values : length more ≡ count)
-    (long : IsGrown g.tree.links leaf count links) (new : IsTree (record { links = links; numbers = numbers }))
-    (others : OthersStay links leaf (g.tree.numbers ++ more) numbers)
-    (children : (j : ℕ) → j < count → numbers_at numbers (length g.tree.links + j) ≡ numbers_at more j)
-    (tried : HasTried (link_at g.tree.links leaf).kind g.rule (left_at g.left leaf) (board_at g leaf) ps)
-    (unsettled : is_settled (numbers_at g.tree.numbers leaf) ≡ false)
-    (each : (j : ℕ) → j < count → IsNewChild g.rule (link_at g.tree.links leaf).kind (left_at g.left leaf) (board_at g leaf)
-    (move_at ps j) (left_at ns j) (numbers_at more j)) where
+-- the leaf of g is given children, one for each of these numbers, with these moves and moves left, and the tree has these links and numbers
+pub record IsExpansion (g : GameTree) (leaf : ℕ) (links : List Link) (numbers more : List Numbers) (ps : List Point) (ns : List ℕ) :
+    Type 0 where
+  pub ok : IsTree g.tree
+  pub game : IsGameTree g
+  pub inside : leaf < length g.tree.links
+  pub childless : (link_at g.tree.links leaf).count ≡ 0
+  pub unsettled : is_settled (numbers_at g.tree.numbers leaf) ≡ false
+  pub some : 0 < length more
+  pub points : length ps ≡ length more
+  pub lefts : length ns ≡ length more
+  pub long : IsGrown g.tree.links leaf (length more) links
+  pub new : IsTree (record { links = links; numbers = numbers })
+  pub others : OthersStay links leaf (g.tree.numbers ++ more) numbers
+  pub children : (j : ℕ) → j < length more → numbers_at numbers (length g.tree.links + j) ≡ numbers_at more j
+  pub tried : HasTried (link_at g.tree.links leaf).kind g.rule (left_at g.left leaf) (board_at g leaf) ps
+  pub each : (j : ℕ) → j < length more → IsNewChild g.rule (link_at g.tree.links leaf).kind (left_at g.left leaf) (board_at g leaf)
+      (move_at ps j) (left_at ns j) (numbers_at more j)
+
+module _ {g : GameTree} {leaf : ℕ} {links : List Link} {numbers more : List Numbers} {ps : List Point} {ns : List ℕ}
+    (x : IsExpansion g leaf links numbers more ps ns) where
+  open x use {ok, game, inside, childless, unsettled, some, points, lefts, long, new, others, children, tried, each}
+
   -- the game once the leaf has its children
   abbrev pub Grown : GameTree
   Grown = record {
@@ -85,16 +97,16 @@ module _ (g : GameTree) (ok : IsTree g.tree) (leaf : ℕ) (inside : leaf < lengt
   pub old-board : (j : ℕ) → j < length g.tree.links → board_of links (g.moves ++ ps) g.start j ≡ board_at g j
   old-board j low = board-kept g.tree.links links g.moves (g.moves ++ ps) g.start ok.linked old-parent old-move j low
 
-  new-inside : (j : ℕ) → j < count → length g.tree.links + j < length links
+  new-inside : (j : ℕ) → j < length more → length g.tree.links + j < length links
   new-inside j low = let e = long.sized in omega (arith, e, low)
 
-  new-parent : (j : ℕ) → j < count → (link_at links (length g.tree.links + j)).parent ≡ leaf
+  new-parent : (j : ℕ) → j < length more → (link_at links (length g.tree.links + j)).parent ≡ leaf
   new-parent j low = ap (λ (l : Link). l.parent) (long.leaves (length g.tree.links + j) (omega arith) (omega (arith, low)))
 
-  pub new-kind : (j : ℕ) → j < count → (link_at links (length g.tree.links + j)).kind ≡ other_kind (link_at g.tree.links leaf).kind
+  pub new-kind : (j : ℕ) → j < length more → (link_at links (length g.tree.links + j)).kind ≡ other_kind (link_at g.tree.links leaf).kind
   new-kind j low = ap (λ (l : Link). l.kind) (long.leaves (length g.tree.links + j) (omega arith) (omega (arith, low)))
 
-  pub new-board : (j : ℕ) → j < count → board_of links (g.moves ++ ps) g.start (length g.tree.links + j) ≡ after (board_at g leaf)
+  pub new-board : (j : ℕ) → j < length more → board_of links (g.moves ++ ps) g.start (length g.tree.links + j) ≡ after (board_at g leaf)
       (move_at ps j)
   new-board j low =
       board-step links (g.moves ++ ps) g.start new.linked (length g.tree.links + j) (omega (arith, inside)) (new-inside j low)
@@ -111,14 +123,14 @@ module _ (g : GameTree) (ok : IsTree g.tree) (leaf : ℕ) (inside : leaf < lengt
       ∙ get_or_append_left g.tree.numbers more no_numbers j (let e = ok.numbered.count in omega (arith, e, low))
 
   -- a node is old, or a new child
-  pub split : (i : ℕ) → i < length links → (i < length g.tree.links) ⊎ ((j : ℕ) × (j < count) × (i ≡ length g.tree.links + j))
+  pub split : (i : ℕ) → i < length links → (i < length g.tree.links) ⊎ ((j : ℕ) × (j < length more) × (i ≡ length g.tree.links + j))
   split i low = elim (cases_lt i (length g.tree.links)) [
     | inl old ↦ inl old
     | inr past ↦ inr (i - length g.tree.links, (let e = long.sized in omega (arith, e, low, past)), omega (arith, past))
   ]
 
   has-children : (i : ℕ) → i ≡ leaf → (link_at links i).count ≡ 0 → ⊥
-  has-children i e none = let c : (link_at links leaf).count ≡ count = ap (λ (l : Link). l.count) long.here in let d =
+  has-children i e none = let c : (link_at links leaf).count ≡ length more = ap (λ (l : Link). l.count) long.here in let d =
       ap (λ (k : ℕ). (link_at links k).count) e in omega (arith, c, d, none, some)
 
   -- what a node has tried
@@ -338,7 +350,7 @@ module _ (g : GameTree) (ok : IsTree g.tree) (leaf : ℕ) (inside : leaf < lengt
   behind-leaf f = ap (λ r. cond (r && not (is_settled (numbers_at numbers leaf)))
       (f (link_at links leaf).kind g.rule (left_at (g.left ++ ns) leaf) (board_of links (g.moves ++ ps) g.start leaf)) 0) leaf-inner
 
-  behind-new : (f : Kind → RuleKind → ℕ → Grid → ℕ) (j : ℕ) → j < count
+  behind-new : (f : Kind → RuleKind → ℕ → Grid → ℕ) (j : ℕ) → j < length more
       → behind_at f Grown (length g.tree.links + j) ≡ child-behind f j
   unfolding child-behind
   behind-new f j low =
@@ -359,15 +371,15 @@ module _ (g : GameTree) (ok : IsTree g.tree) (leaf : ℕ) (inside : leaf < lengt
 
   -- the leaf counts no longer, and its children do
   pub behind-grown : (f : Kind → RuleKind → ℕ → Grid → ℕ)
-      → behind_leaves f Grown + behind_at f g leaf ≤ behind_leaves f g + sum_below count (child-behind f)
+      → behind_leaves f Grown + behind_at f g leaf ≤ behind_leaves f g + sum_below (length more) (child-behind f)
   behind-grown f =
       let after_it : GameTree = Grown in
-      let parts : behind_leaves f after_it ≡ sum_below (length g.tree.links) (behind_at f after_it) + sum_below count
+      let parts : behind_leaves f after_it ≡ sum_below (length g.tree.links) (behind_at f after_it) + sum_below (length more)
       (λ j. behind_at f after_it (length g.tree.links + j)) =
-      ap (λ (n : ℕ). sum_below n (behind_at f after_it)) long.sized ∙ sum-more (length g.tree.links) count (behind_at f after_it) in
+      ap (λ (n : ℕ). sum_below n (behind_at f after_it)) long.sized ∙ sum-more (length g.tree.links) (length more) (behind_at f after_it) in
       let old = sum-less (length g.tree.links) (behind_at f after_it) (behind_at f g) leaf (behind_at f g leaf) inside
       (λ j low other. let e = behind-old f j low other in omega (arith, e)) (let e = behind-leaf f in omega (arith, e)) in
-      let fresh = sum-le count (λ j. behind_at f after_it (length g.tree.links + j)) (child-behind f)
+      let fresh = sum-le (length more) (λ j. behind_at f after_it (length g.tree.links + j)) (child-behind f)
       (λ j low. let e = behind-new f j low in omega (arith, e)) in
       omega (arith, parts, old, fresh)
 
@@ -375,10 +387,10 @@ module _ (g : GameTree) (ok : IsTree g.tree) (leaf : ℕ) (inside : leaf < lengt
   pub closed-grown : closed_nodes g.tree + 1 ≤ closed_nodes (record { links = links; numbers = numbers })
   closed-grown =
       let u : Tree = record { links = links; numbers = numbers } in
-      let parts : closed_nodes u ≡ sum_below (length g.tree.links) (λ i. one_unless (is_open_leaf u i)) + sum_below count
+      let parts : closed_nodes u ≡ sum_below (length g.tree.links) (λ i. one_unless (is_open_leaf u i)) + sum_below (length more)
       (λ j. one_unless (is_open_leaf u (length g.tree.links + j))) =
       ap (λ (n : ℕ). sum_below n (λ i. one_unless (is_open_leaf u i))) long.sized
-      ∙ sum-more (length g.tree.links) count (λ i. one_unless (is_open_leaf u i)) in
+      ∙ sum-more (length g.tree.links) (length more) (λ i. one_unless (is_open_leaf u i)) in
       let old = sum-less (length g.tree.links) (λ i. one_unless (is_open_leaf g.tree i)) (λ i. one_unless (is_open_leaf u i)) leaf 1 inside
       (λ j low other. let e = closed-old j low other in omega (arith, e))
       (let a = leaf-before in let b = leaf-after in omega (arith, a, b)) in

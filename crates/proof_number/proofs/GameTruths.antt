@@ -115,7 +115,7 @@ pub points-same : (g : GameTree) (i : ℕ) → points_of (board_at g i) ≡ poin
 points-same g i = points-within i g.tree.links g.moves g.start i
 
 -- the board of each node is a lawful position
-module _ (g : GameTree) (w : IsLinked g.tree.links) (game : IsGameTree g) where
+module _ {g : GameTree} (w : IsLinked g.tree.links) (game : IsGameTree g) where
   positions-below : (n i : ℕ) → i < n → i < length g.tree.links → IsPosition g.rule (board_at g i)
   positions-below zero i low inside = absurd (omega arith)
   positions-below (suc n) zero low inside = rw (board-root g.tree.links g.moves g.start w) game.lawful
@@ -131,7 +131,7 @@ module _ (g : GameTree) (w : IsLinked g.tree.links) (game : IsGameTree g) where
   position-at i inside = positions-below (suc i) i (omega arith) inside
 
 -- no node has more moves left than the root
-module _ (g : GameTree) (w : IsLinked g.tree.links) (game : IsGameTree g) where
+module _ {g : GameTree} (w : IsLinked g.tree.links) (game : IsGameTree g) where
   left-less : (k : Kind) (n m : ℕ) → left_before k n ≡ m → n ≤ m
   left-less Attack n m e = omega (arith, e)
   left-less Defend n m e = omega (arith, e)
@@ -159,7 +159,7 @@ pub noted-left : (notes : List Note) (i : ℕ) (n d : Note) → i < length notes
     → left_at (map (λ m. m.left) notes) i ≡ n.left
 noted-left notes i n d inside is = get_or-map (λ (m : Note). m.left) notes i n 0 inside ∙ ap (λ (m : Note). m.left) (sym is)
 
-module _ (g : GameTree) (ok : IsTree g.tree) (game : IsGameTree g) (node : ℕ) (some : 0 < node) (inside : node < length g.tree.links)
+module _ {g : GameTree} (ok : IsTree g.tree) (game : IsGameTree g) (node : ℕ) (some : 0 < node) (inside : node < length g.tree.links)
     (p : Point) (move : move_at g.moves node ≡ p) where
   parent : ℕ
   parent = (link_at g.tree.links node).parent
@@ -168,7 +168,7 @@ module _ (g : GameTree) (ok : IsTree g.tree) (game : IsGameTree g) (node : ℕ) 
   parent-inside = let low = ok.linked.parent_first node some inside in omega (arith, low, inside)
 
   pub before-lawful : IsPosition g.rule (board_at g (link_at g.tree.links node).parent)
-  before-lawful = position-at g ok.linked game (link_at g.tree.links node).parent parent-inside
+  before-lawful = position-at ok.linked game (link_at g.tree.links node).parent parent-inside
 
   pub move-on : outcome g.rule (board_at g (link_at g.tree.links node).parent) p ≡ GoesOn
   move-on = subst (λ (q : Point). outcome g.rule (board_at g (link_at g.tree.links node).parent) q ≡ GoesOn) move (game.on node some inside)
@@ -250,7 +250,7 @@ pub tried-attack : (rule : RuleKind) (l : ℕ) (b : Grid) (ms : List Point) → 
 tried-attack rule zero b ms h = absurd h
 tried-attack rule (suc n) b ms h = (n, refl, h)
 
-module _ (g : GameTree) (ok : IsTree g.tree) (game : IsGameTree g) where
+module _ {g : GameTree} (ok : IsTree g.tree) (game : IsGameTree g) where
   pub child-of : (i j : ℕ) → i < length g.tree.links → IsChild (link_at g.tree.links i) j → IsChildOf g i j
   child-of i j inside child =
       let w = ok.linked in

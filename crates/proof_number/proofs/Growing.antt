@@ -27,8 +27,8 @@ use Rattle.proof_number.proofs.Settling.{closed-settled, counted-settled, dispro
 use Rattle.proof_number.proofs.Sums.{sum-less}
 
 -- the search s at its leaf, and v after the leaf is settled in the tree u; c grows by more nodes
-module _ (rule : RuleKind) (s : Search) (t : Tree) (c : List Node) (leaf : ℕ) (view : Grid) (h : IsAtLeaf rule s t c leaf view) (u : Tree)
-    (p : Bool) (st : IsSettledAt t u leaf p)
+module _ {rule : RuleKind} {s : Search} {t : Tree} {c : List Node} {leaf : ℕ} {view : Grid} (h : IsAtLeaf rule s t c leaf view) {u : Tree}
+    {p : Bool} (st : IsSettledAt t u leaf p)
     (v : Search) (more : List Node) (rest : v ≡ record s { board = v.board; notes = v.notes; settled = v.settled; attacked = v.attacked })
     (same_board : v.board ≡ s.board)
     (compiled : IsCompiled (c ++ more)) (table : IsTrueMemo rule (c ++ more) (game_of rule s t) v.settled)
@@ -123,8 +123,8 @@ tells-lost W lost = record {
 }
 
 -- an attacker's leaf is settled as won
-module _ (rule : RuleKind) (s : Search) (t : Tree) (c : List Node) (leaf : ℕ) (view : Grid) (h : IsAtLeaf rule s t c leaf view)
-    (attack : (link_at t.links leaf).kind ≡ Attack) (u : Tree) (st : IsSettledAt t u leaf true)
+module _ {rule : RuleKind} {s : Search} {t : Tree} {c : List Node} {leaf : ℕ} {view : Grid} (h : IsAtLeaf rule s t c leaf view)
+    (attack : (link_at t.links leaf).kind ≡ Attack) {u : Tree} (st : IsSettledAt t u leaf true)
     (v : Search) (more : List Node) (rest : v ≡ record s { board = v.board; notes = v.notes; settled = v.settled; attacked = v.attacked })
     (same_board : v.board ≡ s.board)
     (compiled : IsCompiled (c ++ more)) (table : IsTrueMemo rule (c ++ more) (game_of rule s t) v.settled) (win : WrittenWin)
@@ -181,7 +181,7 @@ module _ (rule : RuleKind) (s : Search) (t : Tree) (c : List Node) (leaf : ℕ) 
 
   pub won-grown : HasGrown rule s v t u (c ++ more) leaf
   won-grown =
-      settled-grown rule s t c leaf view h u true st v more rest same_board compiled table
+      settled-grown h st v more rest same_board compiled table
       (tells-won (WinsAt (link_at t.links leaf).kind rule (left_at (game_of rule s t).left leaf) (board_at (game_of rule s t) leaf))
       (subst (λ (k : Kind). WinsAt k rule (left_at (game_of rule s t).left leaf) (board_at (game_of rule s t) leaf)) (sym attack) wins))
       (λ e. absurd (let bad : true ≡ false = e in cc))
@@ -193,7 +193,7 @@ module _ (rule : RuleKind) (s : Search) (t : Tree) (c : List Node) (leaf : ℕ) 
       (λ e. (attack, now-some)) now-few
 
 -- a leaf is settled as lost
-module _ (rule : RuleKind) (s : Search) (t : Tree) (c : List Node) (leaf : ℕ) (view : Grid) (h : IsAtLeaf rule s t c leaf view) (u : Tree)
+module _ {rule : RuleKind} {s : Search} {t : Tree} {c : List Node} {leaf : ℕ} {view : Grid} (h : IsAtLeaf rule s t c leaf view) {u : Tree}
     (st : IsSettledAt t u leaf false)
     (v : Search) (rest : v ≡ record s { board = v.board; settled = v.settled }) (same_board : v.board ≡ s.board)
     (table : IsTrueMemo rule c (game_of rule s t) v.settled)
@@ -207,7 +207,7 @@ module _ (rule : RuleKind) (s : Search) (t : Tree) (c : List Node) (leaf : ℕ) 
       let nil : c ++ [] ≡ c = append-nil c in
       subst (λ (x : Search). HasGrown rule s x t u c leaf) (sym rest)
       (subst (λ (d : List Node). HasGrown rule s (record s { board = v.board; settled = v.settled }) t u d leaf) nil
-      (settled-grown rule s t c leaf view h u false st (record s { board = v.board; settled = v.settled }) [] refl same_board
+      (settled-grown h st (record s { board = v.board; settled = v.settled }) [] refl same_board
       (subst IsCompiled (sym nil) k.compiled) (subst (λ (d : List Node). IsTrueMemo rule d (game_of rule s t) v.settled) (sym nil)
       table)
       (tells-lost (WinsAt (link_at t.links leaf).kind rule (left_at (game_of rule s t).left leaf) (board_at (game_of rule s t) leaf)) lost)

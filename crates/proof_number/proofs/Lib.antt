@@ -2,6 +2,8 @@
 
 -- the words of the search, in one place
 pub mod Common
+-- the words of the contracts, opened
+mod Opening
 -- the boards of the nodes of a tree; settled numbers are true; moves played and taken back
 mod GameTruths
 -- denials, and the disproved nodes of a tree as one

@@ -1,7 +1,7 @@
 -- What holds of a search on the way back: which proved nodes may lack a win, what is kept, and what is remembered. The win of a proved node
 -- of the attacker, made of those after each reply to a proved move. The way back, in the words of the contracts.
 use Rattle.std.proofs.Common.{◌≡◌, ◌⊎◌, inl, inr, ℕ, zero, suc, ◌<◌, Bool, true, false, cond, refl, sym, ap, subst, ◌∙◌, arith, List}
-use Rattle.std.proofs.Common.{length, nat_eq, Option, Some, None, All, ◌+◌, ◌||◌, [], ◌∷◌, map}
+use Rattle.std.proofs.Common.{Ok, Err, length, nat_eq, Option, Some, None, All, ◌+◌, ◌||◌, [], ◌∷◌, map}
 use Rattle.std.specs.List.{find, list_any, AllByRecursion}
 use Rattle.std.proofs.lemmas.Bool.{cases_eq, ne_eqb}
 use Rattle.std.proofs.lemmas.List.{length-map}
@@ -28,7 +28,11 @@ use Rattle.proof_number.specs.declared.search.Search.{Search}
 use Rattle.proof_number.specs.declared.notes.Settled.{Settled}
 use Rattle.proof_number.proofs.Common.{all_notes, among, note_at, noted_for, noted_win, or_first, win_of, WinsAt, board_at, left_at}
 use Rattle.proof_number.proofs.Common.{IsTrueMemo, IsAbove, IsSearching, KeepsTree, game_of, answer_of, no_note, IsGameTree, IsTrueOf}
-use Rattle.proof_number.proofs.Common.{IsLostAt, Searches}
+use Rattle.proof_number.proofs.Common.{IsLostAt, IsPassed, Searches}
+use Rattle.proof_number.specs.Searches.Searches.{known_searching}
+use Rattle.proof_number.proofs.Opening.{searching-facts}
+use Rattle.strategy_compiler.specs.declared.error.SearchError.{SearchError}
+use Rattle.strategy_compiler.proofs.Growing.{writes-fails, writes-nothing, writes-tells}
 use Rattle.proof_number.proofs.Disproved.{lost-at}
 use Rattle.proof_number.proofs.GameTruths.{all-tell, position-at}
 
@@ -128,7 +132,7 @@ pub lost-node : (rule : RuleKind) (s : Search) (t : Tree) (c : List Node) (way :
     → numbers_at t.numbers node ≡ settled_numbers false
     → WinsByThreats rule (left_at (game_of rule s t).left node) (board_at (game_of rule s t) node) → ⊥
 lost-node rule s t c way node h inside attack lost wins =
-    let told = all-tell (game_of rule s t) h.tree h.game node inside in
+    let told = all-tell h.tree h.game node inside in
     told.disproved lost (subst (λ (k : Kind). WinsAt k rule (left_at (game_of rule s t).left node) (board_at (game_of rule s t) node))
     (sym attack) wins)
 
@@ -137,7 +141,7 @@ pub won-node : (rule : RuleKind) (s : Search) (t : Tree) (c : List Node) (way : 
     → numbers_at t.numbers node ≡ settled_numbers true
     → WinsByThreats rule (left_at (game_of rule s t).left node) (board_at (game_of rule s t) node)
 won-node rule s t c way node h inside attack won =
-    let told = all-tell (game_of rule s t) h.tree h.game node inside in
+    let told = all-tell h.tree h.game node inside in
     subst (λ (k : Kind). WinsAt k rule (left_at (game_of rule s t).left node) (board_at (game_of rule s t) node)) attack (told.proved won)
 
 -- ---- what is remembered
@@ -252,11 +256,10 @@ written-node rule b p on t u ns n all none_saves each deep i by_answers =
     (alone-deep t (map answer_of ns) ∙ deep-notes (depth t) ns deep)
     (by_answers rule n b on answers)
 
-module _ (rule : RuleKind) (s : Search) (t : Tree) (c : List Node) (node : ℕ)
+module _ {rule : RuleKind} {s : Search} {t : Tree} {c : List Node} {node : ℕ}
     (searches : Searches rule s t c (IsOnWayUp t.links node)) where
   h : IsSearching rule s t c (IsOnWayUp t.links node)
-  unfolding Searches
-  h = searches
+  h = searching-facts searches
 
   pub noted-inside : node < length t.links → node < length s.notes.items
   noted-inside inside = let long = length-map s.notes.items (λ (n : Note). n.at) in let e = h.game.moves in omega (arith, long, e, inside)
@@ -269,17 +272,15 @@ module _ (rule : RuleKind) (s : Search) (t : Tree) (c : List Node) (node : ℕ)
       (h.written.true_wins node inside noted.0).0
 
   pub noted-searches : (w : WrittenWin) → noted_win (note_at s.notes.items node) ≡ Some w → Searches rule s t c (IsAbove t.links node)
-  unfolding Searches
-  noted-searches w e = way-above rule s t c node (λ attack proved. (noted-some (note_at s.notes.items node) w e).0) h
+  noted-searches w e = known_searching (way-above rule s t c node (λ attack proved. (noted-some (note_at s.notes.items node) w e).0) h)
 
   -- a node that is no proved one of the attacker
   pub other-searches : ((link_at t.links node).kind ≡ Defend) ⊎ (numbers_at t.numbers node ≡ settled_numbers true → ⊥)
       → Searches rule s t c (IsAbove t.links node)
-  unfolding Searches
-  other-searches other = way-above rule s t c node (λ attack proved. absurd (elim other [
+  other-searches other = known_searching (way-above rule s t c node (λ attack proved. absurd (elim other [
     | inl defend ↦ let bad : Attack ≡ Defend = sym attack ∙ defend in cc
     | inr open_or_lost ↦ open_or_lost proved
-  ])) h
+  ])) h)
 
   pub lost-there : node < length t.links → (link_at t.links node).kind ≡ Attack → numbers_at t.numbers node ≡ settled_numbers false
       → WinsByThreats rule (left_at (game_of rule s t).left node) (board_at (game_of rule s t) node) → ⊥
@@ -287,7 +288,7 @@ module _ (rule : RuleKind) (s : Search) (t : Tree) (c : List Node) (node : ℕ)
 
   pub lost-there-by : node < length t.links → (link_at t.links node).kind ≡ Attack → numbers_at t.numbers node ≡ settled_numbers false
       → IsLostAt Attack (game_of rule s t) (left_at (game_of rule s t).left node) (board_at (game_of rule s t) node)
-  lost-there-by inside attack lost = lost-at (game_of rule s t) h.tree h.game node inside attack lost
+  lost-there-by inside attack lost = lost-at h.tree h.game node inside attack lost
 
   pub won-there : node < length t.links → (link_at t.links node).kind ≡ Attack → numbers_at t.numbers node ≡ settled_numbers true
       → WinsByThreats rule (left_at (game_of rule s t).left node) (board_at (game_of rule s t) node)
@@ -299,30 +300,26 @@ module _ (rule : RuleKind) (s : Search) (t : Tree) (c : List Node) (node : ℕ)
   pub way-game : IsGameTree (game_of rule s t)
   way-game = h.game
 
-module _ (rule : RuleKind) (s : Search) (t : Tree) (c : List Node) (node : ℕ) (searches : Searches rule s t c (IsAbove t.links node)) where
+module _ {rule : RuleKind} {s : Search} {t : Tree} {c : List Node} {node : ℕ} (searches : Searches rule s t c (IsAbove t.links node)) where
   above : IsSearching rule s t c (IsAbove t.links node)
-  unfolding Searches
-  above = searches
+  above = searching-facts searches
 
   pub parent-searches : Searches rule s t c (IsOnWayUp t.links (link_at t.links node).parent)
-  unfolding Searches
-  parent-searches = way-parent rule s t c node above
+  parent-searches = known_searching (way-parent rule s t c node above)
 
   pub root-searches : node ≡ 0 → Searches rule s t c (λ i. ⊥)
-  unfolding Searches
-  root-searches root = way-root rule s t c node root above
+  root-searches root = known_searching (way-root rule s t c node root above)
 
   -- what is true of the node is kept in the table
   pub kept-searches : (u : Search) (w : Grid) (n : ℕ) (v : Settled) → node < length t.links → u ≡ record s { settled = u.settled }
       → w ≡ board_at (game_of rule s t) node → n ≡ left_at (game_of rule s t).left node
       → IsTrueOf rule c (game_of rule s t) (board_at (game_of rule s t) node) (left_at (game_of rule s t).left node) v
       → (u.settled ≡ kept (packed w, n) v s.settled) ⊎ (u.settled ≡ s.settled) → Searches rule u t c (IsAbove t.links node)
-  unfolding Searches
-  kept-searches u w n v inside rest there left true_of keeps =
+  kept-searches u w n v inside rest there left true_of keeps = known_searching (
       remembered-searching rule s u t c (IsAbove t.links node) rest
       (true-kept rule (IsTrueOf rule c (game_of rule s t)) (board_at (game_of rule s t) node) w n v s.settled
-      (position-at (game_of rule s t) above.tree.linked above.game node inside) there above.remembered u.settled
-      (subst (λ (m : ℕ). IsTrueOf rule c (game_of rule s t) (board_at (game_of rule s t) node) m v) (sym left) true_of) keeps) above
+      (position-at above.tree.linked above.game node inside) there above.remembered u.settled
+      (subst (λ (m : ℕ). IsTrueOf rule c (game_of rule s t) (board_at (game_of rule s t) node) m v) (sym left) true_of) keeps) above)
 
   pub above-inside : node < length t.links → node < length s.notes.items
   above-inside inside = let long = length-map s.notes.items (λ (n : Note). n.at) in let e =
@@ -331,16 +328,45 @@ module _ (rule : RuleKind) (s : Search) (t : Tree) (c : List Node) (node : ℕ) 
 -- the board that the moves are played on changes nothing else
 pub board-searches : (rule : RuleKind) (s u : Search) (t : Tree) (c : List Node) (way : ℕ → Type 0) → u ≡ record s { board = u.board }
     → Searches rule s t c way → Searches rule u t c way
-unfolding Searches
-board-searches rule s u t c way rest h = subst (λ (w : Search). IsSearching rule w t c way) (sym rest) (record {
-  tree = h.tree;
-  game = h.game;
-  depth = h.depth;
-  depth_fits = h.depth_fits;
-  budget_fits = h.budget_fits;
-  written = h.written;
-  remembered = h.remembered;
-  counted = h.counted;
-  compiled = h.compiled;
-  few = h.few;
-})
+board-searches rule s u t c way rest is = let h = searching-facts is in
+    known_searching (subst (λ (w : Search). IsSearching rule w t c way) (sym rest) (record {
+      tree = h.tree;
+      game = h.game;
+      depth = h.depth;
+      depth_fits = h.depth_fits;
+      budget_fits = h.budget_fits;
+      written = h.written;
+      remembered = h.remembered;
+      counted = h.counted;
+      compiled = h.compiled;
+      few = h.few;
+    }))
+
+-- ---- a node that is passed
+
+module _ {rule : RuleKind} {s u : Search} {t : Tree} {c d : List Node} {node : ℕ} where
+  -- as the last call in it failed
+  pub passed-fails : {A B : Type 0} {e : SearchError} → IsPassed {A = A} rule s u t c d node (Err e)
+      → IsPassed {A = B} rule s u t c d node (Err e)
+  passed-fails {A = A} {e = e} passed = record {
+    searching = tt;
+    keeps = passed.keeps;
+    writes = writes-fails {A = A} c d _ _ e (Err e) passed.writes (omega arith) refl;
+  }
+
+  -- with another answer than the last call in it
+  pub passed-tells : {A B : Type 0} {x : A} (y : B) → IsPassed rule s u t c d node (Ok x) → IsPassed rule s u t c d node (Ok y)
+  passed-tells {x = x} y passed = record {
+    searching = passed.searching;
+    keeps = passed.keeps;
+    writes = writes-tells c d _ _ x y passed.writes (omega arith);
+  }
+
+-- with nothing written
+pub passed-idle : {A : Type 0} {rule : RuleKind} {s : Search} {t : Tree} {c : List Node} {node : ℕ} (y : A)
+    → Searches rule s t c (IsAbove t.links node) → IsPassed rule s s t c c node (Ok y)
+passed-idle {s = s} {c = c} y searching = record {
+  searching = searching;
+  keeps = keeps-all s;
+  writes = writes-nothing c c _ y (searching-facts searching).compiled refl;
+}

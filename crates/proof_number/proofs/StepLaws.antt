@@ -1,25 +1,32 @@
 -- A step of the search from the root to a leaf and back, of its parts.
-use Rattle.std.proofs.Common.{◌≡◌, ◌∙◌, ℕ, ◌+◌, ◌<◌, false, sym, ap, subst, arith, length, List, Ok}
-use Rattle.std.proofs.lemmas.List.{get_or-map, length-map}
+use Rattle.std.proofs.Common.{◌≡◌, ◌∙◌, ℕ, ◌+◌, ◌<◌, ◌≤◌, false, sym, ap, subst, arith, length, List, Ok, Err, OnOk, Result}
+use Rattle.std.proofs.lemmas.List.{get_or-map, length-append, length-map}
 use Rattle.game_rules.specs.Grid.{Grid}
 use Rattle.game_rules.specs.declared.RuleKind.{RuleKind}
 use Rattle.strategy_graph.specs.declared.Node.{Node}
-use Rattle.strategy_graph.specs.declared.TheConstants.{MAX_NODES}
+use Rattle.strategy_compiler.specs.declared.error.SearchError.{SearchError}
+use Rattle.strategy_compiler.proofs.Common.{Writes}
+use Rattle.strategy_compiler.proofs.Growing.{writes-fails, writes-tells, writes-then}
 use Rattle.proof_tree.proofs.Common.{is_settled, IsOnWayUp, IsTree, Tree, link_at, most_proving, numbers_at}
 use Rattle.threat_game.specs.ThreatGame.{threat_tree}
 use Rattle.proof_number.specs.declared.notes.Note.{Note}
 use Rattle.proof_number.specs.declared.search.Search.{Search}
 use Rattle.proof_number.specs.declared.search.Step.{Step}
 use Rattle.proof_number.specs.declared.search.Step.TheVariants.{Done, Spent}
-use Rattle.proof_number.specs.Searches.{HasNoRoom}
+use Rattle.proof_number.specs.Searches.Searches.{known_searching}
+use Rattle.proof_number.specs.Searches.StandsAt.{known_at_leaf}
+use Rattle.proof_number.proofs.Opening.{grown-facts, searching-facts}
 use Rattle.proof_number.proofs.Common.{no_note, GameTree, IsGameTree, board_at, left_at, Grows, HasGrown, HasSpent, HasStayed, IsSameAim}
-use Rattle.proof_number.proofs.Common.{IsSearching, OnStep, Searches, StandsAt, game_of}
-use Rattle.proof_number.proofs.Recording.{board-searches}
+use Rattle.proof_number.proofs.Common.{HasStepped, IsAbove, IsBack, IsPassed, KeepsTree, IsOverBudget, IsSearching, IsStep, IsTried, OnStep}
+use Rattle.proof_number.proofs.Common.{Searches, StandsAt, game_of}
+use Rattle.proof_number.proofs.Common.{most_nodes, room_in}
+use Rattle.std.proofs.lemmas.Result.{on_ok_weaker}
+use Rattle.proof_number.proofs.Recording.{board-searches, root-searches}
+use Rattle.proof_number.proofs.Steps.{most-same}
 
-module _ (rule : RuleKind) (s : Search) (t : Tree) (c : List Node) (searches : Searches rule s t c (λ i. ⊥)) where
+module _ {rule : RuleKind} {s : Search} {t : Tree} {c : List Node} (searches : Searches rule s t c (λ i. ⊥)) where
   inside : IsSearching rule s t c (λ i. ⊥)
-  unfolding Searches
-  inside = searches
+  inside = searching-facts searches
 
   pub searched-tree : IsTree t
   searched-tree = inside.tree
@@ -32,12 +39,11 @@ module _ (rule : RuleKind) (s : Search) (t : Tree) (c : List Node) (searches : S
       → moved ≡ record s { board = moved.board } → leaf ≡ most_proving t → leaf < length t.links → (link_at t.links leaf).count ≡ 0
       → is_settled (numbers_at t.numbers leaf) ≡ false → view ≡ board_at (game_of rule s t) leaf
       → moved.board ≡ board_at (game_of rule s t) leaf → StandsAt rule moved t c leaf view
-  unfolding Searches StandsAt
-  stands-there moved leaf view root_open rest is low none leaf_open view_is board_is =
+  stands-there moved leaf view root_open rest is low none leaf_open view_is board_is = known_at_leaf (
       let same : board_at (game_of rule s t) leaf ≡ board_at (game_of rule moved t) leaf =
       sym (ap (λ (w : Search). board_at (game_of rule w t) leaf) rest) in
       record {
-        searching = board-searches rule s moved t c (λ i. ⊥) rest searches;
+        searching = searching-facts (board-searches rule s moved t c (λ i. ⊥) rest searches);
         root_open = root_open;
         leaf_is = is;
         in_tree = low;
@@ -45,7 +51,7 @@ module _ (rule : RuleKind) (s : Search) (t : Tree) (c : List Node) (searches : S
         leaf_open = leaf_open;
         view_is = view_is ∙ same;
         board_is = board_is ∙ same;
-      }
+      })
 
 -- ---- what a step did
 
@@ -55,15 +61,20 @@ on-done x D S E e h = subst (λ (y : Step). OnStep (Ok y) D S E) e h
 pub on-spent : (x : Step) (D S E : Type 0) → x ≡ Spent → OnStep (Ok x) D S E → S
 on-spent x D S E e h = subst (λ (y : Step). OnStep (Ok y) D S E) e h
 
-module _ (rule : RuleKind) (moved v : Search) (t u : Tree) (d : List Node) (leaf : ℕ) (x : Step)
-    (h : OnStep (Ok x) (Grows rule moved v t u d leaf) (HasSpent rule moved v t u) (HasStayed moved v t u)) where
-  pub step-done : x ≡ Done → Grows rule moved v t u d leaf
-  step-done e = on-done x (Grows rule moved v t u d leaf) (HasSpent rule moved v t u) (HasStayed moved v t u) e h
+-- the leaf was tried, and what it came to
+module _ {rule : RuleKind} {s v : Search} {t u : Tree} {c d : List Node} {leaf : ℕ} {x : Step}
+    (tried : IsTried rule s v t u c d leaf (Ok x)) where
+  pub grown-parts : x ≡ Done → HasGrown rule s v t u d leaf
+  grown-parts is = grown-facts (on-done x (Grows rule s v t u d leaf) (HasSpent rule s v t u) (HasStayed s v t u) is tried.step)
 
-  pub step-stays : x ≡ Spent → HasStayed moved v t u
-  step-stays e =
-      let spent = on-spent x (Grows rule moved v t u d leaf) (HasSpent rule moved v t u) (HasStayed moved v t u) e h in
-      record { same = spent.same; keeps = spent.keeps }
+  pub grown-searches : x ≡ Done → Searches rule v u d (IsOnWayUp u.links leaf)
+  grown-searches is = known_searching (grown-parts is).searching
+
+  pub spent-parts : x ≡ Spent → HasSpent rule s v t u
+  spent-parts is = on-spent x (Grows rule s v t u d leaf) (HasSpent rule s v t u) (HasStayed s v t u) is tried.step
+
+  pub spent-stays : x ≡ Spent → HasStayed s v t u
+  spent-stays is = let spent = spent-parts is in record { same = spent.same; keeps = spent.keeps }
 
 -- ---- what stays
 
@@ -112,47 +123,153 @@ module _ (rule : RuleKind) (s moved v : Search) (t u : Tree) (rest : moved ≡ r
     root = ap (λ (x : Search). x.root) back ∙ ap (λ (x : Search). x.root) stays.keeps.rest ∙ ap (λ (x : Search). x.root) rest;
   }
 
+  pub stayed-inside : (leaf : ℕ) → leaf < length t.links → leaf < length u.links
+  stayed-inside leaf = subst (λ (w : Tree). leaf < length w.links) (sym stays.same)
+
+-- ---- what is written
+
+-- a call, and another after it that may write no more than is left
+pub writes-on : {A B : Type 0} {c d e : List Node} {most limit : ℕ} {x : A} {r : Result B SearchError} → Writes c d (room_in most c) (Ok x)
+    → limit ≤ most → Writes d e (room_in limit d) r → Writes c e (room_in most c) r
+unfolding room_in
+writes-on {c = c} {d = d} {e = e} {most = most} {limit = limit} {x = x} {r = r} first low second =
+    let few = first.grows.few in
+    let known : Writes c d (length first.grows.added) (Ok x) = record {
+      grows = record { added = first.grows.added; is = first.grows.is; few = omega arith };
+      compiled = first.compiled;
+      full = λ h. cc;
+      full_now = λ h. cc;
+    } in
+    let long : length d ≡ length c + length first.grows.added = ap length first.grows.is ∙ length-append c first.grows.added in
+    writes-then c d e (length first.grows.added) (room_in limit d) (room_in most c) x r known second (omega (arith, long, few, low))
+
+-- no more positions are counted than may be
+pub counted-most : {rule : RuleKind} {s : Search} {t : Tree} {c : List Node} {way : ℕ → Type 0} → IsSearching rule s t c way
+    → s.before + s.attacked ≤ most_nodes rule s
+unfolding most_nodes
+counted-most {rule = rule} {s = s} {t = t} h =
+    let some = h.tree.linked.some in
+    let long = length-map s.notes.items (λ (n : Note). n.at) in
+    let many = h.game.moves in
+    let first : left_at (game_of rule s t).left 0 ≡ s.depth =
+    get_or-map (λ (n : Note). n.left) s.notes.items 0 no_note 0 (omega (arith, some, long, many)) ∙ h.depth in
+    let same : threat_tree rule (left_at (game_of rule s t).left 0) s.root ≡ threat_tree rule s.depth s.root =
+    ap (λ (n : ℕ). threat_tree rule n s.root) first in
+    omega (arith, h.counted.attacked_fits, h.counted.attacks, same)
+
 -- ---- the leaf is settled or has children
 
-module _ (rule : RuleKind) (s v : Search) (t u : Tree) (d : List Node) (leaf : ℕ) (x : Step)
-    (h : OnStep (Ok x) (Grows rule s v t u d leaf) (HasSpent rule s v t u) (HasStayed s v t u)) (is : x ≡ Done) where
-  pub grown-parts : HasGrown rule s v t u d leaf
-  unfolding Grows
-  grown-parts = step-done rule s v t u d leaf x h is
-
-  pub grown-searches : Searches rule v u d (IsOnWayUp u.links leaf)
-  unfolding Searches
-  grown-searches = grown-parts.searching
-
-  grown-full : {E : Type 0} → (E → MAX_NODES < v.before + v.attacked) → E → HasNoRoom rule s
-  grown-full refused e =
-      let over = refused e in
-      let h = grown-parts.searching in
-      let aim = grown-parts.aim in
-      let before = aim.before in
-      let budget = aim.budget in
-      let fits = h.counted.attacked_fits in
-      let all = h.counted.attacks in
-      let some = h.tree.linked.some in
-      let long = length-map v.notes.items (λ (n : Note). n.at) in
-      let many = h.game.moves in
-      let first : left_at (game_of rule v u).left 0 ≡ s.depth =
-      get_or-map (λ (n : Note). n.left) v.notes.items 0 no_note 0 (omega (arith, some, long, many)) ∙ h.depth ∙ aim.depth in
-      let same : threat_tree rule (left_at (game_of rule v u).left 0) v.root ≡ threat_tree rule s.depth s.root =
-      ap (λ (n : ℕ). threat_tree rule n v.root) first ∙ ap (threat_tree rule s.depth) aim.root in
-      (omega (arith, over, before, budget, fits), omega (arith, over, before, all, same))
-
+module _ {rule : RuleKind} {s v : Search} {t u : Tree} {d : List Node} {leaf : ℕ} (grown : HasGrown rule s v t u d leaf) where
   -- from the search before the moves were played
   module _ (before : Search) (rest : s ≡ record before { board = s.board }) where
-    pub grown-aim : (w : Search) → IsSameAim v w → IsSameAim before w
-    grown-aim w back = aim-then before v w (aim-then before s v (moved-aim before s rest) grown-parts.aim) back
-
-    pub grown-root : v.root ≡ before.root
-    grown-root = (aim-then before s v (moved-aim before s rest) grown-parts.aim).root
+    pub grown-aim : IsSameAim before v
+    grown-aim = aim-then before s v (moved-aim before s rest) grown.aim
 
     pub grown-place : board_at (game_of rule before t) leaf ≡ board_at (game_of rule v u) leaf
-    grown-place = sym (grown-parts.place ∙ ap (λ (w : Search). board_at (game_of rule w t) leaf) rest)
+    grown-place = sym (grown.place ∙ ap (λ (w : Search). board_at (game_of rule w t) leaf) rest)
 
-    -- where the compiler is full on the way back, more positions are counted than it has room for
-    pub step-full : {E : Type 0} → (E → MAX_NODES < v.before + v.attacked) → E → HasNoRoom rule before
-    step-full refused e = subst (λ (w : Search). HasNoRoom rule w) rest (grown-full refused e)
+    -- the step from there to the leaf and back
+    module _ {c e : List Node} {w : Search} {x : Step} (first : Writes c d (room_in (most_nodes rule s) c) (Ok x)) where
+      back-writes : {r : Result (Unit {0}) SearchError} → IsBack rule v w u d e r → Writes c e (room_in (most_nodes rule before) c) r
+      back-writes {r = r} back =
+          let limit : v.before + v.attacked ≤ most_nodes rule s =
+          subst (λ (k : ℕ). v.before + v.attacked ≤ k) (most-same rule grown.aim) (counted-most grown.searching) in
+          subst (λ (k : ℕ). Writes c e (room_in k c) r) (most-same rule (moved-aim before s rest)) (writes-on first limit back.writes)
+
+      pub back-done : {y : Unit {0}} → IsBack rule v w u d e (Ok y) → IsStep rule before w t u c e (Ok Done)
+      back-done {y = y} back = record {
+        came = record { searching = back.searching; progress = grown.progress };
+        aim = aim-then before v w grown-aim back.aim;
+        board = back.board ∙ grown-aim.root;
+        tree = grown.searching.tree;
+        longer = grown.longer;
+        writes = writes-tells c e _ _ y Done (back-writes back) (omega arith);
+      }
+
+      pub back-fails : {r : Result Step SearchError} (error : SearchError) → IsBack rule v w u d e (Err error) → r ≡ Err error
+          → IsStep rule before w t u c e r
+      back-fails {r = r} error back is = record {
+        came = subst (λ (q : Result Step SearchError). OnStep q (HasStepped rule w t u e) (IsOverBudget rule before t u) (Unit {0}))
+            (sym is)
+            tt;
+        aim = aim-then before v w grown-aim back.aim;
+        board = back.board ∙ grown-aim.root;
+        tree = grown.searching.tree;
+        longer = grown.longer;
+        writes = writes-fails {A = Unit {0}} c e _ _ error r (back-writes back) (omega arith) is;
+      }
+
+-- ---- the tree is as it was
+
+module _ {rule : RuleKind} {s : Search} {t : Tree} {c : List Node} (searching : Searches rule s t c (λ i. ⊥)) where
+  pub stayed-step : {moved v w : Search} {u : Tree} {d : List Node} {r : Result Step SearchError}
+      → moved ≡ record s { board = moved.board } → HasStayed moved v t u → w ≡ record v { board = w.board } → w.board ≡ v.root
+      → OnStep r (HasStepped rule w t u d) (IsOverBudget rule s t u) (Unit {0}) → Writes c d (room_in (most_nodes rule moved) c) r
+      → IsStep rule s w t u c d r
+  stayed-step {moved = moved} {v = v} {w = w} {u = u} {d = d} {r = r} rest stays back board came writes = record {
+    came = came;
+    aim = stayed-aim rule s moved v t u rest stays w back;
+    board = board ∙ stayed-root rule s moved v t u rest stays;
+    tree = stayed-tree rule s moved v t u rest stays (searched-tree searching);
+    longer = subst (λ (x : Tree). length t.links ≤ length x.links) (sym stays.same) (omega arith);
+    writes = subst (λ (k : ℕ). Writes c d (room_in k c) r) (most-same rule (moved-aim s moved rest)) writes;
+  }
+
+  pub spent-step : {moved v w : Search} {u : Tree} {d : List Node} {leaf : ℕ} {x : Step} → moved ≡ record s { board = moved.board }
+      → IsTried rule moved v t u c d leaf (Ok x) → x ≡ Spent → w ≡ record v { board = w.board } → w.board ≡ v.root
+      → IsStep rule s w t u c d (Ok Spent)
+  spent-step {moved = moved} {u = u} {d = d} {x = x} rest tried is back board =
+      let spent = spent-parts tried is in
+      stayed-step rest (spent-stays tried is) back board
+      (record {
+        same = spent.same;
+        spent = subst (λ (y : Search). y.budget < threat_tree rule y.depth y.root) rest spent.spent;
+      }) (subst (λ (y : Step). Writes c d (room_in (most_nodes rule moved) c) (Ok y)) is tried.writes)
+
+-- ---- the way back
+
+keeps-aim : (s u : Search) → KeepsTree s u → IsSameAim s u
+keeps-aim s u keeps = record {
+  depth = ap (λ (w : Search). w.depth) keeps.rest;
+  budget = ap (λ (w : Search). w.budget) keeps.rest;
+  before = ap (λ (w : Search). w.before) keeps.rest;
+  root = ap (λ (w : Search). w.root) keeps.rest;
+}
+
+-- the root is passed
+pub root-back : {rule : RuleKind} {s u : Search} {t : Tree} {c d : List Node} {node : ℕ} {r : Result (Unit {0}) SearchError} → node ≡ 0
+    → IsPassed rule s u t c d node r → s.board ≡ s.root → IsBack rule s u t c d r
+root-back {rule = rule} {s = s} {u = u} {t = t} {d = d} {node = node} {r = r} root passed board = record {
+  searching = on_ok_weaker {P = Searches rule u t d (IsAbove t.links node)} r (λ h. root-searches h root) passed.searching;
+  aim = keeps-aim s u passed.keeps;
+  board = ap (λ (w : Search). w.board) passed.keeps.rest ∙ board;
+  writes = passed.writes;
+}
+
+-- a node is passed, and then those above it
+pub node-back : {rule : RuleKind} {s u m w : Search} {t : Tree} {c d e : List Node} {node : ℕ} {x : Unit {0}}
+    {r : Result (Unit {0}) SearchError} → IsPassed rule s u t c d node (Ok x) → m ≡ record u { board = m.board } → IsBack rule m w t d e r
+    → IsBack rule s w t c e r
+node-back {rule = rule} {s = s} {u = u} {m = m} {w = w} passed rest back =
+    let first : IsSameAim s m = aim-then s u m (keeps-aim s u passed.keeps) (moved-aim u m rest) in
+    let attacked : m.attacked ≡ s.attacked = ap (λ (w : Search). w.attacked) rest ∙ ap (λ (w : Search). w.attacked) passed.keeps.rest in
+    let before = first.before in
+    record {
+      searching = back.searching;
+      aim = aim-then s m w first back.aim;
+      board = back.board ∙ first.root;
+      writes = writes-on passed.writes (omega (arith, before, attacked)) back.writes;
+    }
+
+-- a node is not passed, and the moves are taken back
+pub node-refused : {rule : RuleKind} {s u w : Search} {t : Tree} {c d : List Node} {node : ℕ} {r : Result (Unit {0}) SearchError}
+    (e : SearchError) → r ≡ Err e → IsPassed {A = Unit {0}} rule s u t c d node (Err e) → w ≡ record u { board = w.board }
+    → w.board ≡ u.root → IsBack rule s w t c d r
+node-refused {rule = rule} {s = s} {u = u} {w = w} {t = t} {c = c} {d = d} {r = r} e is passed rest board =
+    let first = keeps-aim s u passed.keeps in
+    record {
+      searching = subst (λ (q : Result (Unit {0}) SearchError). OnOk q (Searches rule w t d (λ i. ⊥))) (sym is) tt;
+      aim = aim-then s u w first (moved-aim u w rest);
+      board = board ∙ first.root;
+      writes = subst (Writes c d (room_in (s.before + s.attacked) c)) (sym is) passed.writes;
+    }

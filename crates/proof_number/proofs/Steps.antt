@@ -13,12 +13,12 @@ use Rattle.position_table.specs.Packing.{Packed, packed}
 use Rattle.position_table.specs.Remembering.{value_under, looked_up}
 use Rattle.position_table.proofs.Remembering.{true-found, true-looked}
 use Rattle.strategy_graph.specs.declared.Node.{Node}
-use Rattle.strategy_graph.specs.declared.TheConstants.{MAX_NODES}
 use Rattle.strategy_graph.proofs.Filling.{IsTable-lower}
 use Rattle.strategy_compiler.specs.declared.error.SearchError.{SearchError}
 use Rattle.strategy_compiler.specs.declared.wins.WrittenWin.{WrittenWin}
-use Rattle.strategy_compiler.proofs.Growing.{win-some}
-use Rattle.strategy_compiler.proofs.Common.{IsCompiled, GrowsBy}
+use Rattle.strategy_compiler.proofs.Growing.{grows-not, win-some, writes-memory, writes-nothing}
+use Rattle.strategy_compiler.specs.declared.error.SearchError.TheVariants.{Memory}
+use Rattle.strategy_compiler.proofs.Common.{IsCompiled, GrowsBy, Writes}
 use Rattle.threat_game.specs.declared.doubles.DoublePoint.{DoublePoint}
 use Rattle.threat_game.proofs.TreeLaws.{tree-positive, one_where, counted-within}
 use Rattle.threat_game.proofs.Common.{threat_tree, IsThreatWin, IsDoubleWin, answer_nodes}
@@ -28,8 +28,11 @@ use Rattle.proof_number.specs.declared.notes.Note.{Note}
 use Rattle.proof_number.specs.declared.notes.Settled.{Settled}
 use Rattle.proof_number.specs.declared.notes.Settled.TheVariants.{Lost}
 use Rattle.proof_number.specs.declared.search.Search.{Search}
-use Rattle.proof_number.specs.Searches.{HasNoRoom}
-use Rattle.proof_number.proofs.Common.{no_note, note_at, CanGrow, WinsAt, board_at, left_at, IsTrueOf, IsTrueMemo, Searches, Grows}
+use Rattle.proof_number.specs.Searches.StandsAt.{known_at_leaf}
+use Rattle.proof_number.specs.Searches.Grows.{known_grown}
+use Rattle.proof_number.proofs.Opening.{grown-facts, leaf-facts}
+use Rattle.proof_number.proofs.Common.{IsSameAim, IsTried, most_nodes, room_in}
+use Rattle.proof_number.proofs.Common.{no_note, note_at, CanGrow, WinsAt, board_at, left_at, IsTrueOf, IsTrueMemo, Grows}
 use Rattle.proof_number.proofs.Common.{HasGrown, HasSpent, HasStayed, KeepsTree, OnStep, IsAtLeaf, IsNotedWin, IsSettledAt, StandsAt}
 use Rattle.proof_number.proofs.Common.{game_of, noted_won, GameTree, attacks_behind, behind_at, is_attack, unwritten, IsLostAt}
 use Rattle.proof_number.proofs.GameTruths.{left-low, position-at}
@@ -38,10 +41,9 @@ use Rattle.proof_number.proofs.Remembering.{memo-grown}
 use Rattle.proof_number.proofs.Recording.{keeps-all}
 use Rattle.proof_number.proofs.Sums.{sum-zeros, sum-less}
 
-module _ (rule : RuleKind) (s : Search) (t : Tree) (c : List Node) (leaf : ℕ) (view : Grid) (stands : StandsAt rule s t c leaf view) where
+module _ {rule : RuleKind} {s : Search} {t : Tree} {c : List Node} {leaf : ℕ} {view : Grid} (stands : StandsAt rule s t c leaf view) where
   at-leaf : IsAtLeaf rule s t c leaf view
-  unfolding StandsAt
-  at-leaf = stands
+  at-leaf = leaf-facts stands
 
   pub leaf-inside : leaf < length t.links
   leaf-inside = at-leaf.in_tree
@@ -61,7 +63,7 @@ module _ (rule : RuleKind) (s : Search) (t : Tree) (c : List Node) (leaf : ℕ) 
 
   pub leaf-lawful : IsPosition rule view
   leaf-lawful = subst (IsPosition rule) (sym at-leaf.view_is)
-      (position-at (game_of rule s t) at-leaf.searching.tree.linked at-leaf.searching.game leaf at-leaf.in_tree)
+      (position-at at-leaf.searching.tree.linked at-leaf.searching.game leaf at-leaf.in_tree)
 
   pub leaf-board : s.board ≡ view
   leaf-board = at-leaf.board_is ∙ sym at-leaf.view_is
@@ -77,7 +79,7 @@ module _ (rule : RuleKind) (s : Search) (t : Tree) (c : List Node) (leaf : ℕ) 
   -- few moves are left
   pub left-few : (note_at s.notes.items leaf).left ≤ 60
   left-few =
-      let low = left-low (game_of rule s t) at-leaf.searching.tree.linked at-leaf.searching.game leaf at-leaf.in_tree in
+      let low = left-low at-leaf.searching.tree.linked at-leaf.searching.game leaf at-leaf.in_tree in
       let root : left_at (game_of rule s t).left 0 ≡ (note_at s.notes.items 0).left =
       get_or-map (λ (n : Note). n.left) s.notes.items 0 no_note 0 (let l = leaf-noted in omega (arith, l)) in
       omega (arith, low, root, at-leaf.searching.depth, at-leaf.searching.depth_fits, left-noted)
@@ -100,8 +102,7 @@ module _ (rule : RuleKind) (s : Search) (t : Tree) (c : List Node) (leaf : ℕ) 
         (fits : v.attacked ≤ s.budget) (behind : v.attacked + 1 ≤ s.attacked + threat_tree rule (note_at s.notes.items leaf).left view)
         (short : s.attacked + length more ≤ v.attacked + 1) (table : IsTrueMemo rule c (game_of rule s t) v.settled) where
       pub won-step : Grows rule s v t u d leaf
-      unfolding Grows
-      won-step =
+      won-step = known_grown (
           let w : IsNotedWin rule (left_at (game_of rule s t).left leaf) (board_at (game_of rule s t) leaf) (c ++ more) win =
           subst (λ (x : List Node). IsNotedWin rule (left_at (game_of rule s t).left leaf) (board_at (game_of rule s t) leaf) x win) grown
           (subst (λ (n : ℕ). IsNotedWin rule n (board_at (game_of rule s t) leaf) d win) (sym left-noted)
@@ -111,10 +112,10 @@ module _ (rule : RuleKind) (s : Search) (t : Tree) (c : List Node) (leaf : ℕ) 
           ap (λ (n : ℕ). threat_tree rule n view) (sym left-noted)
           ∙ ap (threat_tree rule (left_at (game_of rule s t).left leaf)) at-leaf.view_is in
           subst (λ (x : List Node). HasGrown rule s v t u x leaf) (sym grown)
-          (won-grown rule s t c leaf view at-leaf attack u st v more rest same_board (subst IsCompiled grown compiled)
+          (won-grown at-leaf attack st v more rest same_board (subst IsCompiled grown compiled)
           (memo-grown rule (game_of rule s t) c more v.settled (IsTable-lower c at-leaf.searching.compiled.table) table) win items
           (win-some rule (left_at (game_of rule s t).left leaf) (board_at (game_of rule s t) leaf) (c ++ more) win w.0) w.0 w.1
-          grows fits (omega (arith, behind, tree_is)) short)
+          grows fits (omega (arith, behind, tree_is)) short))
 
     -- none is known to be there
     module _ (u : Tree) (st : IsSettledAt t u leaf false) (v : Search) (rest : v ≡ record s { board = v.board; settled = v.settled })
@@ -122,8 +123,7 @@ module _ (rule : RuleKind) (s : Search) (t : Tree) (c : List Node) (leaf : ℕ) 
         (none : WinsByThreats rule (note_at s.notes.items leaf).left view → ⊥)
         (why : IsLostAt Attack (game_of rule s t) (note_at s.notes.items leaf).left view) where
       pub lost-step : Grows rule s v t u c leaf
-      unfolding Grows
-      lost-step = lost-grown rule s t c leaf view at-leaf u st v rest same_board table (λ wins.
+      lost-step = known_grown (lost-grown at-leaf st v rest same_board table (λ wins.
           let win : WinsByThreats rule (left_at (game_of rule s t).left leaf) (board_at (game_of rule s t) leaf) =
           subst (λ (q : Kind). WinsAt q rule (left_at (game_of rule s t).left leaf) (board_at (game_of rule s t) leaf)) attack wins in
           none (subst (λ (n : ℕ). WinsByThreats rule n view) left-noted
@@ -131,7 +131,7 @@ module _ (rule : RuleKind) (s : Search) (t : Tree) (c : List Node) (leaf : ℕ) 
           (subst (λ (q : Kind). IsLostAt q (game_of rule s t) (left_at (game_of rule s t).left leaf) (board_at (game_of rule s t) leaf))
           (sym attack)
           (subst (λ (n : ℕ). IsLostAt Attack (game_of rule s t) n (board_at (game_of rule s t) leaf)) (sym left-noted)
-          (subst (IsLostAt Attack (game_of rule s t) (note_at s.notes.items leaf).left) at-leaf.view_is why)))
+          (subst (IsLostAt Attack (game_of rule s t) (note_at s.notes.items leaf).left) at-leaf.view_is why))))
 
     -- what is found in the table holds of the view
     pub leaf-found : (w : Grid) (v : Settled) → w ≡ view → Some v ≡ value_under (packed w, (note_at s.notes.items leaf).left) s.settled
@@ -143,8 +143,21 @@ module _ (rule : RuleKind) (s : Search) (t : Tree) (c : List Node) (leaf : ℕ) 
   pub leaf-table : IsTrueMemo rule c (game_of rule s t) s.settled
   leaf-table = at-leaf.searching.remembered
 
+  -- nothing is written for the leaf
+  pub writes-none : {A : Type 0} (x : A) → Writes c c (room_in (most_nodes rule s) c) (Ok x)
+  writes-none x = writes-nothing c c (room_in (most_nodes rule s) c) x leaf-compiled refl
+
   pub leaf-budget : s.attacked ≤ s.budget
   leaf-budget = at-leaf.searching.counted.attacked_fits
+
+-- nothing was written where there was no memory
+pub writes-no_memory : {A : Type 0} {c : List Node} {most : ℕ} {r : Result A SearchError} → r ≡ Err Memory → Writes c c most r
+writes-no_memory {c = c} {most = most} {r = r} is = writes-memory c c most r (grows-not c c most refl) is
+
+-- no more nodes may be written for the same aim
+pub most-same : (rule : RuleKind) {s v : Search} → IsSameAim s v → most_nodes rule v ≡ most_nodes rule s
+unfolding most_nodes
+most-same rule aim = rw (aim.before, aim.budget, aim.depth, aim.root)
 
 -- what stays where only the notes and the table changed
 pub rest-of : (s mid v : Search) → mid ≡ record s { settled = mid.settled } → v ≡ record mid { notes = v.notes }
@@ -165,13 +178,13 @@ settled-at t u leaf p is links settled others leaves tree = record {
   tree = tree;
 }
 
-module _ (rule : RuleKind) (s : Search) (t : Tree) (c : List Node) (leaf : ℕ) (view : Grid) (stands : StandsAt rule s t c leaf view)
+module _ {rule : RuleKind} {s : Search} {t : Tree} {c : List Node} {leaf : ℕ} {view : Grid} (stands : StandsAt rule s t c leaf view)
     (attack : (link_at t.links leaf).kind ≡ Attack)
     (mid : Search) (first : mid ≡ record s { settled = mid.settled }) (key : Packed × ℕ)
     (looked : mid.settled ≡ looked_up key s.settled) where
   table-now : IsTrueMemo rule c (game_of rule s t) mid.settled
   table-now = true-looked rule (IsTrueOf rule c (game_of rule s t)) s.settled mid.settled key (inl looked)
-      (leaf-table rule s t c leaf view stands)
+      (leaf-table stands)
 
   -- what is remembered as won is settled so
   pub recalled-won : (u : Tree) → IsSettledAt t u leaf true → (v : Search) → v ≡ record mid { notes = v.notes } → (win : WrittenWin)
@@ -180,10 +193,10 @@ module _ (rule : RuleKind) (s : Search) (t : Tree) (c : List Node) (leaf : ℕ) 
   recalled-won u st v second win items noted =
       let count : v.attacked ≡ s.attacked = ap (λ (w : Search). w.attacked) second ∙ ap (λ (w : Search). w.attacked) first in
       let board : v.board ≡ s.board = ap (λ (w : Search). w.board) second ∙ ap (λ (w : Search). w.board) first in
-      let fits = leaf-budget rule s t c leaf view stands in
+      let fits = leaf-budget stands in
       let positive = tree-positive rule (note_at s.notes.items leaf).left view in
-      won-step rule s t c leaf view stands attack u st v [] (rest-of s mid v first second) board c (sym (append-nil c))
-      (leaf-compiled rule s t c leaf view stands) win
+      won-step stands attack u st v [] (rest-of s mid v first second) board c (sym (append-nil c))
+      (leaf-compiled stands) win
       (items ∙ ap (λ (w : Search). noted_won w.notes.items leaf win) first) noted (omega (arith, count)) (omega (arith, count, fits))
       (omega (arith, count, positive)) (omega (arith, count))
       (subst (IsTrueMemo rule c (game_of rule s t)) (sym (ap (λ (w : Search). w.settled) second)) table-now)
@@ -192,15 +205,14 @@ module _ (rule : RuleKind) (s : Search) (t : Tree) (c : List Node) (leaf : ℕ) 
   pub recalled-lost : (u : Tree) → IsSettledAt t u leaf false
       → IsTrueOf rule c (game_of rule s t) view (note_at s.notes.items leaf).left Lost → Grows rule s mid t u c leaf
   recalled-lost u st none =
-      lost-step rule s t c leaf view stands attack u st mid
+      lost-step stands attack u st mid
       (first ∙ ap (λ (w : Search). record s { board = w.board; settled = mid.settled }) (sym first))
       (ap (λ (w : Search). w.board) first) table-now none.0 none.1
 
   -- the search stands at the leaf as before
   pub recalled-stands : StandsAt rule mid t c leaf view
-  unfolding StandsAt Searches
-  recalled-stands =
-      let h = at-leaf rule s t c leaf view stands in
+  recalled-stands = known_at_leaf (
+      let h = at-leaf stands in
       subst (λ (w : Search). IsAtLeaf rule w t c leaf view) (sym first) (record {
         searching = record {
           tree = h.searching.tree;
@@ -221,7 +233,7 @@ module _ (rule : RuleKind) (s : Search) (t : Tree) (c : List Node) (leaf : ℕ) 
         leaf_open = h.leaf_open;
         view_is = h.view_is;
         board_is = h.board_is;
-      })
+      }))
 
 -- ---- a step after a look at the table is one from before it
 
@@ -241,10 +253,9 @@ module _ (rule : RuleKind) (s mid v : Search) (t u : Tree) (d : List Node) (leaf
   keeps-from : KeepsTree (record s { settled = mid.settled }) v → KeepsTree s v
   keeps-from h = record { rest = h.rest; places = h.places }
 
-  pub step-from : (r : Result Step SearchError) → OnStep r (Grows rule mid v t u d leaf) (HasSpent rule mid v t u) (HasStayed mid v t u)
+  step-from : (r : Result Step SearchError) → OnStep r (Grows rule mid v t u d leaf) (HasSpent rule mid v t u) (HasStayed mid v t u)
       → OnStep r (Grows rule s v t u d leaf) (HasSpent rule s v t u) (HasStayed s v t u)
-  unfolding Grows
-  step-from (Ok Done) h = grown-from (subst (λ (w : Search). HasGrown rule w v t u d leaf) first h)
+  step-from (Ok Done) h = known_grown (grown-from (subst (λ (w : Search). HasGrown rule w v t u d leaf) first (grown-facts h)))
   step-from (Ok Spent) h =
       let k : HasSpent rule (record s { settled = mid.settled }) v t u = subst (λ (w : Search). HasSpent rule w v t u) first h in
       record { spent = k.spent; same = k.same; keeps = keeps-from k.keeps }
@@ -252,10 +263,23 @@ module _ (rule : RuleKind) (s mid v : Search) (t u : Tree) (d : List Node) (leaf
       let k : HasStayed (record s { settled = mid.settled }) v t u = subst (λ (w : Search). HasStayed w v t u) first h in
       record { same = k.same; keeps = keeps-from k.keeps }
 
-module _ (rule : RuleKind) (s : Search) (t : Tree) (c : List Node) (leaf : ℕ) (view : Grid) (stands : StandsAt rule s t c leaf view) where
+pub tried-from : {rule : RuleKind} {s mid v : Search} {t u : Tree} {c d : List Node} {leaf : ℕ} {r : Result Step SearchError}
+    → mid ≡ record s { settled = mid.settled } → IsTried rule mid v t u c d leaf r → IsTried rule s v t u c d leaf r
+tried-from {rule = rule} {s = s} {mid = mid} {v = v} {t = t} {u = u} {c = c} {d = d} {leaf = leaf} {r = r} first h = record {
+  step = step-from rule s mid v t u d leaf first r h.step;
+  writes = subst (λ (w : ℕ). Writes c d (room_in w c) r) (most-same rule aim) h.writes;
+} where
+  aim : IsSameAim s mid
+  aim = record {
+    depth = ap (λ (w : Search). w.depth) first;
+    budget = ap (λ (w : Search). w.budget) first;
+    before = ap (λ (w : Search). w.before) first;
+    root = ap (λ (w : Search). w.root) first;
+  }
+
+module _ {rule : RuleKind} {s : Search} {t : Tree} {c : List Node} {leaf : ℕ} {view : Grid} (stands : StandsAt rule s t c leaf view) where
   here : IsAtLeaf rule s t c leaf view
-  unfolding StandsAt
-  here = stands
+  here = leaf-facts stands
 
   pub attacked-few : s.attacked ≤ 10000000
   attacked-few = let a = here.searching.counted.attacked_fits in let b = here.searching.budget_fits in omega (arith, a, b)
@@ -263,7 +287,7 @@ module _ (rule : RuleKind) (s : Search) (t : Tree) (c : List Node) (leaf : ℕ) 
   -- the same on the board of the search, whatever the place that it stands in
   pub board-stands : (b : Grid) → b ≡ s.board → StandsAt rule (record s { board = b }) t c leaf b
   board-stands b e = subst (λ (w : Grid). StandsAt rule (record s { board = w }) t c leaf w) (sym e)
-      (subst (StandsAt rule s t c leaf) (sym (leaf-board rule s t c leaf view stands)) stands)
+      (subst (StandsAt rule s t c leaf) (sym (leaf-board stands)) stands)
 
   module _ (attack : (link_at t.links leaf).kind ≡ Attack) where
     own-behind : behind_at attacks_behind (game_of rule s t) leaf ≡ attacks_behind (link_at t.links leaf).kind rule
@@ -284,11 +308,11 @@ module _ (rule : RuleKind) (s : Search) (t : Tree) (c : List Node) (leaf : ℕ) 
         let low = sum-less (length t.links) (λ i. 0) (behind_at attacks_behind g) leaf
         (threat_tree rule (left_at g.left leaf) (board_at g leaf) - 1) here.in_tree (λ j l other. omega arith) (omega (arith, own)) in
         let left_is : left_at g.left leaf ≡ (note_at s.notes.items leaf).left =
-        get_or-map (λ (n : Note). n.left) s.notes.items leaf no_note 0 (leaf-noted rule s t c leaf view stands) in
+        get_or-map (λ (n : Note). n.left) s.notes.items leaf no_note 0 (leaf-noted stands) in
         let tree_is : threat_tree rule (note_at s.notes.items leaf).left view ≡ threat_tree rule (left_at g.left leaf) (board_at g leaf) =
         ap (λ (n : ℕ). threat_tree rule n view) (sym left_is) ∙ ap (threat_tree rule (left_at g.left leaf)) here.view_is in
         let first : left_at g.left 0 ≡ s.depth = get_or-map (λ (n : Note). n.left) s.notes.items 0 no_note 0
-        (let l = leaf-noted rule s t c leaf view stands in omega (arith, l)) ∙ here.searching.depth in
+        (let l = leaf-noted stands in omega (arith, l)) ∙ here.searching.depth in
         let root_is : threat_tree rule (left_at g.left 0) s.root ≡ threat_tree rule s.depth s.root =
         ap (λ (n : ℕ). threat_tree rule n s.root) first in
         omega (arith, none, low, tree_is, root_is, here.searching.counted.attacks)
@@ -306,43 +330,40 @@ module _ (rule : RuleKind) (s : Search) (t : Tree) (c : List Node) (leaf : ℕ) 
 
     pub double-fits : (d : DoublePoint) → IsDoubleWin rule view d
         → 1 + answer_nodes rule view d ≤ threat_tree rule (note_at s.notes.items leaf).left view
-    double-fits d wins = counted-within rule view d (leaf-lawful rule s t c leaf view stands) wins
-        (attack-no_five rule s t c leaf view stands attack) (note_at s.notes.items leaf).left
-        (attack-moves rule s t c leaf view stands attack)
+    double-fits d wins = counted-within rule view d (leaf-lawful stands) wins
+        (attack-no_five stands attack) (note_at s.notes.items leaf).left
+        (attack-moves stands attack)
 
     -- where the budget does not reach, the game has more positions
     pub spent-there : (added : ℕ) → s.budget < s.attacked + added → 1 + added ≤ threat_tree rule (note_at s.notes.items leaf).left view
         → HasSpent rule s s t t
     spent-there added over few = record { spent = (let a = behind-fits in omega (arith, a, over, few)); same = refl; keeps = keeps-all s }
 
-    -- where the compiler is full, more positions are counted than it has room for
-    pub full-there : (added : ℕ) → s.attacked + added ≤ s.budget → 1 + added ≤ threat_tree rule (note_at s.notes.items leaf).left view
-        → MAX_NODES < length c + 1 + added
-        → HasNoRoom rule s
-    full-there added fits few over = let a = behind-fits in let b =
-        node-fits in (omega (arith, b, fits, over), omega (arith, a, b, few, over))
+    -- there is room for a win, where so many more positions are counted for it
+    room-there : (added : ℕ) → s.attacked + added ≤ s.budget → 1 + added ≤ threat_tree rule (note_at s.notes.items leaf).left view
+        → 1 + added ≤ room_in (most_nodes rule s) c
+    unfolding room_in most_nodes
+    room-there added fits few = omega (arith, behind-fits, node-fits, fits, few)
 
-    -- the same where the refusal is that of a win by a double point
-    pub double-full : {E : Type 0} (w : Grid) (d : DoublePoint) (nodes : ℕ) → w ≡ view → nodes ≡ answer_nodes rule view d
-        → IsDoubleWin rule view d → s.attacked + nodes ≤ s.budget → (E → MAX_NODES < length c + (1 + answer_nodes rule w d))
-        → E → HasNoRoom rule s
-    double-full w d nodes same are wins fits refused e =
+    -- for one by a double point
+    pub double-room : (w : Grid) (d : DoublePoint) (nodes : ℕ) → w ≡ view → nodes ≡ answer_nodes rule view d → IsDoubleWin rule view d
+        → s.attacked + nodes ≤ s.budget → 1 + answer_nodes rule w d ≤ room_in (most_nodes rule s) c
+    double-room w d nodes same are wins fits =
         let few = double-fits d wins in
-        let over = refused e in
         let moved : answer_nodes rule w d ≡ answer_nodes rule view d = ap (λ (b : Grid). answer_nodes rule b d) same in
-        full-there nodes fits (omega (arith, few, are)) (omega (arith, over, moved, are))
+        let room = room-there nodes fits (omega (arith, few, are)) in
+        omega (arith, room, moved, are)
 
-    -- and where it is that of a last move
-    pub last-full : {E : Type 0} → (E → MAX_NODES < length c + 1) → E
-        → HasNoRoom rule s
-    last-full refused e =
-        let over = refused e in
+    -- and for one by a last move
+    pub last-room : 1 ≤ room_in (most_nodes rule s) c
+    last-room =
         let fits = here.searching.counted.attacked_fits in
         let some = tree-positive rule (note_at s.notes.items leaf).left view in
-        full-there 0 (omega (arith, fits)) (omega (arith, some)) (omega (arith, over))
+        let room = room-there 0 (omega (arith, fits)) (omega (arith, some)) in
+        omega (arith, room)
 
     pub win-few : (d : List Node) (win : WrittenWin) → IsThreatWin rule (note_at s.notes.items leaf).left view d win → win.moves < 256
-    win-few d win is = let a = left-few rule s t c leaf view stands in let b = is.written.within in omega (arith, a, b)
+    win-few d win is = let a = left-few stands in let b = is.written.within in omega (arith, a, b)
 
     -- the leaf is settled by a win that is compiled, and so many more positions are counted
     module _ (added : ℕ) (fits : s.attacked + added ≤ s.budget) (few : 1 + added ≤ threat_tree rule (note_at s.notes.items leaf).left view)
@@ -354,8 +375,14 @@ module _ (rule : RuleKind) (s : Search) (t : Tree) (c : List Node) (leaf : ℕ) 
       counted-step =
           let count : v.attacked ≡ s.attacked + added = ap (λ (w : Search). w.attacked) rest in
           let long = grown.few in
-          won-step rule s t c leaf view stands attack u st v grown.added
+          won-step stands attack u st v grown.added
           (rest ∙ ap (λ (w : Search). record s { board = w.board; notes = v.notes; settled = w.settled; attacked = w.attacked }) (sym rest))
           (ap (λ (w : Search). w.board) rest) d grown.is compiled win items (is.written, is.by_threats)
           (omega (arith, count)) (omega (arith, count, fits)) (omega (arith, count, few)) (omega (arith, count, long))
           (subst (λ (w : Search). IsTrueMemo rule c (game_of rule s t) w.settled) (sym rest) here.searching.remembered)
+
+-- what was tried on a board that is that of the search
+pub tried-on-board : {rule : RuleKind} {s v : Search} {t u : Tree} {c d : List Node} {leaf : ℕ} {r : Result Step SearchError} {b : Grid}
+    → b ≡ s.board → IsTried rule (record s { board = b }) v t u c d leaf r → IsTried rule s v t u c d leaf r
+tried-on-board {rule = rule} {s = s} {v = v} {t = t} {u = u} {c = c} {d = d} {leaf = leaf} {r = r} same tried =
+    subst (λ (b : Grid). IsTried rule (record s { board = b }) v t u c d leaf r) same tried

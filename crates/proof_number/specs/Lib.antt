@@ -6,3 +6,4 @@ pub mod Searches
 pub mod Looks
 pub mod Children
 pub mod Answers
+pub mod Told

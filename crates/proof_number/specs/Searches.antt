@@ -1,5 +1,6 @@
 -- What holds of a search between its steps: its tree stands for the game, won positions are written, and positions are counted.
-use Rattle.std.specs.Prelude.{◌≡◌, Result, Ok, Err, slice_set, ℕ, zero, suc, ◌+◌, ◌-◌, ◌<◌, ◌≤◌, Bool, true, false, ◌&&◌, not, nat_eq}
+use Rattle.std.specs.Prelude.{◌≡◌, Result, Ok, Err, OnOk, slice_set, min, ℕ, zero, suc, ◌+◌, ◌-◌, ◌<◌, ◌≤◌, Bool, true, false, ◌&&◌, not}
+use Rattle.std.specs.Prelude.{nat_eq}
 use Rattle.std.specs.Prelude.{if◌then◌else◌, List, [], ◌++◌, length}
 use Rattle.game_rules.specs.Grid.{Grid}
 use Rattle.game_rules.specs.Games.{WinsByThreats, behind_replies}
@@ -8,9 +9,9 @@ use Rattle.game_rules.specs.declared.Outcome.TheVariants.{GoesOn}
 use Rattle.game_rules.specs.declared.Point.{Point}
 use Rattle.game_rules.specs.declared.RuleKind.{RuleKind}
 use Rattle.strategy_graph.specs.declared.Node.{Node}
-use Rattle.strategy_graph.specs.declared.TheConstants.{MAX_NODES}
 use Rattle.strategy_compiler.specs.Nodes.{IsCompiled}
 use Rattle.strategy_compiler.specs.Wins.{IsWrittenWin}
+use Rattle.strategy_compiler.specs.Growth.{Writes}
 use Rattle.proof_tree.specs.Combining.{is_settled, settled_numbers}
 use Rattle.proof_tree.specs.Trees.{IsOnWayUp, IsTree, OthersStay, Tree, grown_links, leaf_sum, link_at, most_proving, numbers_at}
 use Rattle.proof_tree.specs.declared.Link.{Link}
@@ -139,8 +140,8 @@ pub record IsSearching (rule : RuleKind) (s : Search) (t : Tree) (c : List Node)
   pub few : length c + sum_below (length t.links) (unwritten t s.notes.items) ≤ s.before + s.attacked
 
 -- the same as one word, which proofs open where they need a part of it
-unfoldable pub Searches : RuleKind → Search → Tree → List Node → (ℕ → Type 0) → Type 0
-Searches rule s t c way = IsSearching rule s t c way
+pub data Searches (rule : RuleKind) (s : Search) (t : Tree) (c : List Node) (way : ℕ → Type 0) : Type 0 where
+  known_searching : IsSearching rule s t c way → Searches rule s t c way
 
 -- nothing but what is noted and remembered has changed, and the tree stands for the same game
 pub record KeepsTree (old new : Search) : Type 0 where
@@ -163,8 +164,8 @@ pub record IsAtLeaf (rule : RuleKind) (s : Search) (t : Tree) (c : List Node) (l
   pub board_is : s.board ≡ board_at (game_of rule s t) leaf
 
 -- the same as one word
-unfoldable pub StandsAt : RuleKind → Search → Tree → List Node → ℕ → Grid → Type 0
-StandsAt rule s t c leaf view = IsAtLeaf rule s t c leaf view
+pub data StandsAt (rule : RuleKind) (s : Search) (t : Tree) (c : List Node) (leaf : ℕ) (view : Grid) : Type 0 where
+  known_at_leaf : IsAtLeaf rule s t c leaf view → StandsAt rule s t c leaf view
 
 -- The leaf is settled or has children: all holds again but that proved nodes from the leaf up to the root may have no win, and one
 -- open leaf fewer is left to be closed.
@@ -178,8 +179,8 @@ pub record HasGrown (rule : RuleKind) (old new : Search) (t u : Tree) (d : List 
   pub longer : length t.links ≤ length u.links
 
 -- the same as one word
-unfoldable pub Grows : RuleKind → Search → Search → Tree → Tree → List Node → ℕ → Type 0
-Grows rule old new t u d leaf = HasGrown rule old new t u d leaf
+pub data Grows (rule : RuleKind) (old new : Search) (t u : Tree) (d : List Node) (leaf : ℕ) : Type 0 where
+  known_grown : HasGrown rule old new t u d leaf → Grows rule old new t u d leaf
 
 -- the budget is less than the game of threats has positions, and the tree is as it was
 pub record HasSpent (rule : RuleKind) (old new : Search) (t u : Tree) : Type 0 where
@@ -198,9 +199,53 @@ OnStep (Ok Done) D S E = D
 OnStep (Ok Spent) D S E = S
 OnStep (Err e) D S E = E
 
--- neither the budget nor the game of threats leaves the compiler room for the nodes that it may get
-abbrev pub HasNoRoom : RuleKind → Search → Type 0
-HasNoRoom rule s = (MAX_NODES < s.before + s.budget) × (MAX_NODES < s.before + threat_tree rule s.depth s.root)
+-- how many nodes may still be written to the compiler, where it may have at most so many
+unfoldable pub room_in : ℕ → List Node → ℕ
+room_in most c = most - length c
+
+-- no more nodes are added to the compiler than positions may be counted, the lesser of the budget and those of the game of threats
+unfoldable pub most_nodes : RuleKind → Search → ℕ
+most_nodes rule s = s.before + min s.budget (threat_tree rule s.depth s.root)
+
+-- what comes of a leaf that is to be settled or to get children, and what is written for it
+pub record IsTried (rule : RuleKind) (old new : Search) (t u : Tree) (c d : List Node) (leaf : ℕ) (result : Result Step SearchError) :
+    Type 0 where
+  pub step : OnStep result (Grows rule old new t u d leaf) (HasSpent rule old new t u) (HasStayed old new t u)
+  pub writes : Writes c d (room_in (most_nodes rule old) c) result
+
+-- a step was done: all holds again, and one open leaf fewer is left to be closed
+pub record HasStepped (rule : RuleKind) (new : Search) (t u : Tree) (d : List Node) : Type 0 where
+  pub searching : Searches rule new u d (λ i. ⊥)
+  pub progress : closed_nodes t < closed_nodes u
+
+-- the budget is spent, and the tree is as it was
+pub record IsOverBudget (rule : RuleKind) (s : Search) (t u : Tree) : Type 0 where
+  pub same : u ≡ t
+  pub spent : s.budget < threat_tree rule s.depth s.root
+
+-- what a step from the root to a leaf and back comes to, and what it leaves
+pub record IsStep (rule : RuleKind) (old new : Search) (t u : Tree) (c d : List Node) (result : Result Step SearchError) : Type 0 where
+  pub came : OnStep result (HasStepped rule new t u d) (IsOverBudget rule old t u) (Unit {0})
+  pub aim : IsSameAim old new
+  pub board : new.board ≡ old.root
+  pub tree : IsTree u
+  pub longer : length t.links ≤ length u.links
+  pub writes : Writes c d (room_in (most_nodes rule old) c) result
+
+-- A node is passed on the way back from a leaf: it has its win, if it is a proved node of the attacker. No more nodes are written than
+-- positions are counted.
+pub record IsPassed {A : Type 0} (rule : RuleKind) (old new : Search) (t : Tree) (c d : List Node) (node : ℕ)
+    (result : Result A SearchError) : Type 0 where
+  pub searching : OnOk result (Searches rule new t d (IsAbove t.links node))
+  pub keeps : KeepsTree old new
+  pub writes : Writes c d (room_in (old.before + old.attacked) c) result
+
+-- all nodes up to the root are passed, and the moves are taken back
+pub record IsBack (rule : RuleKind) (old new : Search) (t : Tree) (c d : List Node) (result : Result (Unit {0}) SearchError) : Type 0 where
+  pub searching : OnOk result (Searches rule new t d (λ i. ⊥))
+  pub aim : IsSameAim old new
+  pub board : new.board ≡ old.root
+  pub writes : Writes c d (room_in (old.before + old.attacked) c) result
 
 -- the leaf of the tree is settled, and only the numbers above it changed
 pub record IsSettledAt (t u : Tree) (leaf : ℕ) (proved : Bool) : Type 0 where
@@ -235,3 +280,23 @@ pub record IsNew (depth budget before : ℕ) (b : Grid) (s : Search) : Type 0 wh
   pub none : s.settled.entries ≡ []
   pub attacked_is : s.attacked ≡ 1
   pub defended_is : s.defended ≡ 0
+
+-- a search is to begin at a board, with a lone node that is not settled
+pub record CanBegin (s : Search) (t : Tree) (c : List Node) (b : Grid) : Type 0 where
+  pub new : IsNew s.depth s.budget (length c) b s
+  pub some_depth : 1 ≤ s.depth
+  pub depth_fits : s.depth ≤ MAX_DEPTH
+  pub some_budget : 1 ≤ s.budget
+  pub budget_fits : s.budget ≤ MAX_BUDGET
+  pub one_node : length t.links ≡ 1
+  pub unsettled : is_settled (numbers_at t.numbers 0) ≡ false
+
+-- the root was looked at first
+pub record HasBegun (rule : RuleKind) (old new : Search) (u : Tree) (c d : List Node) (result : Result (Unit {0}) SearchError) :
+    Type 0 where
+  pub searching : OnOk result (Searches rule new u d (λ i. ⊥))
+  pub aim : IsSameAim old new
+  pub board : new.board ≡ old.board
+  pub tree : IsTree u
+  pub one_node : length u.links ≡ 1
+  pub writes : Writes c d 1 result

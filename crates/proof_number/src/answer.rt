@@ -5,15 +5,15 @@
 //! win is compiled already.
 #![tactic(auto)]
 
-ghost use Rattle.std.specs.Prelude.{◌≡◌, ◌≤◌, ◌<◌, ◌+◌, ◌*◌, ◌++◌, List, false, length, min, IfOk, OnOk, IsErrOf};
-ghost use Rattle.strategy_graph.specs.declared.Node.{Node};
-ghost use Rattle.strategy_graph.specs.declared.TheConstants.{MAX_NODES};
+ghost use Rattle.std.specs.Prelude.{◌≡◌, ◌≤◌, ◌<◌, false, length, min, IfOk};
 ghost use Rattle.proof_tree.specs.Combining.{is_settled};
-ghost use Rattle.proof_tree.specs.Trees.{IsTree, numbers_at};
+ghost use Rattle.proof_tree.specs.Trees.{numbers_at};
 ghost use Rattle.proof_number.specs.declared.TheConstants.{MAX_DEPTH, MAX_BUDGET};
 ghost use Rattle.threat_game.specs.ThreatGame.{threat_tree};
-ghost use Rattle.proof_number.specs.Answers.{OnWin, HasNoThreatWin, RootSays};
+ghost use Rattle.proof_number.specs.Answers.{OnWin, HasNoThreatWin, RootSays, Leaves};
 ghost use Rattle.proof_number.specs.Denials.{HasDenial};
+ghost use Rattle.proof_number.specs.Searches.{CanBegin};
+ghost use Rattle.proof_number.specs.Told.{IsTold};
 ghost use Rattle.threat_game.specs.Wins.{IsThreatWin};
 
 use crate::looks::Looks;
@@ -47,10 +47,10 @@ pub enum ProofAnswer {
 /// - `Spent` comes only where the game of threats has more positions within `depth` moves than the budget. The root is not
 ///   settled.
 ///
-/// With an answer no more nodes are added to the compiler than positions may be counted, the lesser of the budget and those of the
-/// game of threats, and the tree has at most twice as many. `Full` comes only where the compiler has no room for as many; `Memory`
-/// where there is no memory. After each answer and refusal the view is as before, and the compiler's earlier nodes stay; the tree
-/// keeps the nodes that were made.
+/// No more nodes are added to the compiler than positions may be counted, the lesser of the budget and those of the game of threats,
+/// those before a refusal too; with an answer the tree has at most twice as many. `Full` comes only where the compiler has no room for
+/// as many; `Memory` where there is no memory. After each answer and refusal the view is as before, and the compiler's earlier nodes
+/// stay; the tree keeps the nodes that were made.
 pub fn proof_number<R: Rule, V: Seen<R>>(
     alloc: Global,
     view: &mut V,
@@ -73,14 +73,8 @@ pub fn proof_number<R: Rule, V: Seen<R>>(
     ensures root { IfOk result (λ a. RootSays a (numbers_at tree.new.numbers 0)) }
 
     // What every answer and refusal leaves, and when the compiler is full.
-    ensures tree { IsTree tree.new }
-    ensures grows { length tree.old.links ≤ length tree.new.links }
-    ensures tree_few { OnOk result (length tree.new.links ≤ 2 * min budget (threat_tree R.KIND depth (V.position view.old))) }
-    ensures kept { (more : List Node) × (compiler.new ≡ compiler.old ++ more) }
-    ensures few { OnOk result (length compiler.new ≤ length compiler.old + min budget (threat_tree R.KIND depth (V.position view.old))) }
-    ensures full { IsErrOf result SearchError.Full
-        → MAX_NODES < length compiler.old + min budget (threat_tree R.KIND depth (V.position view.old)) }
-    ensures full_now { IsErrOf result SearchError.Full → length compiler.new ≡ MAX_NODES }
+    ensures leaves { Leaves (min budget (threat_tree R.KIND depth (V.position view.old)))
+        tree.old tree.new compiler.old compiler.new result }
     ensures same { V.position view.new ≡ V.position view.old }
 {
     // This tells what holds of every tree.
@@ -88,15 +82,32 @@ pub fn proof_number<R: Rule, V: Seen<R>>(
     let before = compiler.len();
     let mut search = Search::new(alloc, view.board(), depth as u8, budget, before)?;
     let mut looks = Looks::<R>::new(alloc);
-    search.begin::<R, V>(alloc, view, tree, compiler)?;
-    while !tree.numbers(0).is_settled() {
-        match search.step::<R, V>(&mut looks, view, tree, compiler)? {
-            Step::Done => {}
-            Step::Spent => return Ok(ProofAnswer::Spent),
+    search.run::<R, V>(&mut looks, view, tree, compiler)
+}
+
+impl Search {
+    /// Looks at the root and takes step after step until it is settled or the budget is spent, and tells what it says then.
+    fn run<R: Rule, V: Seen<R>>(
+        &mut self,
+        looks: &mut Looks<R>,
+        view: &mut V,
+        tree: &mut ProofTree,
+        compiler: &mut Compiler,
+    ) -> Result<ProofAnswer, SearchError>
+        requires begins { CanBegin self.old tree.old compiler.old (V.position view.old) }
+        ensures told { IsTold R.KIND self.old tree.old tree.new compiler.old compiler.new result }
+        ensures same { V.position view.new ≡ V.position view.old }
+    {
+        self.begin::<R, V>(view, tree, compiler)?;
+        while !tree.numbers(0).is_settled() {
+            match self.step::<R, V>(looks, view, tree, compiler)? {
+                Step::Done => {}
+                Step::Spent => return Ok(ProofAnswer::Spent),
+            }
         }
-    }
-    match search.notes[0].win() {
-        Some(win) => Ok(ProofAnswer::Win(win)),
-        None => Ok(ProofAnswer::None),
+        match self.notes[0].win() {
+            Some(win) => Ok(ProofAnswer::Win(win)),
+            None => Ok(ProofAnswer::None),
+        }
     }
 }

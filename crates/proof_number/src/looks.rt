@@ -99,11 +99,6 @@ impl<R: Rule> Looks<R> {
         }
     }
 
-    /// Where lists take memory.
-    pub(crate) fn alloc(&self) -> Global {
-        self.alloc
-    }
-
     /// What is remembered of the position, where the attacker has so many more moves.
     fn find(&mut self, board: &Board, moves: u32) -> Option<Look>
         requires lawful { IsPosition R.KIND board.now }

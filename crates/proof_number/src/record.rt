@@ -6,9 +6,7 @@
 //! settled, won or not, is remembered under its position and the moves that were left.
 #![tactic(auto)]
 
-ghost use Rattle.std.specs.Prelude.{◌≡◌, ◌⊎◌, All, ◌<◌, ◌≤◌, ◌+◌, ℕ, true, ◌++◌, List, map, take, drop, length, IfOk, IfSome, OnOk, IsErrOf};
-ghost use Rattle.strategy_graph.specs.declared.Node.{Node};
-ghost use Rattle.strategy_graph.specs.declared.TheConstants.{MAX_NODES};
+ghost use Rattle.std.specs.Prelude.{◌≡◌, ◌⊎◌, All, ◌<◌, ◌≤◌, ◌+◌, true, map, take, drop, length, IfOk, IfSome};
 ghost use Rattle.game_rules.specs.Grid.{points_of};
 ghost use Rattle.position_table.specs.Packing.{packed};
 ghost use Rattle.position_table.specs.Remembering.{kept};
@@ -17,12 +15,12 @@ ghost use Rattle.strategy_compiler.specs.Growth.{Writes};
 ghost use Rattle.strategy_compiler.specs.Forks.{WinsByAnswers};
 ghost use Rattle.strategy_compiler.specs.Wins.{IsWrittenWin};
 ghost use Rattle.proof_tree.specs.Combining.{settled_numbers};
-ghost use Rattle.proof_tree.specs.Trees.{IsTree, IsChild, IsOnWayUp, link_at, numbers_at};
+ghost use Rattle.proof_tree.specs.Trees.{IsChild, IsOnWayUp, link_at, numbers_at};
 ghost use Rattle.proof_tree.specs.declared.Kind.{Kind as AnyKind};
 ghost use Rattle.proof_number.specs.Notes.{note_at, all_notes, answer_of, noted_for as noted_for_lem};
 ghost use Rattle.proof_number.specs.GameTrees.{board_at, left_at};
-ghost use Rattle.proof_number.specs.Remembered.{IsTrueOf, IsTrueMemo};
-ghost use Rattle.proof_number.specs.Searches.{Searches, IsAbove, KeepsTree, game_of, noted_won};
+ghost use Rattle.proof_number.specs.Remembered.{IsTrueOf};
+ghost use Rattle.proof_number.specs.Searches.{Searches, IsPassed, game_of, noted_won};
 
 use crate::notes::{Note, Settled};
 use crate::search::Search;
@@ -39,7 +37,6 @@ impl Search {
     /// Compiles and remembers the position of a node, if it is an attacker's and settled. The view is at the node.
     pub(crate) fn record<R: Rule, V: Seen<R>>(
         &mut self,
-        alloc: Global,
         view: &V,
         tree: &ProofTree,
         compiler: &mut Compiler,
@@ -48,13 +45,9 @@ impl Search {
         requires in_tree { node < length tree.now.links }
         requires searching { Searches R.KIND self.old tree.now compiler.old (IsOnWayUp tree.now.links node) }
         requires view { V.position view.now ≡ board_at (game_of R.KIND self.old tree.now) node }
-        ensures searching { OnOk result (Searches R.KIND self.new tree.now compiler.new (IsAbove tree.now.links node)) }
-        ensures keeps { KeepsTree self.old self.new }
-        ensures kept { (more : List Node) × (compiler.new ≡ compiler.old ++ more) }
-        ensures full { IsErrOf result SearchError.Full → MAX_NODES < self.old.before + self.old.attacked }
-        ensures full_now { IsErrOf result SearchError.Full → length compiler.new ≡ MAX_NODES }
+        ensures passed { IsPassed R.KIND self.old self.new tree.now compiler.old compiler.new node result }
     {
-        match self.value_at::<R>(alloc, tree, compiler, node) {
+        match self.value_at::<R>(tree, compiler, node) {
             Err(error) => Err(error),
             Ok(None) => Ok(()),
             Ok(Some(value)) => {
@@ -68,7 +61,6 @@ impl Search {
     /// What is known of a node of the attacker that is settled; the win is compiled.
     fn value_at<R: Rule>(
         &mut self,
-        alloc: Global,
         tree: &ProofTree,
         compiler: &mut Compiler,
         node: u32,
@@ -77,11 +69,7 @@ impl Search {
         requires searching { Searches R.KIND self.old tree.now compiler.old (IsOnWayUp tree.now.links node) }
         ensures value { IfOk result (λ found. IfSome found (IsTrueOf R.KIND compiler.new (game_of R.KIND self.old tree.now)
             (board_at (game_of R.KIND self.old tree.now) node) (left_at (game_of R.KIND self.old tree.now).left node))) }
-        ensures searching { OnOk result (Searches R.KIND self.new tree.now compiler.new (IsAbove tree.now.links node)) }
-        ensures keeps { KeepsTree self.old self.new }
-        ensures kept { (more : List Node) × (compiler.new ≡ compiler.old ++ more) }
-        ensures full { IsErrOf result SearchError.Full → MAX_NODES < self.old.before + self.old.attacked }
-        ensures full_now { IsErrOf result SearchError.Full → length compiler.new ≡ MAX_NODES }
+        ensures passed { IsPassed R.KIND self.old self.new tree.now compiler.old compiler.new node result }
     {
         match tree.link(node).kind {
             Kind::Defend => Ok(None),
@@ -93,7 +81,7 @@ impl Search {
                 if numbers.proof != 0 {
                     return Ok(Some(Settled::Lost));
                 }
-                match self.compiled::<R>(alloc, tree, compiler, node) {
+                match self.compiled::<R>(tree, compiler, node) {
                     Err(error) => Err(error),
                     Ok(win) => Ok(Some(Settled::Won(win))),
                 }
@@ -104,7 +92,6 @@ impl Search {
     /// The win of a proved node of the attacker, compiled if it is not yet.
     fn compiled<R: Rule>(
         &mut self,
-        alloc: Global,
         tree: &ProofTree,
         compiler: &mut Compiler,
         node: u32,
@@ -115,22 +102,17 @@ impl Search {
         requires proved { numbers_at tree.now.numbers node ≡ settled_numbers true }
         ensures win { IfOk result (IsWrittenWin R.KIND (left_at (game_of R.KIND self.old tree.now).left node)
             (board_at (game_of R.KIND self.old tree.now) node) compiler.new) }
-        ensures searching { OnOk result (Searches R.KIND self.new tree.now compiler.new (IsAbove tree.now.links node)) }
-        ensures keeps { KeepsTree self.old self.new }
-        ensures kept { (more : List Node) × (compiler.new ≡ compiler.old ++ more) }
-        ensures full { IsErrOf result SearchError.Full → MAX_NODES < self.old.before + self.old.attacked }
-        ensures full_now { IsErrOf result SearchError.Full → length compiler.new ≡ MAX_NODES }
+        ensures passed { IsPassed R.KIND self.old self.new tree.now compiler.old compiler.new node result }
     {
         match self.notes[node as usize].win() {
             Some(win) => Ok(win),
-            None => self.compile::<R>(alloc, tree, compiler, node),
+            None => self.compile::<R>(tree, compiler, node),
         }
     }
 
     /// Compiles the win of a proved node of the attacker of the wins after the replies to the first move that is proved.
     fn compile<R: Rule>(
         &mut self,
-        alloc: Global,
         tree: &ProofTree,
         compiler: &mut Compiler,
         node: u32,
@@ -142,17 +124,13 @@ impl Search {
         requires unwritten { (note_at self.old.notes.items node).moves ≡ 0 }
         ensures win { IfOk result (IsWrittenWin R.KIND (left_at (game_of R.KIND self.old tree.now).left node)
             (board_at (game_of R.KIND self.old tree.now) node) compiler.new) }
-        ensures searching { OnOk result (Searches R.KIND self.new tree.now compiler.new (IsAbove tree.now.links node)) }
-        ensures keeps { KeepsTree self.old self.new }
-        ensures kept { (more : List Node) × (compiler.new ≡ compiler.old ++ more) }
-        ensures full { IsErrOf result SearchError.Full → MAX_NODES < self.old.before + self.old.attacked }
-        ensures full_now { IsErrOf result SearchError.Full → length compiler.new ≡ MAX_NODES }
+        ensures passed { IsPassed R.KIND self.old self.new tree.now compiler.old compiler.new node result }
     {
         let proved = first_proved(tree, node);
         let link = tree.link(proved);
         let attack = self.notes[proved as usize].at;
         let notes = kids(self.notes.as_slice(), link);
-        match compile_answers(alloc, compiler, &self.root, attack, notes) {
+        match compile_answers(self.alloc, compiler, &self.root, attack, notes) {
             Err(error) => Err(error),
             Ok(win) => {
                 self.note_win(node, win);

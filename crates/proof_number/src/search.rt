@@ -6,27 +6,20 @@
 //! when they get a node; neither count passes the budget.
 #![tactic(auto)]
 
-ghost use Rattle.std.specs.Prelude.{◌≡◌, ◌<◌, ◌≤◌, ◌+◌, ℕ, true, false, ◌++◌, List, map, All, length, replicate, IfOk, IfSome, OnOk, OnErr, IsErrOf, [], ◌∷◌, ◌^◌};
+ghost use Rattle.std.specs.Prelude.{◌≡◌, ◌<◌, ◌≤◌, ◌+◌, true, false, ◌++◌, map, All, length, replicate, IfOk, IfSome, OnOk, OnErr, [], ◌∷◌, ◌^◌};
 ghost use Rattle.std.specs.List.{sum_by};
-ghost use Rattle.game_rules.specs.Play.{IsPosition};
-ghost use Rattle.game_rules.specs.Games.{WinsByThreats};
 ghost use Rattle.position_table.specs.Packing.{packed};
 ghost use Rattle.position_table.specs.Remembering.{value_under, looked_up};
-ghost use Rattle.strategy_graph.specs.declared.Node.{Node as AnyNode};
-ghost use Rattle.strategy_graph.specs.declared.TheConstants.{MAX_NODES};
-ghost use Rattle.strategy_compiler.specs.Wins.{IsWrittenWin};
 ghost use Rattle.proof_tree.specs.Combining.{AreNumbers, is_settled};
 ghost use Rattle.proof_tree.specs.declared.TheConstants.{INFINITE};
-ghost use Rattle.proof_tree.specs.Trees.{IsTree, grown_links, leaf_sum, link_at, most_proving, numbers_at};
+ghost use Rattle.proof_tree.specs.Trees.{grown_links, leaf_sum, link_at, most_proving, numbers_at};
 ghost use Rattle.proof_tree.specs.declared.Kind.{Kind as AnyKind};
-ghost use Rattle.threat_game.specs.ThreatGame.{threat_tree};
 ghost use Rattle.threat_game.specs.Attacks.{IsDoubleWin, OthersFail, is_last_move, tried_moves};
-ghost use Rattle.strategy_compiler.specs.Growth.{GrowsBy};
+ghost use Rattle.strategy_compiler.specs.Growth.{Writes};
 ghost use Rattle.threat_game.specs.Replies.{IsChild, nodes_for};
 ghost use Rattle.proof_number.specs.Children.{AreSettled, child_note, child_numbers};
 ghost use Rattle.proof_number.specs.Notes.{note_at};
-ghost use Rattle.proof_number.specs.GameTrees.{board_at, left_at};
-ghost use Rattle.proof_number.specs.Searches.{Searches, IsSameAim, StandsAt, Grows, HasNoRoom, HasSpent, HasStayed, OnStep, IsSettledAt, IsExpandedAt, IsNew, KeepsTree, closed_nodes, game_of, noted_won};
+ghost use Rattle.proof_number.specs.Searches.{Searches, StandsAt, IsTried, IsStep, IsSettledAt, IsExpandedAt, IsNew, noted_won};
 
 use crate::REMEMBERED;
 use crate::looks::Looks;
@@ -55,6 +48,7 @@ pub(crate) enum Step {
 /// The search beside its tree: what it is for, what stands on the board, what is known of each node, and what was counted.
 #[derive(Drop)]
 pub(crate) struct Search {
+    pub(crate) alloc: Global,
     pub(crate) depth: u32,
     pub(crate) budget: u64,
     /// How many nodes the compiler had before the search.
@@ -82,6 +76,7 @@ impl Search {
         let mut notes = Vec::new(alloc);
         notes.push(Note::open(Point { x: 0, y: 0 }, depth))?;
         Ok(Search {
+            alloc,
             depth: u32::from(depth),
             budget,
             before,
@@ -106,33 +101,20 @@ impl Search {
         requires open { is_settled (numbers_at tree.old.numbers 0) ≡ false }
         requires view { V.position view.old ≡ self.old.root }
         requires board { self.old.board ≡ self.old.root }
-        ensures searching { OnStep result (Searches R.KIND self.new tree.new compiler.new (λ i. ⊥)) (tree.new ≡ tree.old) ℕ }
-        ensures spent { OnStep result ℕ (self.old.budget < threat_tree R.KIND self.old.depth self.old.root) ℕ }
-        ensures progress { OnStep result (closed_nodes tree.old < closed_nodes tree.new) ℕ ℕ }
-        ensures aim { IsSameAim self.old self.new }
+        ensures step { IsStep R.KIND self.old self.new tree.old tree.new compiler.old compiler.new result }
         ensures view { V.position view.new ≡ self.old.root }
-        ensures board { self.new.board ≡ self.old.root }
-        ensures tree { IsTree tree.new }
-        ensures longer { length tree.old.links ≤ length tree.new.links }
-        ensures kept { (more : List AnyNode) × (compiler.new ≡ compiler.old ++ more) }
-        ensures nothing { OnStep result ℕ (compiler.new ≡ compiler.old) ℕ }
-        ensures full { IsErrOf result SearchError.Full → HasNoRoom R.KIND self.old }
-        ensures full_now { IsErrOf result SearchError.Full → length compiler.new ≡ MAX_NODES }
     {
         let leaf = tree.most_proving();
         self.go_to::<R, V>(view, tree, leaf);
-        let grown = self.grow::<R, V>(looks, view, tree, compiler, leaf);
-        match grown {
-            Ok(step) => match step {
-                Step::Done => {
-                    self.go_back::<R, V>(looks.alloc(), view, tree, compiler, leaf)?;
-                    Ok(Step::Done)
-                }
-                Step::Spent => {
-                    self.take_back::<R, V>(view, tree, leaf);
-                    Ok(Step::Spent)
-                }
-            },
+        match self.grow::<R, V>(looks, view, tree, compiler, leaf) {
+            Ok(Step::Done) => {
+                self.go_back::<R, V>(view, tree, compiler, leaf)?;
+                Ok(Step::Done)
+            }
+            Ok(Step::Spent) => {
+                self.take_back::<R, V>(view, tree, leaf);
+                Ok(Step::Spent)
+            }
             Err(error) => {
                 self.take_back::<R, V>(view, tree, leaf);
                 Err(error)
@@ -150,13 +132,8 @@ impl Search {
         leaf: u32,
     ) -> Result<Step, SearchError>
         requires at_leaf { StandsAt R.KIND self.old tree.old compiler.old leaf (V.position view.old) }
-        ensures step { OnStep result (Grows R.KIND self.old self.new tree.old tree.new compiler.new leaf)
-            (HasSpent R.KIND self.old self.new tree.old tree.new) (HasStayed self.old self.new tree.old tree.new) }
+        ensures tried { IsTried R.KIND self.old self.new tree.old tree.new compiler.old compiler.new leaf result }
         ensures same { V.position view.new ≡ V.position view.old }
-        ensures kept { (more : List AnyNode) × (compiler.new ≡ compiler.old ++ more) }
-        ensures nothing { OnStep result ℕ (compiler.new ≡ compiler.old) ℕ }
-        ensures full { IsErrOf result SearchError.Full → HasNoRoom R.KIND self.old }
-        ensures full_now { IsErrOf result SearchError.Full → length compiler.new ≡ MAX_NODES }
     {
         match tree.link(leaf).kind {
             Kind::Attack => self.attack::<R, V>(looks, view, tree, compiler, leaf),
@@ -189,13 +166,8 @@ impl Search {
     ) -> Result<Step, SearchError>
         requires at_leaf { StandsAt R.KIND self.old tree.old compiler.old leaf (V.position view.old) }
         requires attack { (link_at tree.old.links leaf).kind ≡ AnyKind.Attack }
-        ensures step { OnStep result (Grows R.KIND self.old self.new tree.old tree.new compiler.new leaf)
-            (HasSpent R.KIND self.old self.new tree.old tree.new) (HasStayed self.old self.new tree.old tree.new) }
+        ensures tried { IsTried R.KIND self.old self.new tree.old tree.new compiler.old compiler.new leaf result }
         ensures same { V.position view.new ≡ V.position view.old }
-        ensures kept { (more : List AnyNode) × (compiler.new ≡ compiler.old ++ more) }
-        ensures nothing { OnStep result ℕ (compiler.new ≡ compiler.old) ℕ }
-        ensures full { IsErrOf result SearchError.Full → HasNoRoom R.KIND self.old }
-        ensures full_now { IsErrOf result SearchError.Full → length compiler.new ≡ MAX_NODES }
     {
         match self.recall::<R, V>(view, leaf) {
             Some(Settled::Won(win)) => {
@@ -232,21 +204,16 @@ impl Search {
     ) -> Result<Step, SearchError>
         requires at_leaf { StandsAt R.KIND self.old tree.old compiler.old leaf (V.position view.old) }
         requires attack { (link_at tree.old.links leaf).kind ≡ AnyKind.Attack }
-        ensures step { OnStep result (Grows R.KIND self.old self.new tree.old tree.new compiler.new leaf)
-            (HasSpent R.KIND self.old self.new tree.old tree.new) (HasStayed self.old self.new tree.old tree.new) }
+        ensures tried { IsTried R.KIND self.old self.new tree.old tree.new compiler.old compiler.new leaf result }
         ensures same { V.position view.new ≡ V.position view.old }
-        ensures kept { (more : List AnyNode) × (compiler.new ≡ compiler.old ++ more) }
-        ensures nothing { OnStep result ℕ (compiler.new ≡ compiler.old) ℕ }
-        ensures full { IsErrOf result SearchError.Full → HasNoRoom R.KIND self.old }
-        ensures full_now { IsErrOf result SearchError.Full → length compiler.new ≡ MAX_NODES }
     {
         match looks.find_attacks::<V>(view, &mut self.board)? {
             Attacks::DoublePoint(double) => {
-                self.win_double::<R, V>(looks.alloc(), view, tree, compiler, leaf, double)
+                self.win_double::<R, V>(view, tree, compiler, leaf, double)
             }
             Attacks::NoReply(p) => self.win_last::<R>(tree, compiler, leaf, p),
             Attacks::Moves(moves) => {
-                self.expand_attack::<R>(looks.alloc(), tree, compiler, leaf, moves.as_slice())
+                self.expand_attack::<R>(tree, compiler, leaf, moves.as_slice())
             }
         }
     }
@@ -262,16 +229,9 @@ impl Search {
         requires at_leaf { StandsAt R.KIND self.old tree.old compiler.old leaf self.old.board }
         requires attack { (link_at tree.old.links leaf).kind ≡ AnyKind.Attack }
         requires last { is_last_move R.KIND self.old.board p ≡ true }
-        ensures step { OnStep result (Grows R.KIND self.old self.new tree.old tree.new compiler.new leaf)
-            (HasSpent R.KIND self.old self.new tree.old tree.new) (HasStayed self.old self.new tree.old tree.new) }
-        ensures kept { (more : List AnyNode) × (compiler.new ≡ compiler.old ++ more) }
-        ensures nothing { OnStep result ℕ (compiler.new ≡ compiler.old) ℕ }
-        ensures full { IsErrOf result SearchError.Full → HasNoRoom R.KIND self.old }
-        ensures full_now { IsErrOf result SearchError.Full → length compiler.new ≡ MAX_NODES }
+        ensures tried { IsTried R.KIND self.old self.new tree.old tree.new compiler.old compiler.new leaf result }
     {
         let win = compile_last(compiler, p)?;
-        // This tells what holds of every compiler.
-        compiler.len();
         self.settle_won(tree, leaf, win);
         Ok(Step::Done)
     }
@@ -279,7 +239,6 @@ impl Search {
     /// Settles a leaf of the attacker by a double point.
     fn win_double<R: Rule, V: Seen<R>>(
         &mut self,
-        alloc: Global,
         view: &mut V,
         tree: &mut ProofTree,
         compiler: &mut Compiler,
@@ -289,21 +248,14 @@ impl Search {
         requires at_leaf { StandsAt R.KIND self.old tree.old compiler.old leaf (V.position view.old) }
         requires attack { (link_at tree.old.links leaf).kind ≡ AnyKind.Attack }
         requires double { IsDoubleWin R.KIND (V.position view.old) double }
-        ensures step { OnStep result (Grows R.KIND self.old self.new tree.old tree.new compiler.new leaf)
-            (HasSpent R.KIND self.old self.new tree.old tree.new) (HasStayed self.old self.new tree.old tree.new) }
+        ensures tried { IsTried R.KIND self.old self.new tree.old tree.new compiler.old compiler.new leaf result }
         ensures same { V.position view.new ≡ V.position view.old }
-        ensures kept { (more : List AnyNode) × (compiler.new ≡ compiler.old ++ more) }
-        ensures nothing { OnStep result ℕ (compiler.new ≡ compiler.old) ℕ }
-        ensures full { IsErrOf result SearchError.Full → HasNoRoom R.KIND self.old }
-        ensures full_now { IsErrOf result SearchError.Full → length compiler.new ≡ MAX_NODES }
     {
         let count = self.attacked + answers_of::<R, V>(view, double);
         if count > self.budget {
             return Ok(Step::Spent);
         }
-        let win = compile_double::<R, V>(alloc, view, double, compiler)?;
-        // This tells what holds of every compiler.
-        compiler.len();
+        let win = compile_double::<R, V>(self.alloc, view, double, compiler)?;
         self.attacked = count;
         self.settle_won(tree, leaf, win);
         Ok(Step::Done)
@@ -312,7 +264,6 @@ impl Search {
     /// Gives a leaf of the attacker a child for each of the moves to be tried, or settles it if there is none.
     fn expand_attack<R: Rule>(
         &mut self,
-        alloc: Global,
         tree: &mut ProofTree,
         compiler: &Compiler,
         leaf: u32,
@@ -322,9 +273,7 @@ impl Search {
         requires attack { (link_at tree.old.links leaf).kind ≡ AnyKind.Attack }
         requires moves { moves.now ≡ tried_moves R.KIND self.old.board }
         requires others { OthersFail R.KIND self.old.board }
-        ensures step { OnStep result (Grows R.KIND self.old self.new tree.old tree.new compiler.now leaf)
-            (HasSpent R.KIND self.old self.new tree.old tree.new) (HasStayed self.old self.new tree.old tree.new) }
-        ensures room { IsErrOf result SearchError.Full → ⊥ }
+        ensures tried { IsTried R.KIND self.old self.new tree.old tree.new compiler.now compiler.now leaf result }
     {
         if moves.len() == 0 {
             tree.settle(false);
@@ -335,8 +284,8 @@ impl Search {
             return Ok(Step::Spent);
         }
         let left = self.notes[leaf as usize].left - 1;
-        let numbers = open_numbers(alloc, moves.len())?;
-        let notes = open_notes(alloc, moves, left)?;
+        let numbers = open_numbers(self.alloc, moves.len())?;
+        let notes = open_notes(self.alloc, moves, left)?;
         self.expand(tree, leaf, numbers.as_slice(), notes.as_slice())?;
         self.defended = count;
         Ok(Step::Done)
@@ -383,13 +332,8 @@ impl Search {
     ) -> Result<Step, SearchError>
         requires at_leaf { StandsAt R.KIND self.old tree.old compiler.old leaf (V.position view.old) }
         requires defend { (link_at tree.old.links leaf).kind ≡ AnyKind.Defend }
-        ensures step { OnStep result (Grows R.KIND self.old self.new tree.old tree.new compiler.new leaf)
-            (HasSpent R.KIND self.old self.new tree.old tree.new) (HasStayed self.old self.new tree.old tree.new) }
+        ensures tried { IsTried R.KIND self.old self.new tree.old tree.new compiler.old compiler.new leaf result }
         ensures same { V.position view.new ≡ V.position view.old }
-        ensures kept { (more : List AnyNode) × (compiler.new ≡ compiler.old ++ more) }
-        ensures nothing { OnStep result ℕ (compiler.new ≡ compiler.old) ℕ }
-        ensures full { IsErrOf result SearchError.Full → HasNoRoom R.KIND self.old }
-        ensures full_now { IsErrOf result SearchError.Full → length compiler.new ≡ MAX_NODES }
     {
         let left = self.notes[leaf as usize].left;
         let denied = looks.is_denied::<V>(view, u32::from(left))?;
@@ -411,13 +355,8 @@ impl Search {
     ) -> Result<Step, SearchError>
         requires at_leaf { StandsAt R.KIND self.old tree.old compiler.old leaf (V.position view.old) }
         requires defend { (link_at tree.old.links leaf).kind ≡ AnyKind.Defend }
-        ensures step { OnStep result (Grows R.KIND self.old self.new tree.old tree.new compiler.new leaf)
-            (HasSpent R.KIND self.old self.new tree.old tree.new) (HasStayed self.old self.new tree.old tree.new) }
+        ensures tried { IsTried R.KIND self.old self.new tree.old tree.new compiler.old compiler.new leaf result }
         ensures same { V.position view.new ≡ V.position view.old }
-        ensures kept { (more : List AnyNode) × (compiler.new ≡ compiler.old ++ more) }
-        ensures nothing { OnStep result ℕ (compiler.new ≡ compiler.old) ℕ }
-        ensures full { IsErrOf result SearchError.Full → HasNoRoom R.KIND self.old }
-        ensures full_now { IsErrOf result SearchError.Full → length compiler.new ≡ MAX_NODES }
     {
         let left = self.notes[leaf as usize].left;
         match looks.judge_replies::<V>(view, &mut self.board, u32::from(left))? {
@@ -431,14 +370,12 @@ impl Search {
                     return Ok(Step::Spent);
                 }
                 let settled = settle_children::<R, V>(
-                    looks.alloc(),
+                    self.alloc,
                     view,
                     children.all.as_slice(),
                     left,
                     compiler,
                 )?;
-                // This tells what holds of every compiler.
-                compiler.len();
                 self.expand(
                     tree,
                     leaf,
@@ -470,18 +407,16 @@ fn settle_children<R: Rule, V: Seen<R>>(
     requires each { All (IsChild R.KIND left (V.position view.old)) children.now }
     ensures settled { IfOk result (λ new. AreSettled R.KIND left (V.position view.old) compiler.new
         children.now (length children.now) new.numbers.items new.notes.items) }
-    ensures grows { GrowsBy compiler.old compiler.new (sum_by (λ child. nodes_for child.judged) children.now) }
-    ensures full { IsErrOf result SearchError.Full
-        → MAX_NODES < length compiler.old + sum_by (λ child. nodes_for child.judged) children.now }
-    ensures full_now { IsErrOf result SearchError.Full → length compiler.new ≡ MAX_NODES }
+    ensures writes { Writes compiler.old compiler.new (sum_by (λ child. nodes_for child.judged) children.now) result }
     ensures same { V.position view.new ≡ V.position view.old }
 {
     let mut numbers = Vec::new(alloc);
     let mut notes = Vec::new(alloc);
+    // This tells what holds of every compiler.
+    compiler.len();
     for child in children {
-        // This tells what holds of every compiler.
-        compiler.len();
         let win = settle_child::<R, V>(alloc, view, *child, compiler)?;
+        compiler.len();
         add_child(&mut numbers, &mut notes, Note::open(child.at, left), win)?;
     }
     Ok(NewNodes { numbers, notes })

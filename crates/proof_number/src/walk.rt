@@ -4,18 +4,15 @@
 //! the attacker that is now settled is compiled, if it is won, and remembered.
 #![tactic(auto)]
 
-ghost use Rattle.std.specs.Prelude.{◌≡◌, ◌<◌, ◌≤◌, ◌+◌, ℕ, ◌++◌, List, length, OnOk, IsErrOf};
-ghost use Rattle.strategy_graph.specs.declared.Node.{Node};
-ghost use Rattle.strategy_graph.specs.declared.TheConstants.{MAX_NODES};
+ghost use Rattle.std.specs.Prelude.{◌≡◌, ◌<◌, length};
 ghost use Rattle.proof_tree.specs.Trees.{IsTree, IsOnWayUp, link_at};
 ghost use Rattle.proof_number.specs.GameTrees.{IsGameTree, board_at};
-ghost use Rattle.proof_number.specs.Searches.{Searches, IsSameAim, game_of};
+ghost use Rattle.proof_number.specs.Searches.{Searches, IsBack, game_of};
 
 use crate::search::Search;
 use foul_judge::Seen;
 use proof_tree::ProofTree;
 use row_shapes::Rule;
-use std::alloc::Global;
 use strategy_compiler::{Compiler, SearchError};
 
 impl Search {
@@ -85,7 +82,6 @@ impl Search {
     /// Records the settled positions of the attacker from a node up to the root, and takes the moves back.
     pub(crate) fn go_back<R: Rule, V: Seen<R>>(
         &mut self,
-        alloc: Global,
         view: &mut V,
         tree: &ProofTree,
         compiler: &mut Compiler,
@@ -95,23 +91,17 @@ impl Search {
         requires searching { Searches R.KIND self.old tree.now compiler.old (IsOnWayUp tree.now.links node) }
         requires view { V.position view.old ≡ board_at (game_of R.KIND self.old tree.now) node }
         requires board { self.old.board ≡ board_at (game_of R.KIND self.old tree.now) node }
-        ensures searching { OnOk result (Searches R.KIND self.new tree.now compiler.new (λ i. ⊥)) }
-        ensures aim { IsSameAim self.old self.new }
-        ensures attacked { self.new.attacked ≡ self.old.attacked }
+        ensures back { IsBack R.KIND self.old self.new tree.now compiler.old compiler.new result }
         ensures view { V.position view.new ≡ self.old.root }
-        ensures board { self.new.board ≡ self.old.root }
-        ensures kept { (more : List Node) × (compiler.new ≡ compiler.old ++ more) }
-        ensures full { IsErrOf result SearchError.Full → MAX_NODES < self.old.before + self.old.attacked }
-        ensures full_now { IsErrOf result SearchError.Full → length compiler.new ≡ MAX_NODES }
     {
-        let found = self.record::<R, V>(alloc, view, tree, compiler, node);
+        let found = self.record::<R, V>(view, tree, compiler, node);
         if node == 0 {
             return found;
         }
         self.step_back::<R, V>(view, tree, node);
         let parent = tree.link(node).parent;
         match found {
-            Ok(()) => self.go_back::<R, V>(alloc, view, tree, compiler, parent),
+            Ok(()) => self.go_back::<R, V>(view, tree, compiler, parent),
             Err(error) => {
                 self.take_back::<R, V>(view, tree, parent);
                 Err(error)

@@ -1,4 +1,7 @@
-use Rattle.std.proofs.Common.{rules, ◌≡◌, true, ℕ, ◌≤◌, ◌∙◌, refl, ap, subst, arith, [], ◌∷◌, ◌++◌, IfSome}
+use Rattle.std.proofs.Common.{rules, ◌≡◌, true, ℕ, ◌≤◌, ◌∙◌, refl, ap, subst, arith, List, [], ◌∷◌, ◌++◌, IfSome, sum_by}
+use Rattle.std.proofs.lemmas.List.{take_all}
+use Rattle.strategy_compiler.specs.Growth.{GrowsBy}
+use Rattle.threat_game.specs.Replies.{nodes_for}
 use Rattle.game_rules.proofs.Common.{Grid, after}
 use Rattle.strategy_graph.specs.declared.TheConstants.{MAX_NODES}
 use Rattle.strategy_graph.proofs.Filling.{IsTable-lower}
@@ -8,21 +11,23 @@ use Rattle.threat_game.specs.declared.replies.Child.{Child}
 use Rattle.threat_game.proofs.Common.{IsChild, IsThreatWin, moves_for, stands_for}
 use Rattle.proof_number.specs.Children.{child_at, child_note, no_child}
 use Rattle.threat_game.proofs.TreeLaws.{moves-few}
+use Rattle.strategy_compiler.proofs.Growing.{writes-memory}
 use Rattle.proof_number.proofs.Defending.{more-settled, no-room, nodes-more, nodes-within}
 use Rattle.proof_number.proofs.search.settle_children.Goals as goal
 
-pub returns-in_err-win-clause-grows : goal.returns-in_err-win-clause-grows
-returns-in_err-win-clause-grows g c =
-    nodes-within c.args.children.now c.args.compiler.now c.loop-child.compiler c.settle_child.new.compiler c.loop-child.child-index
-    c.loop-child-test.true
-    (child_at c.args.children.now c.loop-child.child-index) refl c.loop-child.invariant.2 c.settle_child.ensures.grows
-
-pub returns-in_err-win-clause-full : goal.returns-in_err-win-clause-full
-returns-in_err-win-clause-full g c =
+pub returns-in_err-win-clause-writes : goal.returns-in_err-win-clause-writes
+returns-in_err-win-clause-writes g c =
+    let child : Child = child_at c.args.children.now c.loop-child.child-index in
+    let grown = nodes-within c.args.children.now c.args.compiler.now c.loop-child.compiler c.settle_child.new.compiler
+    c.loop-child.child-index c.loop-child-test.true child refl c.loop-child.invariant.grown c.settle_child.ensures.grows in
     let room = no-room c.args.children.now c.args.compiler.now c.loop-child.compiler c.settle_child.new.compiler c.loop-child.child-index
-    c.loop-child-test.true
-    (child_at c.args.children.now c.loop-child.child-index) refl c.loop-child.invariant.2 MAX_NODES in
-    search rules
+    c.loop-child-test.true child refl c.loop-child.invariant.grown MAX_NODES in
+    record {
+      grows = grown;
+      compiled = search rules;
+      full = λ e. room (c.in_err-win.ensures.full (search rules));
+      full_now = λ e. c.in_err-win.ensures.full_now (search rules);
+    }
 
 pub add_child-requires : goal.add_child-requires
 add_child-requires g c =
@@ -33,40 +38,50 @@ add_child-requires g c =
           c.settle_child.new.compiler c.in_ok-win.win is.enough (let fits = c.ranges.left in omega (arith, fits)) c.in_ok-win.ensures.win;
     }
 
-pub returns-in_err-add_child-clause-grows : goal.returns-in_err-add_child-clause-grows
-returns-in_err-add_child-clause-grows g c =
-    nodes-within c.args.children.now c.args.compiler.now c.loop-child.compiler c.settle_child.new.compiler c.loop-child.child-index
-    c.loop-child-test.true
-    (child_at c.args.children.now c.loop-child.child-index) refl c.loop-child.invariant.2 c.settle_child.ensures.grows
+pub returns-in_err-add_child-clause-writes : goal.returns-in_err-add_child-clause-writes
+returns-in_err-add_child-clause-writes g c =
+    writes-memory _ _ _ _
+    (nodes-within c.args.children.now c.args.compiler.now c.loop-child.compiler c.settle_child.new.compiler c.loop-child.child-index
+    c.loop-child-test.true (child_at c.args.children.now c.loop-child.child-index) refl c.loop-child.invariant.grown
+    c.settle_child.ensures.grows) (search rules)
+
+pub returns-clause-writes : goal.returns-clause-writes
+returns-clause-writes g c = record {
+  grows = subst (λ (xs : List Child). GrowsBy c.args.compiler.now c.loop-child.compiler (sum_by (λ child. nodes_for child.judged) xs))
+      (take_all c.loop-child.child-index c.args.children.now (omega arith)) c.loop-child.invariant.grown;
+  compiled = c.loop-child.invariant.compiled;
+  full = λ e. cc;
+  full_now = λ e. cc;
+}
 
 pub loop-child-preserved : goal.loop-child-preserved
 loop-child-preserved g c =
     let b : Grid = g.V.Seen.position c.args.view.now in
     let child : Child = child_at c.args.children.now c.loop-child.child-index in
     let is = c.requires.each c.loop-child.child-index no_child c.loop-child-test.true in
-    let wins : IfSome c.in_ok-win.win
-    (λ (found : WrittenWin). (moves : ℕ) → moves_for child.judged ≤ moves
+    let wins : IfSome c.in_ok-win.win (λ (found : WrittenWin). (moves : ℕ) → moves_for child.judged ≤ moves
     → IsThreatWin g.R.Rule.KIND moves (after b child.at) c.settle_child.new.compiler found) =
-    subst (λ (d : Grid). IfSome c.in_ok-win.win
-    (λ (found : WrittenWin). (moves : ℕ) → moves_for child.judged ≤ moves
-    → IsThreatWin g.R.Rule.KIND moves (after d child.at) c.settle_child.new.compiler found)) c.loop-child.invariant.0
+    subst (λ (d : Grid). IfSome c.in_ok-win.win (λ (found : WrittenWin). (moves : ℕ) → moves_for child.judged ≤ moves
+    → IsThreatWin g.R.Rule.KIND moves (after d child.at) c.settle_child.new.compiler found)) c.loop-child.invariant.same
     c.in_ok-win.ensures.win in
     let stands : IfSome c.in_ok-win.win
     (λ (found : WrittenWin). (moves : ℕ) (met : Child) → stands_for child.judged met.judged ≡ true → IsChild g.R.Rule.KIND moves b met
     → IsThreatWin g.R.Rule.KIND moves (after b met.at) c.settle_child.new.compiler found) =
     subst (λ (d : Grid). IfSome c.in_ok-win.win
     (λ (found : WrittenWin). (moves : ℕ) (met : Child) → stands_for child.judged met.judged ≡ true → IsChild g.R.Rule.KIND moves d met
-    → IsThreatWin g.R.Rule.KIND moves (after d met.at) c.settle_child.new.compiler found)) c.loop-child.invariant.0
-    c.in_ok-win.ensures.stands in (
-      c.settle_child.ensures.same ∙ c.loop-child.invariant.0,
-      more-settled g.R.Rule.KIND c.args.left b c.args.children.now c.loop-child.compiler c.settle_child.new.compiler
+    → IsThreatWin g.R.Rule.KIND moves (after d met.at) c.settle_child.new.compiler found)) c.loop-child.invariant.same
+    c.in_ok-win.ensures.stands in
+    record {
+      same = c.settle_child.ensures.same ∙ c.loop-child.invariant.same;
+      settled = more-settled g.R.Rule.KIND c.args.left b c.args.children.now c.loop-child.compiler c.settle_child.new.compiler
           c.loop-child.child-index _ c.loop-child.numbers.items c.add_child.new.numbers.items
           c.loop-child.notes.items c.add_child.new.notes.items child c.in_ok-win.win
-          (IsTable-lower c.loop-child.compiler c.len.ensures.compiled.table) c.loop-child.invariant.1 refl c.in_ok-win.ensures.open
-          is.enough wins stands
-          c.settle_child.ensures.grows c.in_ok-add_child.ensures.numbers
+          (IsTable-lower c.loop-child.compiler c.loop-child.invariant.compiled.table) c.loop-child.invariant.settled refl
+          c.in_ok-win.ensures.open
+          is.enough wins stands c.settle_child.ensures.grows c.in_ok-add_child.ensures.numbers
           (c.in_ok-add_child.ensures.notes ∙ ap (λ (note : Note). c.loop-child.notes.items ++ child_note note c.in_ok-win.win ∷ [])
-          c.open.ensures.note),
-      nodes-more c.args.children.now c.args.compiler.now c.loop-child.compiler c.settle_child.new.compiler c.loop-child.child-index
-          c.loop-child-test.true child refl c.loop-child.invariant.2 c.settle_child.ensures.grows,
-    )
+          c.open.ensures.note);
+      grown = nodes-more c.args.children.now c.args.compiler.now c.loop-child.compiler c.settle_child.new.compiler c.loop-child.child-index
+          c.loop-child-test.true child refl c.loop-child.invariant.grown c.settle_child.ensures.grows;
+      compiled = c.len-in-loop-child.ensures.compiled;
+    }

@@ -1,4 +1,4 @@
-use Rattle.std.proofs.Common.{◌<◌, ◌≤◌, ◌+◌, subst, ap, List, length, arith}
+use Rattle.std.proofs.Common.{◌<◌, ◌+◌, ◌∙◌, subst, ap, List, length, length-append, arith}
 use Rattle.std.specs.Prelude.{Err, min}
 use Rattle.strategy_graph.specs.declared.Node.{Node}
 use Rattle.strategy_graph.specs.declared.TheConstants.{MAX_NODES}
@@ -16,10 +16,11 @@ returns-in-Ok-Win-clause-told g c =
     let added = c.proof_number.new.compiler in
     let is : IsThreatWin rule c.args.moves b added c.in-Ok-Win.win =
     subst (λ (a : ProofAnswer). OnWin a (IsThreatWin rule c.args.moves b added)) c.in-Ok-Win.field-0-is c.in-Ok-Win.ensures.win in
-    let few : length added ≤ 0 + min c.args.nodes (threat_tree rule c.args.moves b) =
-    subst (λ (t : List Node). length added ≤ length t + min c.args.nodes (threat_tree rule c.args.moves b)) c.new-compiler.ensures.empty
-    c.in-Ok-Win.ensures.few in
-    (is, omega (arith, few))
+    let grows = c.in-Ok-Win.ensures.leaves.writes.grows in
+    let long = ap length grows.is ∙ length-append _ grows.added in
+    let none = ap length c.new-compiler.ensures.empty in
+    let few = grows.few in
+    (is, omega (arith, long, none, few))
 
 pub returns-in-Ok-None-clause-told : goal.returns-in-Ok-None-clause-told
 returns-in-Ok-None-clause-told g c =
@@ -29,7 +30,7 @@ returns-in-Ok-None-clause-told g c =
 pub returns-in-Err-Full-clause-told : goal.returns-in-Err-Full-clause-told
 returns-in-Err-Full-clause-told g c =
     let b = c.args.view.now in
-    let more = c.in-Err-Full.ensures.full (ap Err c.in-Err-Full.field-0-is) in
+    let more = c.in-Err-Full.ensures.leaves.writes.full (ap Err c.in-Err-Full.field-0-is) in
     let none : MAX_NODES < 0 + min c.args.nodes (threat_tree g.R.Rule.KIND c.args.moves b) =
     subst (λ (t : List Node). MAX_NODES < length t + min c.args.nodes (threat_tree g.R.Rule.KIND c.args.moves b))
     c.new-compiler.ensures.empty more in

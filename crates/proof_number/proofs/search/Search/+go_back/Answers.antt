@@ -1,59 +1,57 @@
-use Rattle.std.proofs.Common.{rules, ◌≡◌, ◌∙◌, ◌<◌, ℕ, sym, ap, subst, arith, length}
-use Rattle.std.proofs.lemmas.Result.{on_ok_weaker}
+use Rattle.std.proofs.Common.{rules, ◌≡◌, ◌∙◌, ◌<◌, ℕ, refl, sym, ap, subst, arith, length}
 use Rattle.game_rules.specs.Grid.{Grid}
 use Rattle.proof_tree.specs.Trees.{IsOnWayUp, IsTree, link_at}
 use Rattle.proof_tree.specs.declared.Link.{Link}
 use Rattle.proof_number.specs.declared.search.Search.{Search}
-use Rattle.proof_number.proofs.Common.{GameTree, IsGameTree, board_at, IsAbove, Searches, game_of}
+use Rattle.proof_number.proofs.Common.{GameTree, IsGameTree, board_at, Searches, game_of}
 use Rattle.proof_number.proofs.GameTruths.{board-root}
-use Rattle.proof_number.proofs.Recording.{board-searches, parent-searches, root-searches, way-game, way-tree}
+use Rattle.proof_number.proofs.Recording.{board-searches, parent-searches, way-game, way-tree}
+use Rattle.proof_number.proofs.StepLaws.{node-back, node-refused, root-back}
 use Rattle.proof_number.proofs.search.Search.+go_back.Goals as goal
-
-pub returns-then-node-eq0-clause-searching : goal.returns-then-node-eq0-clause-searching
-returns-then-node-eq0-clause-searching g t c =
-    on_ok_weaker {P = Searches g.R.Rule.KIND c.record-found.new.self c.args.tree.now c.record-found.new.compiler
-    (IsAbove c.args.tree.now.links c.args.node)} c.record-found.result
-    (λ h. root-searches g.R.Rule.KIND c.record-found.new.self c.args.tree.now c.record-found.new.compiler c.args.node h c.if-node-eq0.true)
-    c.record-found.ensures.searching
 
 pub returns-then-node-eq0-clause-view : goal.returns-then-node-eq0-clause-view
 returns-then-node-eq0-clause-view g t c =
     let game : GameTree = game_of g.R.Rule.KIND c.args.self.now c.args.tree.now in
-    let tree : IsTree c.args.tree.now = way-tree g.R.Rule.KIND c.args.self.now c.args.tree.now c.args.compiler.now c.args.node
-    c.requires.searching in
+    let tree : IsTree c.args.tree.now = way-tree c.requires.searching in
     c.requires.view ∙ ap (board_at game) c.if-node-eq0.true ∙ board-root game.tree.links game.moves game.start tree.linked
 
-pub returns-then-node-eq0-clause-board : goal.returns-then-node-eq0-clause-board
-returns-then-node-eq0-clause-board g t c =
+pub returns-then-node-eq0-clause-back : goal.returns-then-node-eq0-clause-back
+returns-then-node-eq0-clause-back g t c =
     let game : GameTree = game_of g.R.Rule.KIND c.args.self.now c.args.tree.now in
-    let tree : IsTree c.args.tree.now = way-tree g.R.Rule.KIND c.args.self.now c.args.tree.now c.args.compiler.now c.args.node
-    c.requires.searching in
-    ap (λ (s : Search). s.board) c.record-found.ensures.keeps.rest ∙ c.requires.board ∙ ap (board_at game) c.if-node-eq0.true
-    ∙ board-root game.tree.links game.moves game.start tree.linked
+    let tree : IsTree c.args.tree.now = way-tree c.requires.searching in
+    root-back c.if-node-eq0.true c.record-found.ensures.passed
+    (c.requires.board ∙ ap (board_at game) c.if-node-eq0.true ∙ board-root game.tree.links game.moves game.start tree.linked)
+
+pub returns-in-Ok-clause-back : goal.returns-in-Ok-clause-back
+returns-in-Ok-clause-back g t c = node-back c.in-Ok.ensures.passed c.step_back.ensures.rest c.go_back.ensures.back
+
+pub returns-in-Err-clause-back : goal.returns-in-Err-clause-back
+returns-in-Err-clause-back g t c =
+    node-refused _ refl c.in-Err.ensures.passed
+    (c.take_back.ensures.rest ∙ ap (λ (s : Search). record s { board = c.take_back.new.self.board }) c.step_back.ensures.rest)
+    (c.take_back.ensures.board ∙ ap (λ (s : Search). s.root) c.step_back.ensures.rest)
 
 pub step_back-requires-clause-tree : goal.step_back-requires-clause-tree
-step_back-requires-clause-tree g t c = way-tree g.R.Rule.KIND c.args.self.now c.args.tree.now c.args.compiler.now c.args.node
+step_back-requires-clause-tree g t c = way-tree
     c.requires.searching
 
 pub step_back-requires-clause-game : goal.step_back-requires-clause-game
 step_back-requires-clause-game g t c =
-    subst IsGameTree (sym (c.record-found.ensures.keeps.places g.R.Rule.KIND c.args.tree.now))
-    (way-game g.R.Rule.KIND c.args.self.now c.args.tree.now c.args.compiler.now c.args.node c.requires.searching)
+    subst IsGameTree (sym (c.record-found.ensures.passed.keeps.places g.R.Rule.KIND c.args.tree.now)) (way-game c.requires.searching)
 
 pub step_back-requires-clause-view : goal.step_back-requires-clause-view
 step_back-requires-clause-view g t c =
     c.requires.view ∙ sym (ap (λ (w : GameTree). board_at w c.args.node)
-    (c.record-found.ensures.keeps.places g.R.Rule.KIND c.args.tree.now))
+    (c.record-found.ensures.passed.keeps.places g.R.Rule.KIND c.args.tree.now))
 
 pub step_back-requires-clause-board : goal.step_back-requires-clause-board
 step_back-requires-clause-board g t c =
-    ap (λ (s : Search). s.board) c.record-found.ensures.keeps.rest ∙ c.requires.board
-    ∙ sym (ap (λ (w : GameTree). board_at w c.args.node) (c.record-found.ensures.keeps.places g.R.Rule.KIND c.args.tree.now))
+    ap (λ (s : Search). s.board) c.record-found.ensures.passed.keeps.rest ∙ c.requires.board
+    ∙ sym (ap (λ (w : GameTree). board_at w c.args.node) (c.record-found.ensures.passed.keeps.places g.R.Rule.KIND c.args.tree.now))
 
 pub go_back-requires : goal.go_back-requires
 go_back-requires g t c κs within =
-    let tree : IsTree c.args.tree.now = way-tree g.R.Rule.KIND c.args.self.now c.args.tree.now c.args.compiler.now c.args.node
-    c.requires.searching in
+    let tree : IsTree c.args.tree.now = way-tree c.requires.searching in
     let some : 0 < c.args.node = let e = c.if-node-eq0.false in omega (arith, e) in
     let up = ap (λ (l : Link). l.parent) c.link-parent.ensures.link in
     let lower : c.link-parent.result.parent < c.args.node = let low =
@@ -61,8 +59,7 @@ go_back-requires g t c κs within =
     let inside : c.link-parent.result.parent < length c.args.tree.now.links = let low = c.requires.in_tree in omega (arith, lower, low) in
     let before : Searches g.R.Rule.KIND c.record-found.new.self c.args.tree.now c.record-found.new.compiler
     (IsOnWayUp c.args.tree.now.links (link_at c.args.tree.now.links c.args.node).parent) =
-    parent-searches g.R.Rule.KIND c.record-found.new.self c.args.tree.now c.record-found.new.compiler c.args.node
-    c.in-Ok.ensures.searching in
+    parent-searches c.in-Ok.ensures.passed.searching in
     let searching : Searches g.R.Rule.KIND c.step_back.new.self c.args.tree.now c.record-found.new.compiler
     (IsOnWayUp c.args.tree.now.links c.link-parent.result.parent) =
     board-searches g.R.Rule.KIND c.record-found.new.self c.step_back.new.self c.args.tree.now c.record-found.new.compiler
@@ -82,18 +79,16 @@ go_back-requires g t c κs within =
 
 pub take_back-requires-clause-in_tree : goal.take_back-requires-clause-in_tree
 take_back-requires-clause-in_tree g t c =
-    let tree : IsTree c.args.tree.now = way-tree g.R.Rule.KIND c.args.self.now c.args.tree.now c.args.compiler.now c.args.node
-    c.requires.searching in
+    let tree : IsTree c.args.tree.now = way-tree c.requires.searching in
     let some : 0 < c.args.node = let e = c.if-node-eq0.false in omega (arith, e) in
     let up = ap (λ (l : Link). l.parent) c.link-parent.ensures.link in
     omega (arith, tree.linked.parent_first c.args.node some c.requires.in_tree, up, c.requires.in_tree)
 
 pub take_back-requires-clause-tree : goal.take_back-requires-clause-tree
-take_back-requires-clause-tree g t c = way-tree g.R.Rule.KIND c.args.self.now c.args.tree.now c.args.compiler.now c.args.node
+take_back-requires-clause-tree g t c = way-tree
     c.requires.searching
 
 pub take_back-requires-clause-game : goal.take_back-requires-clause-game
 take_back-requires-clause-game g t c =
     subst (λ (s : Search). IsGameTree (game_of g.R.Rule.KIND s c.args.tree.now)) (sym c.step_back.ensures.rest)
-    (subst IsGameTree (sym (c.record-found.ensures.keeps.places g.R.Rule.KIND c.args.tree.now))
-    (way-game g.R.Rule.KIND c.args.self.now c.args.tree.now c.args.compiler.now c.args.node c.requires.searching))
+    (subst IsGameTree (sym (c.record-found.ensures.passed.keeps.places g.R.Rule.KIND c.args.tree.now)) (way-game c.requires.searching))

@@ -36,7 +36,7 @@ play-requires g t c =
       goes_on =
           ap (λ (b : Grid). outcome g.R.Rule.KIND b c.index.result.now.at)
           (there ∙ ap (λ (l : Link). board_at game l.parent) c.link-parent.ensures.link)
-          ∙ move-on game c.requires.tree c.requires.game c.args.node some c.requires.in_tree c.index.result.now.at at;
+          ∙ move-on c.requires.tree c.requires.game c.args.node some c.requires.in_tree c.index.result.now.at at;
     }
 
 pub put-requires : goal.put-requires
@@ -54,7 +54,7 @@ put-requires g t c =
       empty =
           ap (λ (b : Grid). is_empty b c.index.result.now.at)
           (c.go_to.ensures.board ∙ ap (λ (l : Link). board_at game l.parent) c.link-parent.ensures.link)
-          ∙ move-empty game c.requires.tree c.requires.game c.args.node some c.requires.in_tree c.index.result.now.at at;
+          ∙ move-empty c.requires.tree c.requires.game c.args.node some c.requires.in_tree c.index.result.now.at at;
     }
 
 pub returns-clause-view : goal.returns-clause-view
@@ -68,10 +68,9 @@ returns-clause-view g t c =
     c.index.ensures ∙ ap (λ (s : Search). get_or s.notes.items c.args.node c.index.result.now) c.go_to.ensures.rest in
     let at : move_at game.moves c.args.node ≡ c.index.result.now.at =
     noted-move notes c.args.node c.index.result.now no_note (omega (arith, same, long, c.requires.in_tree)) read in
-    c.play.ensures.played
-    ∙ ap (λ (b : Grid). after b c.index.result.now.at)
+    c.play.ensures.played ∙ ap (λ (b : Grid). after b c.index.result.now.at)
     (c.go_to.ensures.view ∙ ap (λ (l : Link). board_at game l.parent) c.link-parent.ensures.link)
-    ∙ sym (board-after game c.requires.tree c.requires.game c.args.node some c.requires.in_tree c.index.result.now.at at)
+    ∙ sym (board-after c.requires.tree c.requires.game c.args.node some c.requires.in_tree c.index.result.now.at at)
 
 pub returns-clause-board : goal.returns-clause-board
 returns-clause-board g t c =
@@ -88,11 +87,10 @@ returns-clause-board g t c =
     let before : c.go_to.new.self.board ≡ up c.link-parent.result = c.go_to.ensures.board in
     let seen : g.V.Seen.position c.go_to.new.view ≡ up c.link-parent.result = c.go_to.ensures.view in
     let side : c.side-side.result ≡ mover (up c.link-parent.result) = c.side-side.ensures.side ∙ ap mover seen in
-    c.put.ensures.put
-    ∙ ap (λ (b : Grid). put b c.side-side.result c.index.result.now.at) before
+    c.put.ensures.put ∙ ap (λ (b : Grid). put b c.side-side.result c.index.result.now.at) before
     ∙ ap (λ (s : Side). put (up c.link-parent.result) s c.index.result.now.at) side
     ∙ ap (λ (l : Link). after (up l) c.index.result.now.at) c.link-parent.ensures.link
-    ∙ sym (board-after game c.requires.tree c.requires.game c.args.node some c.requires.in_tree c.index.result.now.at at)
+    ∙ sym (board-after c.requires.tree c.requires.game c.args.node some c.requires.in_tree c.index.result.now.at at)
 
 pub go_to-requires : goal.go_to-requires
 go_to-requires g t c κs within =

@@ -1,4 +1,4 @@
-use Rattle.std.proofs.Common.{rules, ◌≡◌, ◌∙◌, ◌+◌, ◌<◌, ◌≤◌, ℕ, false, sym, ap, subst, arith, List, length, IfNone, IsErrOf, Some, None}
+use Rattle.std.proofs.Common.{rules, ◌≡◌, ◌∙◌, ◌+◌, ◌≤◌, ℕ, false, sym, ap, subst, arith, List, IfNone, Some, None}
 use Rattle.std.proofs.Common.{get_or, Option, sum_by}
 use Rattle.std.proofs.lemmas.List.{get_or_default}
 use Rattle.game_rules.specs.Grid.{Grid}
@@ -6,8 +6,6 @@ use Rattle.game_rules.specs.declared.RuleKind.{RuleKind}
 use Rattle.proof_tree.specs.Trees.{Tree}
 use Rattle.proof_tree.proofs.SumLaws.{fresh-numbers}
 use Rattle.strategy_graph.specs.declared.Node.{Node}
-use Rattle.strategy_graph.specs.declared.TheConstants.{MAX_NODES}
-use Rattle.strategy_compiler.specs.declared.error.SearchError.TheVariants.{Full}
 use Rattle.proof_number.specs.declared.notes.Note.{Note}
 use Rattle.threat_game.specs.declared.replies.Child.{Child}
 use Rattle.threat_game.specs.declared.replies.Children.{Children}
@@ -16,9 +14,10 @@ use Rattle.strategy_compiler.specs.Growth.{GrowsBy}
 use Rattle.proof_number.specs.Notes.{no_note, note_at}
 use Rattle.proof_number.specs.Searches.{StandsAt}
 use Rattle.threat_game.specs.Replies.{AreChildren, AreReplies, HasEscape, nodes_for}
-use Rattle.proof_number.proofs.Steps.{leaf-board, leaf-is, leaf-noted, root-open, settled-at, attacked-few}
+use Rattle.proof_number.proofs.Steps.{attacked-few, leaf-board, leaf-is, leaf-noted, root-open, settled-at, writes-no_memory, writes-none}
 use Rattle.proof_number.proofs.Defending.{all-fresh, defend-moves, defend-no_five, defend-reply, each-is, each-same, escape-grows, few-new}
-use Rattle.proof_number.proofs.Defending.{replies-few, replies-full, replies-grow, replies-spent, settled-same, some-new}
+use Rattle.proof_number.proofs.Defending.{replies-few, replies-grow, replies-room, replies-spent, settled-same, some-new}
+use Rattle.strategy_compiler.proofs.Growing.{grows-more, writes-fails, writes-memory, writes-tells}
 use Rattle.proof_number.proofs.ExpandedCounts.{budget-few, short-there, sums-there}
 use Rattle.proof_number.proofs.search.Search.answer_replies.Goals as goal
 
@@ -27,41 +26,34 @@ judged : (rule : RuleKind) (s : Search) (t : Tree) (d : List Node) (leaf : ℕ) 
     → (n : Note) (left : ℕ) (r o : Option Children) → n ≡ get_or s.notes.items leaf n → left ≡ n.left → r ≡ o
     → AreReplies rule left view r → AreReplies rule (note_at s.notes.items leaf).left view o
 judged rule s t d leaf view at_leaf n left r o read from is replies =
-    let noted = leaf-noted rule s t d leaf view at_leaf in
+    let noted = leaf-noted at_leaf in
     let note : n ≡ note_at s.notes.items leaf = read ∙ get_or_default s.notes.items leaf n no_note noted in
     subst (λ (k : ℕ). AreReplies rule k view o) (from ∙ ap (λ (x : Note). x.left) note) (subst (AreReplies rule left view) is replies)
 
 pub index-requires : goal.index-requires
-index-requires g c = let low = leaf-noted g.R.Rule.KIND c.args.self.now c.args.tree.now c.args.compiler.now c.args.leaf
-    (g.V.Seen.position c.args.view.now) c.requires.at_leaf in omega (arith, low)
+index-requires g c = let low = leaf-noted c.requires.at_leaf in omega (arith, low)
 
 pub judge_replies-requires-clause-no_five : goal.judge_replies-requires-clause-no_five
-judge_replies-requires-clause-no_five g c = defend-no_five g.R.Rule.KIND c.args.self.now c.args.tree.now c.args.compiler.now c.args.leaf
-    (g.V.Seen.position c.args.view.now) c.requires.at_leaf c.requires.defend
+judge_replies-requires-clause-no_five g c = defend-no_five c.requires.at_leaf c.requires.defend
 
 pub judge_replies-requires-clause-reply : goal.judge_replies-requires-clause-reply
-judge_replies-requires-clause-reply g c = defend-reply g.R.Rule.KIND c.args.self.now c.args.tree.now c.args.compiler.now c.args.leaf
-    (g.V.Seen.position c.args.view.now) c.requires.at_leaf c.requires.defend
+judge_replies-requires-clause-reply g c = defend-reply c.requires.at_leaf c.requires.defend
 
 pub judge_replies-requires-clause-copy : goal.judge_replies-requires-clause-copy
-judge_replies-requires-clause-copy g c = leaf-board g.R.Rule.KIND c.args.self.now c.args.tree.now c.args.compiler.now c.args.leaf
-    (g.V.Seen.position c.args.view.now) c.requires.at_leaf
+judge_replies-requires-clause-copy g c = leaf-board c.requires.at_leaf
 
 pub settle-requires : goal.settle-requires
 settle-requires g c = record {
-  «open» = root-open g.R.Rule.KIND c.args.self.now c.args.tree.now c.args.compiler.now c.args.leaf
-      (g.V.Seen.position c.args.view.now) c.requires.at_leaf;
+  «open» = root-open c.requires.at_leaf;
 }
 
 pub judge_replies-requires-clause-some_moves : goal.judge_replies-requires-clause-some_moves
 judge_replies-requires-clause-some_moves g c =
-    let noted = leaf-noted g.R.Rule.KIND c.args.self.now c.args.tree.now c.args.compiler.now c.args.leaf (g.V.Seen.position c.args.view.now)
-    c.requires.at_leaf in
+    let noted = leaf-noted c.requires.at_leaf in
     let note : c.index.result.now ≡ note_at c.args.self.now.notes.items c.args.leaf =
     c.index.ensures ∙ get_or_default c.args.self.now.notes.items c.args.leaf c.index.result.now no_note noted in
     let left_is = c.from.ensures ∙ ap (λ (n : Note). n.left) note in
-    let one = defend-moves g.R.Rule.KIND c.args.self.now c.args.tree.now c.args.compiler.now c.args.leaf (g.V.Seen.position c.args.view.now)
-    c.requires.at_leaf c.requires.defend in
+    let one = defend-moves c.requires.at_leaf c.requires.defend in
     omega (arith, one, left_is)
 
 pub overflow_add-count : goal.overflow_add-count
@@ -70,16 +62,13 @@ overflow_add-count g c =
     c.in-Some.children = judged g.R.Rule.KIND c.args.self.now c.args.tree.now c.args.compiler.now c.args.leaf
     (g.V.Seen.position c.args.view.now) c.requires.at_leaf c.index.result.now c.from.result _ (Some c.in-Some.children) c.index.ensures
     c.from.ensures c.in-Some.is c.in_ok-judge_replies.ensures.replies in
-    let a = attacked-few g.R.Rule.KIND c.args.self.now c.args.tree.now c.args.compiler.now c.args.leaf (g.V.Seen.position c.args.view.now)
-    c.requires.at_leaf in
-    let few = replies-few g.R.Rule.KIND c.args.self.now c.args.tree.now c.args.compiler.now c.args.leaf (g.V.Seen.position c.args.view.now)
-    c.requires.at_leaf c.requires.defend c.in-Some.children are in
+    let a = attacked-few c.requires.at_leaf in
+    let few = replies-few c.requires.at_leaf c.requires.defend c.in-Some.children are in
     omega (arith, a, few)
 
-pub returns-in-None-clause-step : goal.returns-in-None-clause-step
-returns-in-None-clause-step g c =
-    let noted = leaf-noted g.R.Rule.KIND c.args.self.now c.args.tree.now c.args.compiler.now c.args.leaf (g.V.Seen.position c.args.view.now)
-    c.requires.at_leaf in
+pub returns-in-None-clause-tried : goal.returns-in-None-clause-tried
+returns-in-None-clause-tried g c =
+    let noted = leaf-noted c.requires.at_leaf in
     let note : c.index.result.now ≡ note_at c.args.self.now.notes.items c.args.leaf =
     c.index.ensures ∙ get_or_default c.args.self.now.notes.items c.args.leaf c.index.result.now no_note noted in
     let left_is = c.from.ensures ∙ ap (λ (n : Note). n.left) note in
@@ -88,43 +77,66 @@ returns-in-None-clause-step g c =
     (g.V.Seen.position c.args.view.now) c.requires.at_leaf c.index.result.now c.from.result _ None c.index.ensures c.from.ensures
     c.in-None.is c.in_ok-judge_replies.ensures.replies in
     let early : c.from.result ≤ 2 = subst (λ o. IfNone o (c.from.result ≤ 2)) c.in-None.is c.in_ok-judge_replies.ensures.early in
-    let is = leaf-is g.R.Rule.KIND c.args.self.now c.args.tree.now c.args.compiler.now c.args.leaf (g.V.Seen.position c.args.view.now)
-    c.requires.at_leaf in
-    escape-grows g.R.Rule.KIND c.args.self.now c.args.tree.now c.args.compiler.now c.args.leaf (g.V.Seen.position c.args.view.now)
-    c.requires.at_leaf c.requires.defend escape (omega (arith, early, left_is))
-    c.settle.new.self (settled-at c.args.tree.now c.settle.new.self c.args.leaf false is c.settle.ensures.links c.settle.ensures.settled
-    c.settle.ensures.others c.settle.ensures.leaves c.settle.ensures.tree)
-    c.judge_replies.new.board c.judge_replies.ensures.same_board
+    let is = leaf-is c.requires.at_leaf in
+    record {
+      step = escape-grows
+          c.requires.at_leaf c.requires.defend escape (omega (arith, early, left_is))
+          c.settle.new.self (settled-at c.args.tree.now c.settle.new.self c.args.leaf false is c.settle.ensures.links
+          c.settle.ensures.settled
+          c.settle.ensures.others c.settle.ensures.leaves c.settle.ensures.tree)
+          c.judge_replies.new.board c.judge_replies.ensures.same_board;
+      writes = writes-none c.requires.at_leaf _;
+    }
 
-pub returns-then-count-self-clause-step : goal.returns-then-count-self-clause-step
-returns-then-count-self-clause-step g c =
+pub returns-then-count-self-clause-tried : goal.returns-then-count-self-clause-tried
+returns-then-count-self-clause-tried g c =
     let are : AreChildren g.R.Rule.KIND (note_at c.args.self.now.notes.items c.args.leaf).left (g.V.Seen.position c.args.view.now)
     c.in-Some.children = judged g.R.Rule.KIND c.args.self.now c.args.tree.now c.args.compiler.now c.args.leaf
     (g.V.Seen.position c.args.view.now) c.requires.at_leaf c.index.result.now c.from.result _ (Some c.in-Some.children) c.index.ensures
     c.from.ensures c.in-Some.is c.in_ok-judge_replies.ensures.replies in
     let over = c.if-count-self.true in
-    replies-spent g.R.Rule.KIND c.args.self.now c.args.tree.now c.args.compiler.now c.args.leaf (g.V.Seen.position c.args.view.now)
-    c.requires.at_leaf c.requires.defend c.in-Some.children are (omega (arith, over)) c.judge_replies.new.board
-    c.judge_replies.ensures.same_board
+    record {
+      step = replies-spent
+          c.requires.at_leaf c.requires.defend c.in-Some.children are (omega (arith, over)) c.judge_replies.new.board
+          c.judge_replies.ensures.same_board;
+      writes = writes-none c.requires.at_leaf _;
+    }
 
-pub returns-in_err-settled-in-Some-clause-full : goal.returns-in_err-settled-in-Some-clause-full
-returns-in_err-settled-in-Some-clause-full g c =
+pub returns-in_err-settled-in-Some-clause-tried : goal.returns-in_err-settled-in-Some-clause-tried
+returns-in_err-settled-in-Some-clause-tried g c =
     let are : AreChildren g.R.Rule.KIND (note_at c.args.self.now.notes.items c.args.leaf).left (g.V.Seen.position c.args.view.now)
     c.in-Some.children = judged g.R.Rule.KIND c.args.self.now c.args.tree.now c.args.compiler.now c.args.leaf
     (g.V.Seen.position c.args.view.now) c.requires.at_leaf c.index.result.now c.from.result _ (Some c.in-Some.children) c.index.ensures
     c.from.ensures c.in-Some.is c.in_ok-judge_replies.ensures.replies in
     let within = c.if-count-self.false in
-    let refused = subst (λ (xs : List Child). IsErrOf c.settle_children.result Full
-    → MAX_NODES < length c.args.compiler.now + sum_by (λ child. nodes_for child.judged) xs) c.as_slice.ensures.value
-    c.settle_children.ensures.full in
-    let many = replies-full g.R.Rule.KIND c.args.self.now c.args.tree.now c.args.compiler.now c.args.leaf
-    (g.V.Seen.position c.args.view.now) c.requires.at_leaf c.requires.defend c.in-Some.children are (omega (arith, within)) refused in
-    search rules
+    let same = ap (sum_by (λ (child : Child). nodes_for child.judged)) c.as_slice.ensures.value in
+    let room = replies-room c.requires.at_leaf c.requires.defend c.in-Some.children are (omega (arith, within)) in
+    record {
+      step = search rules;
+      writes = writes-fails _ _ _ _ _ _ c.in_err-settled-in-Some.ensures.writes (omega (arith, same, room)) (search rules);
+    }
+
+pub returns-in_err-expand-in-Some-clause-tried : goal.returns-in_err-expand-in-Some-clause-tried
+returns-in_err-expand-in-Some-clause-tried g c =
+    let are : AreChildren g.R.Rule.KIND (note_at c.args.self.now.notes.items c.args.leaf).left (g.V.Seen.position c.args.view.now)
+    c.in-Some.children = judged g.R.Rule.KIND c.args.self.now c.args.tree.now c.args.compiler.now c.args.leaf
+    (g.V.Seen.position c.args.view.now) c.requires.at_leaf c.index.result.now c.from.result _ (Some c.in-Some.children) c.index.ensures
+    c.from.ensures c.in-Some.is c.in_ok-judge_replies.ensures.replies in
+    let within = c.if-count-self.false in
+    let same = ap (sum_by (λ (child : Child). nodes_for child.judged)) c.as_slice.ensures.value in
+    let room = replies-room c.requires.at_leaf c.requires.defend c.in-Some.children are (omega (arith, within)) in
+    record {
+      step = search rules;
+      writes = writes-memory _ _ _ _ (grows-more _ _ _ _ c.in_ok-settled-in-Some.ensures.writes.grows (omega (arith, same, room)))
+          (search rules);
+    }
+
+pub returns-in_err-judge_replies-clause-tried : goal.returns-in_err-judge_replies-clause-tried
+returns-in_err-judge_replies-clause-tried g c = record { step = search rules; writes = writes-no_memory (search rules) }
 
 pub expand-requires : goal.expand-requires
 expand-requires g c =
-    let noted = leaf-noted g.R.Rule.KIND c.args.self.now c.args.tree.now c.args.compiler.now c.args.leaf (g.V.Seen.position c.args.view.now)
-    c.requires.at_leaf in
+    let noted = leaf-noted c.requires.at_leaf in
     let note : c.index.result.now ≡ note_at c.args.self.now.notes.items c.args.leaf =
     c.index.ensures ∙ get_or_default c.args.self.now.notes.items c.args.leaf c.index.result.now no_note noted in
     let are : AreChildren g.R.Rule.KIND (note_at c.args.self.now.notes.items c.args.leaf).left (g.V.Seen.position c.args.view.now)
@@ -139,34 +151,28 @@ expand-requires g c =
     (ap (λ (n : Note). n.left) note) c.judge_replies.ensures.same c.as_slice.ensures.value c.as_slice-in-Some.ensures.value
     c.as_slice-in-Some-2.ensures.value c.in_ok-settled-in-Some.ensures.settled in
     let within = c.if-count-self.false in
-    let few = budget-few g.R.Rule.KIND c.args.self.now c.args.tree.now c.args.compiler.now c.args.leaf (g.V.Seen.position c.args.view.now)
-    c.requires.at_leaf in
-    let all = few-new g.R.Rule.KIND c.args.self.now c.args.tree.now c.args.compiler.now c.args.leaf (g.V.Seen.position c.args.view.now)
+    let few = budget-few c.requires.at_leaf in
+    let all = few-new
     c.requires.at_leaf c.requires.defend c.in-Some.children are c.settle_children.new.compiler c.as_slice-in-Some.result.now
     c.as_slice-in-Some-2.result.now settled (omega (arith, within)) in
-    let some = some-new g.R.Rule.KIND c.args.self.now c.args.tree.now c.args.compiler.now c.args.leaf (g.V.Seen.position c.args.view.now)
+    let some = some-new
     c.requires.at_leaf c.requires.defend c.in-Some.children are c.settle_children.new.compiler c.as_slice-in-Some.result.now
     c.as_slice-in-Some-2.result.now settled in
-    let fresh = all-fresh g.R.Rule.KIND c.args.self.now c.args.tree.now c.args.compiler.now c.args.leaf (g.V.Seen.position c.args.view.now)
+    let fresh = all-fresh
     c.requires.at_leaf c.requires.defend c.in-Some.children are c.settle_children.new.compiler c.as_slice-in-Some.result.now
     c.as_slice-in-Some-2.result.now settled in
     record {
-      «open» = root-open g.R.Rule.KIND c.args.self.now c.args.tree.now c.args.compiler.now c.args.leaf
-          (g.V.Seen.position c.args.view.now) c.requires.at_leaf;
-      leaf = leaf-is g.R.Rule.KIND c.args.self.now c.args.tree.now c.args.compiler.now c.args.leaf
-          (g.V.Seen.position c.args.view.now) c.requires.at_leaf;
+      «open» = root-open c.requires.at_leaf;
+      leaf = leaf-is c.requires.at_leaf;
       some = some;
       each = fresh-numbers c.as_slice-in-Some.result.now fresh;
-      short = short-there g.R.Rule.KIND c.args.self.now c.args.tree.now c.args.compiler.now c.args.leaf
-          (g.V.Seen.position c.args.view.now) c.requires.at_leaf c.as_slice-in-Some.result.now some (omega (arith, all, few));
-      sums = sums-there g.R.Rule.KIND c.args.self.now c.args.tree.now c.args.compiler.now c.args.leaf
-          (g.V.Seen.position c.args.view.now) c.requires.at_leaf c.as_slice-in-Some.result.now some (omega (arith, all, few)) fresh;
+      short = short-there c.requires.at_leaf c.as_slice-in-Some.result.now some (omega (arith, all, few));
+      sums = sums-there c.requires.at_leaf c.as_slice-in-Some.result.now some (omega (arith, all, few)) fresh;
     }
 
-pub returns-in_ok-expand-in-Some-clause-step : goal.returns-in_ok-expand-in-Some-clause-step
-returns-in_ok-expand-in-Some-clause-step g c =
-    let noted = leaf-noted g.R.Rule.KIND c.args.self.now c.args.tree.now c.args.compiler.now c.args.leaf (g.V.Seen.position c.args.view.now)
-    c.requires.at_leaf in
+pub returns-in_ok-expand-in-Some-clause-tried : goal.returns-in_ok-expand-in-Some-clause-tried
+returns-in_ok-expand-in-Some-clause-tried g c =
+    let noted = leaf-noted c.requires.at_leaf in
     let note : c.index.result.now ≡ note_at c.args.self.now.notes.items c.args.leaf =
     c.index.ensures ∙ get_or_default c.args.self.now.notes.items c.args.leaf c.index.result.now no_note noted in
     let are : AreChildren g.R.Rule.KIND (note_at c.args.self.now.notes.items c.args.leaf).left (g.V.Seen.position c.args.view.now)
@@ -184,22 +190,27 @@ returns-in_ok-expand-in-Some-clause-step g c =
     let grown : GrowsBy c.args.compiler.now c.settle_children.new.compiler
     (sum_by (λ child. nodes_for child.judged) c.in-Some.children.all.items) =
     subst (λ (xs : List Child). GrowsBy c.args.compiler.now c.settle_children.new.compiler
-    (sum_by (λ child. nodes_for child.judged) xs)) c.as_slice.ensures.value c.settle_children.ensures.grows in
+    (sum_by (λ child. nodes_for child.judged) xs)) c.as_slice.ensures.value c.in_ok-settled-in-Some.ensures.writes.grows in
     let count : ℕ = c.args.self.now.attacked + c.in-Some.children.count in
-    replies-grow g.R.Rule.KIND c.args.self.now c.args.tree.now c.args.compiler.now c.args.leaf (g.V.Seen.position c.args.view.now)
-    c.requires.at_leaf c.requires.defend c.in-Some.children are c.settle_children.new.compiler grown c.len.ensures.compiled
-    c.as_slice-in-Some.result.now c.as_slice-in-Some-2.result.now settled
-    c.expand.new.tree c.in_ok-expand-in-Some.ensures.tree (record c.expand.new.self { attacked = count })
-    c.in_ok-expand-in-Some.ensures.notes
-    (ap (λ (s : Search). record s { attacked = count }) c.expand.ensures.rest
-    ∙ ap (λ (b : Grid). record c.args.self.now { board = b; notes = c.expand.new.self.notes; attacked = count })
-    (sym (ap (λ (s : Search). s.board) c.expand.ensures.rest)))
-    (ap (λ (s : Search). s.board) c.expand.ensures.rest ∙ c.judge_replies.ensures.same_board) (omega (arith, within))
+    record {
+      step = replies-grow
+          c.requires.at_leaf c.requires.defend c.in-Some.children are c.settle_children.new.compiler grown
+          c.in_ok-settled-in-Some.ensures.writes.compiled
+          c.as_slice-in-Some.result.now c.as_slice-in-Some-2.result.now settled
+          c.expand.new.tree c.in_ok-expand-in-Some.ensures.tree (record c.expand.new.self { attacked = count })
+          c.in_ok-expand-in-Some.ensures.notes (ap (λ (s : Search). record s { attacked = count }) c.expand.ensures.rest
+          ∙ ap (λ (b : Grid). record c.args.self.now { board = b; notes = c.expand.new.self.notes; attacked = count })
+          (sym (ap (λ (s : Search). s.board) c.expand.ensures.rest)))
+          (ap (λ (s : Search). s.board) c.expand.ensures.rest ∙ c.judge_replies.ensures.same_board) (omega (arith, within));
+      writes = writes-tells _ _ _ _ c.in_ok-settled-in-Some.settled _ c.in_ok-settled-in-Some.ensures.writes
+          (let same = ap (sum_by (λ (child : Child). nodes_for child.judged)) c.as_slice.ensures.value in
+          let room = replies-room c.requires.at_leaf c.requires.defend c.in-Some.children are (omega (arith, within)) in
+          omega (arith, same, room));
+    }
 
 pub settle_children-requires : goal.settle_children-requires
 settle_children-requires g c =
-    let noted = leaf-noted g.R.Rule.KIND c.args.self.now c.args.tree.now c.args.compiler.now c.args.leaf (g.V.Seen.position c.args.view.now)
-    c.requires.at_leaf in
+    let noted = leaf-noted c.requires.at_leaf in
     let note : c.index.result.now ≡ note_at c.args.self.now.notes.items c.args.leaf =
     c.index.ensures ∙ get_or_default c.args.self.now.notes.items c.args.leaf c.index.result.now no_note noted in
     let are : AreChildren g.R.Rule.KIND (note_at c.args.self.now.notes.items c.args.leaf).left (g.V.Seen.position c.args.view.now)
@@ -210,7 +221,5 @@ settle_children-requires g c =
       each = each-same g.R.Rule.KIND c.index.result.now.left (note_at c.args.self.now.notes.items c.args.leaf).left
           (g.V.Seen.position c.judge_replies.new.view) (g.V.Seen.position c.args.view.now)
           c.as_slice.result.now c.in-Some.children.all.items (ap (λ (n : Note). n.left) note) c.judge_replies.ensures.same
-          c.as_slice.ensures.value
-          (each-is g.R.Rule.KIND c.args.self.now c.args.tree.now c.args.compiler.now c.args.leaf (g.V.Seen.position c.args.view.now)
-          c.requires.at_leaf c.requires.defend c.in-Some.children are);
+          c.as_slice.ensures.value (each-is c.requires.at_leaf c.requires.defend c.in-Some.children are);
     }

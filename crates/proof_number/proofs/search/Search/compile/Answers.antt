@@ -1,37 +1,37 @@
-use Rattle.std.proofs.Common.{◌≡◌, ◌∙◌, sym, ap, arith, List, length, take, drop}
+use Rattle.std.proofs.Common.{◌≡◌, ◌∙◌, refl, sym, ap, arith, List, length, take, drop}
 use Rattle.std.proofs.lemmas.List.{get_or_default}
 use Rattle.proof_tree.specs.Trees.{link_at}
 use Rattle.proof_tree.specs.declared.Link.{Link}
 use Rattle.proof_number.specs.declared.notes.Note.{Note}
 use Rattle.proof_number.specs.Notes.{no_note, note_at}
-use Rattle.proof_number.proofs.Compiling.{compile-below, compile-few, compile-fits, compile-full, compile-here, compile-inside}
-use Rattle.proof_number.proofs.Compiling.{compile-keeps, compile-kept, compile-kids, compile-noted, compile-searches, compile-some}
+use Rattle.proof_number.proofs.Compiling.{compile-below, compile-few, compile-fits, compile-here, compile-inside}
+use Rattle.proof_number.proofs.Compiling.{compile-keeps, compile-kids, compile-noted, compile-room, compile-searches, compile-some}
 use Rattle.proof_number.proofs.Compiling.{compile-won}
 use Rattle.proof_number.proofs.Recording.{keeps-all}
+use Rattle.strategy_compiler.proofs.Growing.{writes-fails, writes-more}
 use Rattle.proof_number.proofs.search.Search.compile.Goals as goal
 
 pub first_proved-proved-requires-clause-some : goal.first_proved-proved-requires-clause-some
 first_proved-proved-requires-clause-some g c =
-    compile-some g.R.Rule.KIND c.args.self.now c.args.tree.now c.args.compiler.now c.args.node c.requires.searching c.requires.in_tree
-    c.requires.attack c.requires.proved c.requires.unwritten
+    compile-some c.requires.searching c.requires.in_tree c.requires.attack c.requires.proved c.requires.unwritten
 
 pub link-link-requires : goal.link-link-requires
 link-link-requires g c = record {
-  in_tree = compile-inside g.R.Rule.KIND c.args.self.now c.args.tree.now c.args.compiler.now c.args.node c.requires.searching
+  in_tree = compile-inside c.requires.searching
       c.requires.in_tree c.requires.attack c.requires.proved c.requires.unwritten c.first_proved-proved.result
       c.first_proved-proved.ensures.child c.first_proved-proved.ensures.proved;
 }
 
 pub index-requires : goal.index-requires
 index-requires g c =
-    let low = compile-noted g.R.Rule.KIND c.args.self.now c.args.tree.now c.args.compiler.now c.args.node c.requires.searching
+    let low = compile-noted c.requires.searching
     c.requires.in_tree c.requires.attack c.requires.proved c.requires.unwritten c.first_proved-proved.result
     c.first_proved-proved.ensures.child c.first_proved-proved.ensures.proved in
     omega (arith, low)
 
 pub kids-notes-requires : goal.kids-notes-requires
 kids-notes-requires g c =
-    let fits = compile-fits g.R.Rule.KIND c.args.self.now c.args.tree.now c.args.compiler.now c.args.node c.requires.searching
+    let fits = compile-fits c.requires.searching
     c.requires.in_tree c.requires.attack c.requires.proved c.requires.unwritten c.first_proved-proved.result
     c.first_proved-proved.ensures.child c.first_proved-proved.ensures.proved in
     let first = ap (λ (l : Link). l.first) c.link-link.ensures.link in
@@ -47,34 +47,25 @@ compile_answers-requires g c =
     c.kids-notes.ensures.kids ∙ ap (λ (ns : List Note). take c.link-link.result.count (drop c.link-link.result.first ns))
     c.as_slice.ensures.value ∙ ap (λ (l : Link). take l.count (drop l.first items)) c.link-link.ensures.link in
     record {
-      some = compile-kids g.R.Rule.KIND c.args.self.now c.args.tree.now c.args.compiler.now c.args.node c.requires.searching
+      some = compile-kids c.requires.searching
           c.requires.in_tree c.requires.attack c.requires.proved c.requires.unwritten c.first_proved-proved.result
-          c.first_proved-proved.ensures.child
-          c.first_proved-proved.ensures.proved c.kids-notes.result.now are;
-      below = compile-below g.R.Rule.KIND c.args.self.now c.args.tree.now c.args.compiler.now c.args.node c.requires.searching
+          c.first_proved-proved.ensures.child c.first_proved-proved.ensures.proved c.kids-notes.result.now are;
+      below = compile-below c.requires.searching
           c.requires.in_tree c.requires.attack c.requires.proved c.requires.unwritten c.first_proved-proved.result
-          c.first_proved-proved.ensures.child
-          c.first_proved-proved.ensures.proved c.kids-notes.result.now are;
+          c.first_proved-proved.ensures.child c.first_proved-proved.ensures.proved c.kids-notes.result.now are;
     }
 
-pub returns-in-Err-clause-keeps : goal.returns-in-Err-clause-keeps
-returns-in-Err-clause-keeps g c = keeps-all c.args.self.now
-
-pub returns-in-Err-clause-kept : goal.returns-in-Err-clause-kept
-returns-in-Err-clause-kept g c = (c.in-Err.ensures.writes.grows.added, c.in-Err.ensures.writes.grows.is)
-
-pub returns-in-Err-clause-full : goal.returns-in-Err-clause-full
-returns-in-Err-clause-full g c = λ e.
-    compile-full g.R.Rule.KIND c.args.self.now c.args.tree.now c.args.compiler.now c.args.node c.requires.searching c.requires.in_tree
-    c.requires.attack c.requires.proved c.requires.unwritten (c.in-Err.ensures.writes.full e)
-
-pub returns-in-Err-clause-full_now : goal.returns-in-Err-clause-full_now
-returns-in-Err-clause-full_now g c = c.in-Err.ensures.writes.full_now
+pub returns-in-Err-clause-passed : goal.returns-in-Err-clause-passed
+returns-in-Err-clause-passed g c = record {
+  searching = tt;
+  keeps = keeps-all c.args.self.now;
+  writes = writes-fails _ _ 1 _ _ _ c.in-Err.ensures.writes
+      (compile-room c.requires.searching c.requires.in_tree c.requires.attack c.requires.proved c.requires.unwritten) refl;
+}
 
 pub note_win-requires-clause-noted : goal.note_win-requires-clause-noted
 note_win-requires-clause-noted g c =
-    compile-here g.R.Rule.KIND c.args.self.now c.args.tree.now c.args.compiler.now c.args.node c.requires.searching c.requires.in_tree
-    c.requires.attack c.requires.proved c.requires.unwritten
+    compile-here c.requires.searching c.requires.in_tree c.requires.attack c.requires.proved c.requires.unwritten
 
 pub note_win-requires-clause-few : goal.note_win-requires-clause-few
 note_win-requires-clause-few g c =
@@ -83,12 +74,12 @@ note_win-requires-clause-few g c =
     (drop (link_at c.args.tree.now.links c.first_proved-proved.result).first items) =
     c.kids-notes.ensures.kids ∙ ap (λ (ns : List Note). take c.link-link.result.count (drop c.link-link.result.first ns))
     c.as_slice.ensures.value ∙ ap (λ (l : Link). take l.count (drop l.first items)) c.link-link.ensures.link in
-    let low = compile-noted g.R.Rule.KIND c.args.self.now c.args.tree.now c.args.compiler.now c.args.node c.requires.searching
+    let low = compile-noted c.requires.searching
     c.requires.in_tree c.requires.attack c.requires.proved c.requires.unwritten c.first_proved-proved.result
     c.first_proved-proved.ensures.child c.first_proved-proved.ensures.proved in
     let move : (note_at items c.first_proved-proved.result).at ≡ c.index.result.now.at =
     ap (λ (n : Note). n.at) (get_or_default items c.first_proved-proved.result no_note c.index.result.now low ∙ sym c.index.ensures) in
-    compile-few g.R.Rule.KIND c.args.self.now c.args.tree.now c.args.compiler.now c.args.node c.requires.searching c.requires.in_tree
+    compile-few c.requires.searching c.requires.in_tree
     c.requires.attack c.requires.proved c.requires.unwritten c.first_proved-proved.result c.first_proved-proved.ensures.child
     c.first_proved-proved.ensures.proved c.kids-notes.result.now are c.compile_answers.new.compiler c.index.result.now.at move
     c.in-Ok.win c.in-Ok.ensures.writes c.in-Ok.ensures.wins c.in-Ok.ensures.moves
@@ -100,34 +91,31 @@ returns-in-Ok g c =
     (drop (link_at c.args.tree.now.links c.first_proved-proved.result).first items) =
     c.kids-notes.ensures.kids ∙ ap (λ (ns : List Note). take c.link-link.result.count (drop c.link-link.result.first ns))
     c.as_slice.ensures.value ∙ ap (λ (l : Link). take l.count (drop l.first items)) c.link-link.ensures.link in
-    let low = compile-noted g.R.Rule.KIND c.args.self.now c.args.tree.now c.args.compiler.now c.args.node c.requires.searching
+    let low = compile-noted c.requires.searching
     c.requires.in_tree c.requires.attack c.requires.proved c.requires.unwritten c.first_proved-proved.result
     c.first_proved-proved.ensures.child c.first_proved-proved.ensures.proved in
     let move : (note_at items c.first_proved-proved.result).at ≡ c.index.result.now.at =
     ap (λ (n : Note). n.at) (get_or_default items c.first_proved-proved.result no_note c.index.result.now low ∙ sym c.index.ensures) in
     record {
-      win = compile-won g.R.Rule.KIND c.args.self.now c.args.tree.now c.args.compiler.now c.args.node c.requires.searching
+      win = compile-won c.requires.searching
           c.requires.in_tree c.requires.attack c.requires.proved c.requires.unwritten c.first_proved-proved.result
           c.first_proved-proved.ensures.child
           c.first_proved-proved.ensures.proved c.kids-notes.result.now are c.compile_answers.new.compiler c.index.result.now.at move
           c.in-Ok.win c.in-Ok.ensures.writes c.in-Ok.ensures.wins c.in-Ok.ensures.moves;
-      searching = compile-searches g.R.Rule.KIND c.args.self.now c.args.tree.now c.args.compiler.now c.args.node c.requires.searching
-          c.requires.in_tree c.requires.attack c.requires.proved c.requires.unwritten c.first_proved-proved.result
-          c.first_proved-proved.ensures.child
-          c.first_proved-proved.ensures.proved c.kids-notes.result.now are c.compile_answers.new.compiler c.index.result.now.at move
-          c.in-Ok.win c.in-Ok.ensures.writes c.in-Ok.ensures.wins c.in-Ok.ensures.moves c.note_win.new.self c.note_win.ensures.rest
-          c.note_win.ensures.notes;
-      keeps = compile-keeps g.R.Rule.KIND c.args.self.now c.args.tree.now c.args.compiler.now c.args.node c.requires.searching
-          c.requires.in_tree c.requires.attack c.requires.proved c.requires.unwritten c.first_proved-proved.result
-          c.first_proved-proved.ensures.child
-          c.first_proved-proved.ensures.proved c.kids-notes.result.now are c.compile_answers.new.compiler c.index.result.now.at move
-          c.in-Ok.win c.in-Ok.ensures.writes c.in-Ok.ensures.wins c.in-Ok.ensures.moves c.note_win.new.self c.note_win.ensures.rest
-          c.note_win.ensures.notes;
-      kept = compile-kept g.R.Rule.KIND c.args.self.now c.args.tree.now c.args.compiler.now c.args.node c.requires.searching
-          c.requires.in_tree c.requires.attack c.requires.proved c.requires.unwritten c.first_proved-proved.result
-          c.first_proved-proved.ensures.child
-          c.first_proved-proved.ensures.proved c.kids-notes.result.now are c.compile_answers.new.compiler c.index.result.now.at move
-          c.in-Ok.win c.in-Ok.ensures.writes c.in-Ok.ensures.wins c.in-Ok.ensures.moves;
-      full = λ e. absurd (cc);
-      full_now = λ e. absurd (cc);
+      passed = record {
+        searching = compile-searches c.requires.searching
+            c.requires.in_tree c.requires.attack c.requires.proved c.requires.unwritten c.first_proved-proved.result
+            c.first_proved-proved.ensures.child
+            c.first_proved-proved.ensures.proved c.kids-notes.result.now are c.compile_answers.new.compiler c.index.result.now.at move
+            c.in-Ok.win c.in-Ok.ensures.writes c.in-Ok.ensures.wins c.in-Ok.ensures.moves c.note_win.new.self c.note_win.ensures.rest
+            c.note_win.ensures.notes;
+        keeps = compile-keeps c.requires.searching
+            c.requires.in_tree c.requires.attack c.requires.proved c.requires.unwritten c.first_proved-proved.result
+            c.first_proved-proved.ensures.child
+            c.first_proved-proved.ensures.proved c.kids-notes.result.now are c.compile_answers.new.compiler c.index.result.now.at move
+            c.in-Ok.win c.in-Ok.ensures.writes c.in-Ok.ensures.wins c.in-Ok.ensures.moves c.note_win.new.self c.note_win.ensures.rest
+            c.note_win.ensures.notes;
+        writes = writes-more _ _ 1 _ _ c.in-Ok.ensures.writes
+            (compile-room c.requires.searching c.requires.in_tree c.requires.attack c.requires.proved c.requires.unwritten);
+      };
     }

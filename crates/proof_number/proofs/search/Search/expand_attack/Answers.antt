@@ -1,4 +1,4 @@
-use Rattle.std.proofs.Common.{◌≡◌, ◌∙◌, false, ◌+◌, ◌-◌, ℕ, inl, refl, sym, ap, subst, arith, List, length, map, replicate, All}
+use Rattle.std.proofs.Common.{rules, ◌≡◌, ◌∙◌, false, ◌+◌, ◌-◌, ℕ, inl, refl, sym, ap, subst, arith, List, length, map, replicate, All}
 use Rattle.std.proofs.lemmas.List.{get_or_default, length-replicate, nil_from_length}
 use Rattle.std.proofs.lemmas.List.Elements.{All-replicate}
 use Rattle.game_rules.specs.declared.Point.{Point}
@@ -7,43 +7,36 @@ use Rattle.threat_game.specs.Attacks.{tried_moves}
 use Rattle.proof_number.specs.declared.notes.Note.{Note}
 use Rattle.proof_number.specs.declared.search.Search.{Search}
 use Rattle.proof_number.specs.Notes.{no_note, note_at}
-use Rattle.proof_number.proofs.Steps.{attack-moves, leaf-is, leaf-noted, root-open, settled-at}
+use Rattle.proof_number.proofs.Steps.{attack-moves, leaf-is, leaf-noted, root-open, settled-at, writes-no_memory, writes-none}
 use Rattle.proof_number.proofs.Attacking.{moves-grow, moves-spent, none-grows, open_note, open_one}
 use Rattle.proof_number.proofs.ExpandedCounts.{budget-few, defended-few, short-there, sums-there}
 use Rattle.proof_number.proofs.search.Search.expand_attack.Goals as goal
 
 pub settle-requires : goal.settle-requires
 settle-requires g c = record {
-  «open» = root-open g.R.Rule.KIND c.args.self.now c.args.tree.now c.args.compiler.now c.args.leaf
-      c.args.self.now.board c.requires.at_leaf;
+  «open» = root-open c.requires.at_leaf;
 }
 
 pub overflow_add-count : goal.overflow_add-count
-overflow_add-count g c = let few = defended-few g.R.Rule.KIND c.args.self.now c.args.tree.now c.args.compiler.now c.args.leaf
-    c.args.self.now.board c.requires.at_leaf in omega (arith, few)
+overflow_add-count g c = let few = defended-few c.requires.at_leaf in omega (arith, few)
 
 pub index-requires : goal.index-requires
-index-requires g c = let low = leaf-noted g.R.Rule.KIND c.args.self.now c.args.tree.now c.args.compiler.now c.args.leaf
-    c.args.self.now.board c.requires.at_leaf in omega (arith, low)
+index-requires g c = let low = leaf-noted c.requires.at_leaf in omega (arith, low)
 
 pub overflow_sub-left : goal.overflow_sub-left
 overflow_sub-left g c =
-    let noted = leaf-noted g.R.Rule.KIND c.args.self.now c.args.tree.now c.args.compiler.now c.args.leaf c.args.self.now.board
-    c.requires.at_leaf in
+    let noted = leaf-noted c.requires.at_leaf in
     let note : c.index.result.now ≡ note_at c.args.self.now.notes.items c.args.leaf =
     c.index.ensures ∙ get_or_default c.args.self.now.notes.items c.args.leaf c.index.result.now no_note noted in
     let same = ap (λ (n : Note). n.left) note in
-    let two = attack-moves g.R.Rule.KIND c.args.self.now c.args.tree.now c.args.compiler.now c.args.leaf c.args.self.now.board
-    c.requires.at_leaf c.requires.attack in
+    let two = attack-moves c.requires.at_leaf c.requires.attack in
     omega (arith, same, two)
 
 pub expand-requires-clause-open : goal.expand-requires-clause-open
-expand-requires-clause-open g c = root-open g.R.Rule.KIND c.args.self.now c.args.tree.now c.args.compiler.now c.args.leaf
-    c.args.self.now.board c.requires.at_leaf
+expand-requires-clause-open g c = root-open c.requires.at_leaf
 
 pub expand-requires-clause-leaf : goal.expand-requires-clause-leaf
-expand-requires-clause-leaf g c = leaf-is g.R.Rule.KIND c.args.self.now c.args.tree.now c.args.compiler.now c.args.leaf
-    c.args.self.now.board c.requires.at_leaf
+expand-requires-clause-leaf g c = leaf-is c.requires.at_leaf
 
 pub expand-requires-clause-short : goal.expand-requires-clause-short
 expand-requires-clause-short g c =
@@ -53,10 +46,8 @@ expand-requires-clause-short g c =
     ap length are ∙ length-replicate (length c.args.moves.now) open_one in
     let some = c.if-moves-eq0.false in
     let within = c.if-count-self.false in
-    let few = budget-few g.R.Rule.KIND c.args.self.now c.args.tree.now c.args.compiler.now c.args.leaf c.args.self.now.board
-    c.requires.at_leaf in
-    short-there g.R.Rule.KIND c.args.self.now c.args.tree.now c.args.compiler.now c.args.leaf c.args.self.now.board c.requires.at_leaf
-    c.as_slice.result.now (omega (arith, long, some)) (omega (arith, long, within, few))
+    let few = budget-few c.requires.at_leaf in
+    short-there c.requires.at_leaf c.as_slice.result.now (omega (arith, long, some)) (omega (arith, long, within, few))
 
 pub expand-requires-clause-sums : goal.expand-requires-clause-sums
 expand-requires-clause-sums g c =
@@ -66,41 +57,46 @@ expand-requires-clause-sums g c =
     ap length are ∙ length-replicate (length c.args.moves.now) open_one in
     let some = c.if-moves-eq0.false in
     let within = c.if-count-self.false in
-    let few = budget-few g.R.Rule.KIND c.args.self.now c.args.tree.now c.args.compiler.now c.args.leaf c.args.self.now.board
-    c.requires.at_leaf in
+    let few = budget-few c.requires.at_leaf in
     let fresh : All IsFresh c.as_slice.result.now = subst (All IsFresh) (sym are)
     (All-replicate IsFresh (length c.args.moves.now) open_one (inl refl)) in
-    sums-there g.R.Rule.KIND c.args.self.now c.args.tree.now c.args.compiler.now c.args.leaf c.args.self.now.board c.requires.at_leaf
-    c.as_slice.result.now (omega (arith, long, some)) (omega (arith, long, within, few)) fresh
+    sums-there c.requires.at_leaf c.as_slice.result.now (omega (arith, long, some)) (omega (arith, long, within, few)) fresh
 
-pub returns-then-moves-eq0-clause-step : goal.returns-then-moves-eq0-clause-step
-returns-then-moves-eq0-clause-step g c =
-    let is = leaf-is g.R.Rule.KIND c.args.self.now c.args.tree.now c.args.compiler.now c.args.leaf c.args.self.now.board
-    c.requires.at_leaf in
-    none-grows g.R.Rule.KIND c.args.self.now c.args.tree.now c.args.compiler.now c.args.leaf c.requires.at_leaf c.requires.attack
-    c.requires.others (sym c.requires.moves ∙ nil_from_length c.args.moves.now c.if-moves-eq0.true)
-    c.settle.new.self (settled-at c.args.tree.now c.settle.new.self c.args.leaf false is c.settle.ensures.links c.settle.ensures.settled
-    c.settle.ensures.others c.settle.ensures.leaves c.settle.ensures.tree)
+pub returns-then-moves-eq0 : goal.returns-then-moves-eq0
+returns-then-moves-eq0 g c =
+    let is = leaf-is c.requires.at_leaf in
+    record {
+      tried = record {
+        step = none-grows c.requires.at_leaf c.requires.attack
+            c.requires.others (sym c.requires.moves ∙ nil_from_length c.args.moves.now c.if-moves-eq0.true)
+            c.settle.new.self (settled-at c.args.tree.now c.settle.new.self c.args.leaf false is c.settle.ensures.links
+            c.settle.ensures.settled
+            c.settle.ensures.others c.settle.ensures.leaves c.settle.ensures.tree);
+        writes = writes-none c.requires.at_leaf _;
+      };
+    }
 
-pub returns-then-count-self-clause-step : goal.returns-then-count-self-clause-step
-returns-then-count-self-clause-step g c =
-    let two = attack-moves g.R.Rule.KIND c.args.self.now c.args.tree.now c.args.compiler.now c.args.leaf c.args.self.now.board
-    c.requires.at_leaf c.requires.attack in
+pub returns-then-count-self : goal.returns-then-count-self
+returns-then-count-self g c =
+    let two = attack-moves c.requires.at_leaf c.requires.attack in
     let left : ℕ = (note_at c.args.self.now.notes.items c.args.leaf).left in
     let over = c.if-count-self.true in
     let same = ap length c.requires.moves in
-    moves-spent g.R.Rule.KIND c.args.self.now c.args.tree.now c.args.compiler.now c.args.leaf c.requires.at_leaf c.requires.attack
-    c.requires.others (left - 1) (omega (arith, two)) (omega (arith, over, same))
+    record {
+      tried = record {
+        step = moves-spent c.requires.at_leaf c.requires.attack
+            c.requires.others (left - 1) (omega (arith, two)) (omega (arith, over, same));
+        writes = writes-none c.requires.at_leaf _;
+      };
+    }
 
-pub returns-clause-step : goal.returns-clause-step
-returns-clause-step g c =
-    let noted = leaf-noted g.R.Rule.KIND c.args.self.now c.args.tree.now c.args.compiler.now c.args.leaf c.args.self.now.board
-    c.requires.at_leaf in
+pub returns : goal.returns
+returns g c =
+    let noted = leaf-noted c.requires.at_leaf in
     let note : c.index.result.now ≡ note_at c.args.self.now.notes.items c.args.leaf =
     c.index.ensures ∙ get_or_default c.args.self.now.notes.items c.args.leaf c.index.result.now no_note noted in
     let same = ap (λ (n : Note). n.left) note in
-    let two = attack-moves g.R.Rule.KIND c.args.self.now c.args.tree.now c.args.compiler.now c.args.leaf c.args.self.now.board
-    c.requires.at_leaf c.requires.attack in
+    let two = attack-moves c.requires.at_leaf c.requires.attack in
     let size = ap length c.requires.moves in
     let some = c.if-moves-eq0.false in
     let within = c.if-count-self.false in
@@ -108,13 +104,37 @@ returns-clause-step g c =
     let count : c.args.self.now.defended + length c.args.moves.now ≡ c.args.self.now.defended + length
     (tried_moves g.R.Rule.KIND c.args.self.now.board) =
     ap (λ (ps : List Point). c.args.self.now.defended + length ps) c.requires.moves in
-    moves-grow g.R.Rule.KIND c.args.self.now c.args.tree.now c.args.compiler.now c.args.leaf c.requires.at_leaf c.requires.attack
-    c.requires.others left (omega (arith, same, two)) (omega (arith, size, some))
-    c.expand.new.tree c.as_slice.result.now
-    (c.as_slice.ensures.value ∙ c.in_ok-numbers.ensures.numbers
-    ∙ ap (λ (ps : List Point). replicate (length ps) open_one) c.requires.moves) c.in_ok-expand.ensures.tree
-    (record c.expand.new.self { defended = c.args.self.now.defended + length c.args.moves.now }) c.as_slice-2.result.now
-    (c.as_slice-2.ensures.value ∙ c.in_ok-notes.ensures.notes ∙ ap (map (open_note left)) c.requires.moves) c.in_ok-expand.ensures.notes
-    (ap (λ (s : Search). record s { defended = c.args.self.now.defended + length c.args.moves.now }) c.expand.ensures.rest
-    ∙ ap (λ (k : ℕ). record c.args.self.now { notes = c.expand.new.self.notes; defended = k }) count)
-    (omega (arith, count, within))
+    record {
+      tried = record {
+        step = moves-grow c.requires.at_leaf c.requires.attack
+            c.requires.others left (omega (arith, same, two)) (omega (arith, size, some)) c.expand.new.tree c.as_slice.result.now
+            (c.as_slice.ensures.value ∙ c.in_ok-numbers.ensures.numbers
+            ∙ ap (λ (ps : List Point). replicate (length ps) open_one) c.requires.moves) c.in_ok-expand.ensures.tree
+            (record c.expand.new.self { defended = c.args.self.now.defended + length c.args.moves.now }) c.as_slice-2.result.now
+            (c.as_slice-2.ensures.value ∙ c.in_ok-notes.ensures.notes ∙ ap (map (open_note left)) c.requires.moves)
+            c.in_ok-expand.ensures.notes
+            (ap (λ (s : Search). record s { defended = c.args.self.now.defended + length c.args.moves.now }) c.expand.ensures.rest
+            ∙ ap (λ (k : ℕ). record c.args.self.now { notes = c.expand.new.self.notes; defended = k }) count)
+            (omega (arith, count, within));
+        writes = writes-none c.requires.at_leaf _;
+      };
+    }
+
+pub returns-in_err-numbers : goal.returns-in_err-numbers
+returns-in_err-numbers g c = record {
+  tried = record {
+    step = search rules;
+    writes = writes-no_memory (search rules);
+  };
+}
+
+pub returns-in_err-notes : goal.returns-in_err-notes
+returns-in_err-notes g c = record {
+  tried = record {
+    step = search rules;
+    writes = writes-no_memory (search rules);
+  };
+}
+
+pub returns-in_err-expand : goal.returns-in_err-expand
+returns-in_err-expand g c = record { tried = record { step = search rules; writes = writes-no_memory (search rules) } }

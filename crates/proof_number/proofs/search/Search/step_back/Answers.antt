@@ -14,8 +14,7 @@ undo-requires-clause-stone g c =
     let at : move_at game.moves c.args.node ≡ c.index.result.now.at =
     noted-move c.args.self.now.notes.items c.args.node c.index.result.now no_note (omega (arith, same, long, c.requires.in_tree))
     c.index.ensures in
-    move-stone game c.requires.tree c.requires.game c.args.node c.requires.some c.requires.in_tree c.index.result.now.at at _
-    c.requires.view
+    move-stone c.requires.tree c.requires.game c.args.node c.requires.some c.requires.in_tree c.index.result.now.at at _ c.requires.view
 
 pub undo-requires-clause-unwon : goal.undo-requires-clause-unwon
 undo-requires-clause-unwon g c =
@@ -25,8 +24,7 @@ undo-requires-clause-unwon g c =
     let at : move_at game.moves c.args.node ≡ c.index.result.now.at =
     noted-move c.args.self.now.notes.items c.args.node c.index.result.now no_note (omega (arith, same, long, c.requires.in_tree))
     c.index.ensures in
-    move-unwon game c.requires.tree c.requires.game c.args.node c.requires.some c.requires.in_tree c.index.result.now.at at _
-    c.requires.view
+    move-unwon c.requires.tree c.requires.game c.args.node c.requires.some c.requires.in_tree c.index.result.now.at at _ c.requires.view
 
 pub lift-requires : goal.lift-requires
 lift-requires g c =
@@ -37,7 +35,7 @@ lift-requires g c =
     noted-move c.args.self.now.notes.items c.args.node c.index.result.now no_note (omega (arith, same, long, c.requires.in_tree))
     c.index.ensures in
     record {
-      stone = move-holds game c.requires.tree c.requires.game c.args.node c.requires.some c.requires.in_tree c.index.result.now.at at
+      stone = move-holds c.requires.tree c.requires.game c.args.node c.requires.some c.requires.in_tree c.index.result.now.at at
           c.args.self.now.board c.requires.board;
     }
 
@@ -49,7 +47,7 @@ returns-clause-view g c =
     let at : move_at game.moves c.args.node ≡ c.index.result.now.at =
     noted-move c.args.self.now.notes.items c.args.node c.index.result.now no_note (omega (arith, same, long, c.requires.in_tree))
     c.index.ensures in
-    c.undo.ensures.undone ∙ move-lifted game c.requires.tree c.requires.game c.args.node c.requires.some c.requires.in_tree
+    c.undo.ensures.undone ∙ move-lifted c.requires.tree c.requires.game c.args.node c.requires.some c.requires.in_tree
     c.index.result.now.at at _ c.requires.view
 
 pub returns-clause-board : goal.returns-clause-board
@@ -60,5 +58,5 @@ returns-clause-board g c =
     let at : move_at game.moves c.args.node ≡ c.index.result.now.at =
     noted-move c.args.self.now.notes.items c.args.node c.index.result.now no_note (omega (arith, same, long, c.requires.in_tree))
     c.index.ensures in
-    c.lift.ensures.lift ∙ move-lifted game c.requires.tree c.requires.game c.args.node c.requires.some c.requires.in_tree
+    c.lift.ensures.lift ∙ move-lifted c.requires.tree c.requires.game c.args.node c.requires.some c.requires.in_tree
     c.index.result.now.at at c.args.self.now.board c.requires.board

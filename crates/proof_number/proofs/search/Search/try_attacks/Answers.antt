@@ -1,31 +1,26 @@
-use Rattle.std.proofs.Common.{◌≡◌, ◌∙◌, true, sym, ap, subst}
+use Rattle.std.proofs.Common.{rules, ◌≡◌, ◌∙◌, true, sym, ap, subst}
 use Rattle.game_rules.specs.Grid.{Grid}
 use Rattle.threat_game.specs.declared.attacks.Attacks.TheVariants.{NoReply, Moves}
 use Rattle.threat_game.specs.Attacks.{AreAttacks, OthersFail, is_last_move, tried_moves}
-use Rattle.proof_number.proofs.Steps.{attack-no_five, leaf-board, board-stands}
+use Rattle.proof_number.proofs.Steps.{attack-no_five, board-stands, leaf-board, tried-on-board, writes-no_memory}
 use Rattle.proof_number.proofs.search.Search.try_attacks.Goals as goal
 
 pub find_attacks-requires-clause-none : goal.find_attacks-requires-clause-none
-find_attacks-requires-clause-none g c = attack-no_five g.R.Rule.KIND c.args.self.now c.args.tree.now c.args.compiler.now c.args.leaf
-    (g.V.Seen.position c.args.view.now) c.requires.at_leaf c.requires.attack
+find_attacks-requires-clause-none g c = attack-no_five c.requires.at_leaf c.requires.attack
 
 pub find_attacks-requires-clause-copy : goal.find_attacks-requires-clause-copy
-find_attacks-requires-clause-copy g c = leaf-board g.R.Rule.KIND c.args.self.now c.args.tree.now c.args.compiler.now c.args.leaf
-    (g.V.Seen.position c.args.view.now) c.requires.at_leaf
+find_attacks-requires-clause-copy g c = leaf-board c.requires.at_leaf
 
 pub win_last-requires-clause-at_leaf : goal.win_last-requires-clause-at_leaf
-win_last-requires-clause-at_leaf g c = board-stands g.R.Rule.KIND c.args.self.now c.args.tree.now c.args.compiler.now c.args.leaf
-    (g.V.Seen.position c.args.view.now) c.requires.at_leaf _ c.find_attacks.ensures.same_board
+win_last-requires-clause-at_leaf g c = board-stands c.requires.at_leaf _ c.find_attacks.ensures.same_board
 
 pub expand_attack-requires-clause-at_leaf : goal.expand_attack-requires-clause-at_leaf
-expand_attack-requires-clause-at_leaf g c = board-stands g.R.Rule.KIND c.args.self.now c.args.tree.now c.args.compiler.now c.args.leaf
-    (g.V.Seen.position c.args.view.now) c.requires.at_leaf _ c.find_attacks.ensures.same_board
+expand_attack-requires-clause-at_leaf g c = board-stands c.requires.at_leaf _ c.find_attacks.ensures.same_board
 
 pub win_last-requires-clause-last : goal.win_last-requires-clause-last
 win_last-requires-clause-last g c =
     let board : c.find_attacks.new.board ≡ g.V.Seen.position c.args.view.now =
-    c.find_attacks.ensures.same_board ∙ leaf-board g.R.Rule.KIND c.args.self.now c.args.tree.now c.args.compiler.now c.args.leaf
-    (g.V.Seen.position c.args.view.now) c.requires.at_leaf in
+    c.find_attacks.ensures.same_board ∙ leaf-board c.requires.at_leaf in
     let all : AreAttacks g.R.Rule.KIND (g.V.Seen.position c.args.view.now) (NoReply c.in-NoReply.p) =
     subst (AreAttacks g.R.Rule.KIND (g.V.Seen.position c.args.view.now)) c.in-NoReply.is c.in_ok-double.ensures.attacks in
     subst (λ (b : Grid). is_last_move g.R.Rule.KIND b c.in-NoReply.p ≡ true) (sym board) all
@@ -33,8 +28,7 @@ win_last-requires-clause-last g c =
 pub expand_attack-requires-clause-moves : goal.expand_attack-requires-clause-moves
 expand_attack-requires-clause-moves g c =
     let board : c.find_attacks.new.board ≡ g.V.Seen.position c.args.view.now =
-    c.find_attacks.ensures.same_board ∙ leaf-board g.R.Rule.KIND c.args.self.now c.args.tree.now c.args.compiler.now c.args.leaf
-    (g.V.Seen.position c.args.view.now) c.requires.at_leaf in
+    c.find_attacks.ensures.same_board ∙ leaf-board c.requires.at_leaf in
     let all : AreAttacks g.R.Rule.KIND (g.V.Seen.position c.args.view.now) (Moves c.in-Moves.moves) =
     subst (AreAttacks g.R.Rule.KIND (g.V.Seen.position c.args.view.now)) c.in-Moves.is c.in_ok-double.ensures.attacks in
     c.as_slice.ensures.items ∙ all.0 ∙ ap (tried_moves g.R.Rule.KIND) (sym board)
@@ -42,8 +36,19 @@ expand_attack-requires-clause-moves g c =
 pub expand_attack-requires-clause-others : goal.expand_attack-requires-clause-others
 expand_attack-requires-clause-others g c =
     let board : c.find_attacks.new.board ≡ g.V.Seen.position c.args.view.now =
-    c.find_attacks.ensures.same_board ∙ leaf-board g.R.Rule.KIND c.args.self.now c.args.tree.now c.args.compiler.now c.args.leaf
-    (g.V.Seen.position c.args.view.now) c.requires.at_leaf in
+    c.find_attacks.ensures.same_board ∙ leaf-board c.requires.at_leaf in
     let all : AreAttacks g.R.Rule.KIND (g.V.Seen.position c.args.view.now) (Moves c.in-Moves.moves) =
     subst (AreAttacks g.R.Rule.KIND (g.V.Seen.position c.args.view.now)) c.in-Moves.is c.in_ok-double.ensures.attacks in
     subst (OthersFail g.R.Rule.KIND) (sym board) all.1
+
+pub returns-in_err-double-clause-tried : goal.returns-in_err-double-clause-tried
+returns-in_err-double-clause-tried g c = record { step = search rules; writes = writes-no_memory (search rules) }
+
+pub returns-in-DoublePoint-clause-tried : goal.returns-in-DoublePoint-clause-tried
+returns-in-DoublePoint-clause-tried g c = tried-on-board c.find_attacks.ensures.same_board c.win_double.ensures.tried
+
+pub returns-in-NoReply-clause-tried : goal.returns-in-NoReply-clause-tried
+returns-in-NoReply-clause-tried g c = tried-on-board c.find_attacks.ensures.same_board c.win_last.ensures.tried
+
+pub returns-in-Moves-clause-tried : goal.returns-in-Moves-clause-tried
+returns-in-Moves-clause-tried g c = tried-on-board c.find_attacks.ensures.same_board c.expand_attack.ensures.tried

@@ -3,20 +3,19 @@ use Rattle.proof_tree.proofs.Common.{is_settled, settled_numbers, numbers_at}
 use Rattle.proof_tree.specs.declared.Link.{Link}
 use Rattle.proof_tree.specs.declared.Numbers.{Numbers}
 use Rattle.proof_tree.proofs.Settled.{settled-lost, settled-won}
-use Rattle.proof_number.proofs.Recording.{lost-there, lost-there-by, other-searches, won-there}
+use Rattle.proof_number.proofs.Recording.{lost-there, lost-there-by, other-searches, passed-fails, passed-idle, passed-tells, won-there}
 use Rattle.proof_number.proofs.search.Search.value_at.Goals as goal
 
-pub returns-in-Defend-clause-searching : goal.returns-in-Defend-clause-searching
-returns-in-Defend-clause-searching g c =
-    other-searches g.R.Rule.KIND c.args.self.now c.args.tree.now c.args.compiler.now c.args.node c.requires.searching
-    (inl (ap (λ (l : Link). l.kind) (sym c.link.ensures.link) ∙ c.in-Defend.is))
+pub returns-in-Defend-clause-passed : goal.returns-in-Defend-clause-passed
+returns-in-Defend-clause-passed g c =
+    passed-idle _ (other-searches c.requires.searching (inl (ap (λ (l : Link). l.kind) (sym c.link.ensures.link) ∙ c.in-Defend.is)))
 
-pub returns-then-not-is_settled-clause-searching : goal.returns-then-not-is_settled-clause-searching
-returns-then-not-is_settled-clause-searching g c =
+pub returns-then-not-is_settled-clause-passed : goal.returns-then-not-is_settled-clause-passed
+returns-then-not-is_settled-clause-passed g c =
     let unsettled : is_settled (numbers_at c.args.tree.now.numbers c.args.node) ≡ false =
     ap is_settled (sym c.numbers-numbers.ensures.numbers) ∙ sym c.is_settled.ensures.settled ∙ c.if-not-is_settled.true in
-    other-searches g.R.Rule.KIND c.args.self.now c.args.tree.now c.args.compiler.now c.args.node c.requires.searching
-    (inr (λ proved. let bad : false ≡ true = sym unsettled ∙ ap is_settled proved in cc))
+    passed-idle _ (other-searches c.requires.searching
+    (inr (λ proved. let bad : false ≡ true = sym unsettled ∙ ap is_settled proved in cc)))
 
 pub returns-then-numbers-ne0-clause-value : goal.returns-then-numbers-ne0-clause-value
 returns-then-numbers-ne0-clause-value g c =
@@ -25,16 +24,16 @@ returns-then-numbers-ne0-clause-value g c =
     let lost : numbers_at c.args.tree.now.numbers c.args.node ≡ settled_numbers false =
     settled-lost (numbers_at c.args.tree.now.numbers c.args.node) settled
     (λ nothing. c.if-numbers-ne0.true (ap (λ (n : Numbers). n.proof) c.numbers-numbers.ensures.numbers ∙ nothing)) in (
-      lost-there g.R.Rule.KIND c.args.self.now c.args.tree.now c.args.compiler.now c.args.node c.requires.searching c.requires.in_tree
+      lost-there c.requires.searching c.requires.in_tree
           (ap (λ (l : Link). l.kind) (sym c.link.ensures.link) ∙ c.in-Attack.is) lost,
-      lost-there-by g.R.Rule.KIND c.args.self.now c.args.tree.now c.args.compiler.now c.args.node c.requires.searching c.requires.in_tree
+      lost-there-by c.requires.searching c.requires.in_tree
           (ap (λ (l : Link). l.kind) (sym c.link.ensures.link) ∙ c.in-Attack.is) lost,
     )
 
-pub returns-then-numbers-ne0-clause-searching : goal.returns-then-numbers-ne0-clause-searching
-returns-then-numbers-ne0-clause-searching g c =
-    other-searches g.R.Rule.KIND c.args.self.now c.args.tree.now c.args.compiler.now c.args.node c.requires.searching
-    (inr (λ proved. c.if-numbers-ne0.true (ap (λ (n : Numbers). n.proof) (c.numbers-numbers.ensures.numbers ∙ proved))))
+pub returns-then-numbers-ne0-clause-passed : goal.returns-then-numbers-ne0-clause-passed
+returns-then-numbers-ne0-clause-passed g c =
+    passed-idle _ (other-searches c.requires.searching
+    (inr (λ proved. c.if-numbers-ne0.true (ap (λ (n : Numbers). n.proof) (c.numbers-numbers.ensures.numbers ∙ proved)))))
 
 pub returns-in-Ok-clause-value : goal.returns-in-Ok-clause-value
 returns-in-Ok-clause-value g c =
@@ -44,6 +43,12 @@ returns-in-Ok-clause-value g c =
     settled-won (numbers_at c.args.tree.now.numbers c.args.node) settled
     (ap (λ (n : Numbers). n.proof) (sym c.numbers-numbers.ensures.numbers) ∙ c.if-numbers-ne0.false) in (
       c.in-Ok.ensures.win,
-      won-there g.R.Rule.KIND c.args.self.now c.args.tree.now c.args.compiler.now c.args.node c.requires.searching c.requires.in_tree
+      won-there c.requires.searching c.requires.in_tree
           (ap (λ (l : Link). l.kind) (sym c.link.ensures.link) ∙ c.in-Attack.is) won,
     )
+
+pub returns-in-Err-clause-passed : goal.returns-in-Err-clause-passed
+returns-in-Err-clause-passed g c = passed-fails c.in-Err.ensures.passed
+
+pub returns-in-Ok-clause-passed : goal.returns-in-Ok-clause-passed
+returns-in-Ok-clause-passed g c = passed-tells _ c.in-Ok.ensures.passed

@@ -1,0 +1,23 @@
+-- What the words of the contracts stand for.
+use Rattle.std.proofs.Common.{ℕ, List}
+use Rattle.game_rules.proofs.Common.{Grid}
+use Rattle.game_rules.specs.declared.RuleKind.{RuleKind}
+use Rattle.proof_tree.proofs.Common.{Tree}
+use Rattle.strategy_graph.specs.declared.Node.{Node}
+use Rattle.proof_number.specs.declared.search.Search.{Search}
+use Rattle.proof_number.specs.Searches.{Grows, HasGrown, IsAtLeaf, IsSearching, Searches, StandsAt}
+use Rattle.proof_number.specs.Searches.Searches.{known_searching}
+use Rattle.proof_number.specs.Searches.StandsAt.{known_at_leaf}
+use Rattle.proof_number.specs.Searches.Grows.{known_grown}
+
+pub searching-facts : {rule : RuleKind} {s : Search} {t : Tree} {c : List Node} {way : ℕ → Type 0} → Searches rule s t c way
+    → IsSearching rule s t c way
+searching-facts (known_searching h) = h
+
+pub leaf-facts : {rule : RuleKind} {s : Search} {t : Tree} {c : List Node} {leaf : ℕ} {view : Grid} → StandsAt rule s t c leaf view
+    → IsAtLeaf rule s t c leaf view
+leaf-facts (known_at_leaf h) = h
+
+pub grown-facts : {rule : RuleKind} {s v : Search} {t u : Tree} {d : List Node} {leaf : ℕ} → Grows rule s v t u d leaf
+    → HasGrown rule s v t u d leaf
+grown-facts (known_grown h) = h
