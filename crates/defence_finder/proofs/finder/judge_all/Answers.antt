@@ -1,4 +1,4 @@
-use Rattle.std.proofs.Common.{subst, sym, Option}
+use Rattle.std.proofs.Common.{subst, Option}
 use Rattle.game_rules.specs.declared.Point.{Point}
 use Rattle.defence_finder.specs.Finding.{IsWalked}
 use Rattle.defence_finder.proofs.Gathering.{all-told}
