@@ -15,9 +15,9 @@ from trying import EXAMPLES, PROGRAM, SECONDS, TABLE, TEXT, expect, fails, run, 
 
 # The usual slips: what is changed in the text, and what is said of it.
 SLIPS = [
-    (("renju-position 1\n", ""), "line 1: it is renju-position 1 of a position, and .*"),
-    (("renju-position 1", "renju-position"), "line 1: it is renju-position 1 .*"),
-    (("renju-position 1", "Renju-Position 1"), "line 1: it is renju-position 1 .*"),
+    (("renju-position 1\n", ""), "line 1: 'rule freestyle' begins no text: a position begins with .*"),
+    (("renju-position 1", "renju-position"), "line 1: 'renju-position' begins no text: .*"),
+    (("renju-position 1", "Renju-Position 1"), "line 1: 'Renju-Position 1' begins no text: .*"),
     (("renju-position 1", "renju-position 1 "), "line 1: a space stands at its end"),
     (("renju", "\ufeffrenju"), "line 1: a byte order mark stands before the text"),
     (("renju", "\nrenju"), "line 1: it is empty"),
@@ -139,9 +139,12 @@ def positions():
     expect("position.py: a table", run("position.py", [], TABLE)[1], TEXT)
     expect(
         "position.py: what was wrong", run("position.py", [], TEXT.replace("5,7 6,7", "6,7 5,7"))[2],
-        re.compile("position.py: line 4: 5,7 stands before 6,7: .*\n"),
+        re.compile("position.py: line 4: 5,7 stands before 6,7: .*\nposition.py: Black is to move: 3 black stones, 3 white stones\n"),
     )
-    expect("position.py: nothing was wrong", run("position.py", [], TEXT), (0, TEXT, "position.py: the text is spelled as it has to be\n"))
+    said = "position.py: the text is spelled as it has to be\nposition.py: Black is to move: 3 black stones, 3 white stones\n"
+    expect("position.py: nothing was wrong", run("position.py", [], TEXT), (0, TEXT, said))
+    turn = "position.py: White is to move: 2 black stones, 1 white stone\n"
+    expect("position.py: White's turn, from standard input", run("position.py", ["-"], "h8 g9 i9"), (0, game, turn))
     untaken = [
         ("nothing", [], "", "there are no stones in it"),
         ("a word", [], "black 7,7 zz\nwhite\n", "'zz', which is no point"),
@@ -150,7 +153,7 @@ def positions():
         ("a move twice", [], "7,7 7,7", r"move 2: a stone stands on 7,7 \(h8\) already"),
         ("too many stones", [], "black 7,7 8,8\nwhite\n", "Black has 2 stones and White 0"),
         ("moves after a win", [], "a1 a2 b1 b2 c1 c2 d1 d2 e1 e2", "move 9 wins"),
-        ("a diagram of uneven rows", [], ".....\n....\n.....\n", "row 1 of the diagram has 4 points"),
+        ("a diagram of uneven rows", [], ".....\n....\n.....\n", "line 2 of the diagram has 4 points, and its first line has 5"),
         ("a diagram that is small", [], "X.\n.O\n", "a board has 5 to 32"),
         ("a part without a place", ["--size", "15"], "X.....\nO.....\n", "say by --at X,Y"),
         ("an unknown rule", ["--rule", "caro"], "h8", "caro is no rule"),
@@ -249,7 +252,10 @@ def pictures():
         Path(folder, "t.txt").write_text(TABLE)
         status, _, errors = run("pictures.py", ["t.txt"], cwd=folder)
         expect("pictures.py: beside its text", (status, errors, sorted(os.listdir(folder))), (0, "", ["t.svg", "t.txt"]))
-        expect("pictures.py: the same of an input", run("pictures.py", ["-"], TABLE)[1], Path(folder, "t.svg").read_text())
+        expect(
+            "pictures.py: the same of an input", run("pictures.py", ["-"], TABLE)[1],
+            Path(folder, "t.svg").read_text().replace(' data-of="t.txt"', "", 1),
+        )
 
 
 def sessions():
@@ -301,7 +307,7 @@ def sessions():
         )
     fails("play.py: a position", "play.py", [EXAMPLES / "three-in-a-row.txt"], "", "has to be a table whose own side moves first")
     fails("play.py: no rule", "play.py", ["--rule", "caro"], "", "caro is no rule")
-    fails("play.py: no size", "play.py", ["--size", "40"], "", "the brain says: ERROR unsupported size")
+    fails("play.py: no size", "play.py", ["--size", "40"], "", "a board has 5 to 32 columns and rows, and not 40 by 40")
     position = Position("renju", 15, 15, [(7, 6), (6, 7), (8, 7), (7, 8)], [(0, 0), (14, 0), (0, 14), (14, 14)])
     expect(
         "play.py: fouls are crossed", [line for line in position.drawn(position.fouls()) if "x" in line],
@@ -314,7 +320,7 @@ def joined():
     with tempfile.TemporaryDirectory() as folder:
         for name, text in (("t", TABLE), ("no", TABLE.replace("3,7>1", "3,7>0")), ("p", TEXT)):
             Path(folder, name).write_text(text)
-        made = lambda *files: run("books.py", ["out", *files], cwd=folder)
+        made = lambda *files: run("books.py", ["--replace", "out", *files], cwd=folder)
         one = subprocess.run([PROGRAM, "bind", "t"], capture_output=True, cwd=folder, timeout=SECONDS).stdout.decode()
         expect("books.py: one table", made("t"), (0, "out: 1 entries, 3 nodes\n", ""))
         expect("books.py: the book of one table", Path(folder, "out").read_text(), one)
@@ -328,7 +334,7 @@ def joined():
         expect("books.py: a table that is not accepted", made("t", "no"), (4, "no refused attack-refused 4,7 3,7 3,7\n", ""))
         expect("books.py: a position", made("t", "p"), (3, "p refused line 1\n", ""))
         fails("books.py: no such file", "books.py", [f"{folder}/out", "none"], "", "none cannot be read")
-        fails("books.py: too many entries", "books.py", [f"{folder}/out", *16 * [f"{folder}/m"]], "", "at most 1,000 entries")
+        fails("books.py: too many entries", "books.py", ["--replace", f"{folder}/out", *16 * [f"{folder}/m"]], "", "at most 1,000 entries")
 
 
 if __name__ == "__main__":

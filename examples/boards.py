@@ -1,8 +1,9 @@
-"""Positions and tables as texts, for the scripts beside this file: read strictly, with what is wrong in words, and written.
+"""Positions, tables and books as texts, for the scripts beside this file: read strictly, with what is wrong in words, and written.
 
 A point is a column and a row, both from 0, so that 0,0 is the upper left corner. Players write h8 for 7,7 on a board of 15: the
 column as a letter, and the row counted from below. docs/FORMATS.md has the texts.
 """
+import errno
 import os
 import re
 import subprocess
@@ -17,6 +18,7 @@ RULES = ("freestyle", "exact", "renju")
 SIDES = ("black", "white")
 LEAST, MOST = 5, 32
 MOST_NODES = 1_000_000
+MOST_ENTRIES = 1_000
 WAYS = ((1, 0), (0, 1), (1, 1), (1, -1))
 
 
@@ -65,6 +67,11 @@ class Position:
         """The side to move."""
         return "black" if len(self.black) == len(self.white) else "white"
 
+    def to_move(self):
+        """Who is to move, and why."""
+        counted = lambda side: f"{len(getattr(self, side))} {side} stone{'' if len(getattr(self, side)) == 1 else 's'}"
+        return f"{self.side().capitalize()} is to move: {counted('black')}, {counted('white')}"
+
     def stones(self):
         return {**{point: "black" for point in self.black}, **{point: "white" for point in self.white}}
 
@@ -101,13 +108,19 @@ class Position:
 
     def wins(self, stones, point, way):
         """Whether the run through a stone in a way wins."""
-        side, run = stones[point], 1
-        for sign in (1, -1):
-            x, y = point
-            while stones.get((x + sign * way[0], y + sign * way[1])) == side:
-                x, y, run = x + sign * way[0], y + sign * way[1], run + 1
+        side, run = stones[point], len(run_through(stones, point, way))
         exactly = self.rule == "exact" or self.rule == "renju" and side == "black"
         return run == 5 if exactly else run >= 5
+
+    def empties(self):
+        """The empty points, in reading order."""
+        stones = self.stones()
+        return [(x, y) for y in range(self.height) for x in range(self.width) if (x, y) not in stones]
+
+    def fives(self, side):
+        """The empty points where a stone of the side makes a run that wins."""
+        stones = self.stones()
+        return [it for it in self.empties() if any(self.wins({**stones, it: side}, it, way) for way in WAYS)]
 
     def lawful(self):
         """The position itself, where someone is to move in it."""
@@ -142,6 +155,17 @@ class Position:
         yield names
 
 
+def run_through(stones, point, way):
+    """The unbroken row of one side's stones through a stone in a way, in order."""
+    side, run = stones[point], [point]
+    for sign in (1, -1):
+        x, y = point
+        while stones.get((x + sign * way[0], y + sign * way[1])) == side:
+            x, y = x + sign * way[0], y + sign * way[1]
+            run.append((x, y))
+    return sorted(run, key=lambda p: (p[0] * way[0], p[1] * way[1]))
+
+
 @dataclass
 class Node:
     """A node of a table: its attack (none at a start), the node that answers the rest, and the listed replies with their nodes."""
@@ -154,6 +178,20 @@ class Node:
     def named(self):
         """The nodes that it names: those of the listed replies, and then that of the rest."""
         return [*(place for _, place in self.replies), *([self.rest] if self.rest is not None else [])]
+
+    def answer(self, reply):
+        """The node that answers a reply which goes on, or None."""
+        return next((place for it, place in self.replies if it == reply), self.rest)
+
+    def renumbered(self, numbers):
+        """The same node where the nodes that it names have other numbers."""
+        rest = None if self.rest is None else numbers[self.rest]
+        return Node(self.attack, self.wins, rest, [(reply, numbers[place]) for reply, place in self.replies])
+
+    def text(self):
+        """Its line, or that of a start."""
+        kind = "wins" if self.wins else "only" if self.rest is None else f"rest {self.rest}"
+        return " ".join([spelled(self.attack) if self.attack else "start", kind, *(f"{spelled(p)}>{place}" for p, place in self.replies)])
 
 
 @dataclass
@@ -171,6 +209,17 @@ class Table:
     def attacker(self):
         """The side that plays by the table."""
         return self.position.side() if not self.start else other(self.position.side())
+
+    def words(self):
+        """Who wins in how many moves, under which rule, and who is to move where it is the other side."""
+        first = f"{self.position.side().capitalize()} is to move. " if self.start else ""
+        return f"{first}{self.attacker().capitalize()} wins in {counted(self.moves)} under {self.position.rule}"
+
+    def text(self):
+        """The one spelling of the table."""
+        head = self.position.text(f"renju-table {2 if self.start else 1}")
+        nodes = [node.text() for node in [*self.nodes, *([self.start] if self.start else [])]]
+        return head + "".join(f"{line}\n" for line in [f"moves {self.moves}", f"nodes {len(self.nodes)}", *nodes])
 
     def depths(self):
         """The most moves of the attacker from each node on."""
@@ -198,8 +247,62 @@ class Table:
             position, node = position.after(reply), self.nodes[place]
 
 
+@dataclass
+class Book:
+    """Nodes, and entries: of each its position, its number of moves, and its root, which is a node's number or a start."""
+
+    nodes: list
+    entries: list
+
+    def entry(self, number):
+        if not 1 <= number <= len(self.entries):
+            raise Wrong(f"the book has the entries 1 to {len(self.entries)}, and not {number}")
+        return self.entries[number - 1]
+
+    def of(self, numbers):
+        """The book of some entries, counted from 1, with the nodes that their roots reach."""
+        entries, reached, left = [self.entry(number) for number in numbers], set(), []
+        for _, _, root in entries:
+            left += root.named() if isinstance(root, Node) else [root]
+        while left:
+            place = left.pop()
+            if place not in reached:
+                reached.add(place)
+                left += self.nodes[place].named()
+        new = {place: number for number, place in enumerate(sorted(reached))}
+        moved = lambda root: root.renumbered(new) if isinstance(root, Node) else new[root]
+        nodes = [self.nodes[place].renumbered(new) for place in sorted(reached)]
+        return Book(nodes, [(position, moves, moved(root)) for position, moves, root in entries])
+
+    def table(self, number):
+        """The table of an entry, which is counted from 1."""
+        book = self.of([number])
+        position, moves, root = book.entries[0]
+        start = root if isinstance(root, Node) else None
+        for node in [*book.nodes, *([start] if start else [])]:
+            for point in [*([node.attack] if node.attack else []), *(reply for reply, _ in node.replies)]:
+                if not position.has(point):
+                    raise Wrong(f"entry {number}: {spelled(point)} is off {position.board()}")
+        return Table(position, moves, book.nodes, start)
+
+    def text(self):
+        """The one spelling of the book."""
+        lines = ["renju-book 1", f"nodes {len(self.nodes)}", *(node.text() for node in self.nodes), f"entries {len(self.entries)}"]
+        for position, moves, root in self.entries:
+            lines += [*position.text().splitlines()[1:], f"moves {moves}", root.text() if isinstance(root, Node) else f"root {root}"]
+        return "".join(f"{line}\n" for line in lines)
+
+    def tables(self):
+        return [self.table(number) for number in range(1, len(self.entries) + 1)]
+
+
 def other(side):
     return SIDES[1 - SIDES.index(side)]
+
+
+def counted(count, what="move"):
+    """So many of something, in words."""
+    return f"{count:,} {what}{'' if count == 1 else 's'}"
 
 
 def unlisted(position, node):
@@ -215,12 +318,39 @@ def game_text(position, moves):
     return position.text("renju-game 1") + " ".join(["moves", *map(spelled, moves)]) + "\n"
 
 
+# The runs of the program that have not ended yet, and whether no other may begin.
+RUNNING, ENDING = set(), []
+
+
+def answered(words, text):
+    """What the program prints of a text, and its status."""
+    if ENDING:
+        raise Wrong("interrupted")
+    try:
+        run = subprocess.Popen([PROGRAM, *map(str, words)], stdin=subprocess.PIPE, stdout=subprocess.PIPE)
+    except OSError as error:
+        raise Wrong(f"{PROGRAM} cannot be started: {error.strerror}")
+    RUNNING.add(run)
+    try:
+        told, _ = run.communicate(text.encode())
+    finally:
+        RUNNING.discard(run)
+    return told.decode(), run.returncode
+
+
+def end_runs():
+    """Ends all runs of the program, and lets none begin."""
+    ENDING.append(True)
+    for run in list(RUNNING):
+        run.kill()
+
+
 def asked(words, text):
     """What the program prints of a text, which it has to answer with status 0."""
-    done = subprocess.run([PROGRAM, *words], input=text.encode(), stdout=subprocess.PIPE)
-    if done.returncode != 0:
-        raise Wrong(f"renju {' '.join(words)} ended with status {done.returncode}: {done.stdout.decode().strip() or 'it printed nothing'}")
-    return done.stdout.decode()
+    told, status = answered(words, text)
+    if status != 0:
+        raise Wrong(f"renju {' '.join(map(str, words))} ended with status {status}: {told.strip() or 'it printed nothing'}")
+    return told
 
 
 def numbers(word):
@@ -375,59 +505,148 @@ def read_answers(words, below, position, more=""):
     return rest, read_replies(words, below, position)
 
 
+HEADS = ("renju-position 1", "renju-table 1", "renju-table 2", "renju-book 1")
+
+
 def read_head(line):
-    if line not in ("renju-position 1", "renju-table 1", "renju-table 2"):
-        raise Wrong("it is renju-position 1 of a position, and renju-table 1 or renju-table 2 of a table")
+    if line not in HEADS:
+        said = f"{line[:30]!r}{'..' if line[30:] else ''} begins no text"
+        raise Wrong(f"{said}: a position begins with renju-position 1, a table with renju-table 1 or 2, a book with renju-book 1")
     return line
 
 
 def read(data):
-    """The Position or Table of a text in its one spelling."""
+    """The Position, Table or Book of a text in its one spelling."""
     lines = Lines(data)
     head = lines.take("renju-position 1, or renju-table 1", read_head)
-    rule = lines.take("the rule", read_rule)
-    position = Position(rule, *lines.take("the size", read_size))
-    for side in SIDES:
-        setattr(position, side, lines.take(f"{side}, and the stones of that side", lambda line: read_stones(line, side, position)))
+    if head == "renju-book 1":
+        return read_book(lines)
+    position = read_position(lines)
     if head == "renju-position 1":
         lines.end()
         return position.lawful()
     return read_table(lines, position, head == "renju-table 2")
 
 
+def read_position(lines):
+    """The four lines of a position."""
+    rule = lines.take("the rule", read_rule)
+    position = Position(rule, *lines.take("the size", read_size))
+    for side in SIDES:
+        setattr(position, side, lines.take(f"{side}, and the stones of that side", lambda line: read_stones(line, side, position)))
+    return position
+
+
+def read_count(lines, word, least, most):
+    """A line of a word and a number."""
+    return lines.take(f"{word}, and the number of {word}", lambda line: number(" ".join(headed(line, word)), least, most, word))
+
+
+def read_nodes(lines, count, position):
+    return [lines.take(f"the node {place}", lambda line: read_node(line, place, position)) for place in range(count)]
+
+
 def read_table(lines, position, has_start):
     least = 0 if has_start else 1
-    counted = lambda word: lambda line: number(" ".join(headed(line, word)), least, MOST_NODES, word)
-    moves = lines.take("moves, and the number of moves", counted("moves"))
-    count = lines.take("nodes, and the number of nodes", counted("nodes"))
-    nodes = [lines.take(f"the node {place}", lambda line: read_node(line, place, position)) for place in range(count)]
+    moves, count = read_count(lines, "moves", least, MOST_NODES), read_count(lines, "nodes", least, MOST_NODES)
+    nodes = read_nodes(lines, count, position)
     start = lines.take("the start", lambda line: read_start(line, count, position)) if has_start else None
     lines.end()
     return Table(position.lawful(), moves, nodes, start)
 
 
-def read_file(path):
-    """The Position or Table of a file, or of standard input where no path is given."""
+def read_book(lines):
+    """The nodes and the entries of a book. A point of a node is below the longest sides of a board."""
+    every = Position("freestyle", MOST, MOST)
+    nodes = read_nodes(lines, read_count(lines, "nodes", 0, MOST_NODES), every)
+    entries = []
+    for place in range(1, 1 + read_count(lines, "entries", 1, MOST_ENTRIES)):
+        position = read_position(lines)
+        moves = read_count(lines, "moves", 0, MOST_NODES)
+        root = lines.take("root and a node, or start", lambda line: read_root(line, len(nodes), every))
+        try:
+            entries.append((position.lawful(), moves, root))
+        except Wrong as error:
+            raise Wrong(f"entry {place}: {error}")
+    lines.end()
+    return Book(nodes, entries)
+
+
+def read_root(line, below, every):
+    """The number of a node, or a start."""
+    if line.startswith("start"):
+        return read_start(line, below, every)
+    return named_node(" ".join(headed(line, "root")), below)
+
+
+def bytes_of(path):
+    """What a file holds, or standard input where no path is given, or -."""
     try:
-        data = Path(path).read_bytes() if path else sys.stdin.buffer.read()
+        if path and path != "-":
+            return Path(path).read_bytes()
+        if sys.stdin is None:
+            raise Wrong("standard input is closed")
+        return sys.stdin.buffer.read()
     except OSError as error:
-        raise Wrong(f"{path} cannot be read: {error.strerror}")
+        raise Wrong(f"{path or 'standard input'} cannot be read: {error.strerror}")
+
+
+def read_file(path):
+    """The Position, Table or Book of a file, or of standard input where no path is given, or -."""
     try:
-        return read(data)
+        return read(bytes_of(path))
     except Wrong as error:
-        raise Wrong(f"{path or 'the text'}: {error}")
+        raise error if "cannot be read" in str(error) else Wrong(f"{path if path and path != '-' else 'the text'}: {error}")
+
+
+def tables_in(path, entry=None):
+    """The tables in a file: that of a table, and of a book those of its entries, or of one of them. Each comes with its entry's number."""
+    found = read_file(path)
+    if isinstance(found, Position):
+        raise Wrong("the text is a position, and has no table; fours and solve of renju write one")
+    if isinstance(found, Table):
+        if entry is not None:
+            raise Wrong(f"the text is a table, and has no entry {entry}")
+        return [(None, found)]
+    numbers = range(1, len(found.entries) + 1) if entry is None else [entry]
+    return [(number, found.table(number)) for number in numbers]
 
 
 def saying(main):
     """Runs a script, and says in a line what was wrong in place of a traceback."""
+    name, status = Path(sys.argv[0]).name, 1
     try:
-        sys.exit(main())
+        if sys.stdout is None:
+            raise Wrong("standard output is closed")
+        # A file's name may have bytes that are no text.
+        sys.stdout.reconfigure(errors="backslashreplace")
+        status = main() or 0
+        sys.stdout.flush()
+    except SystemExit as ended:
+        status = ended.code
     except Wrong as error:
-        print(f"{Path(sys.argv[0]).name}: {error}", file=sys.stderr)
-        sys.exit(1)
-    except BrokenPipeError:
-        # Who read the output has gone.
-        os.dup2(os.open(os.devnull, os.O_WRONLY), sys.stdout.fileno())
-        sys.exit(1)
+        tell(f"{name}: {error}")
     except KeyboardInterrupt:
-        sys.exit(130)
+        end_runs()
+        status = 130
+    except OSError as error:
+        # Where who read the output has gone, nothing is left to say.
+        if error.errno != errno.EPIPE:
+            tell(f"{name}: {error.filename or 'standard output'} cannot be written: {error.strerror}")
+    leave(status)
+
+
+def tell(words):
+    """Says something beside the output, on standard error."""
+    if sys.stderr is not None:
+        print(words, file=sys.stderr, flush=True)
+
+
+def leave(status):
+    """Ends with a status. What cannot be written any more is left."""
+    try:
+        if sys.stdout is not None:
+            sys.stdout.flush()
+    except OSError:
+        os.dup2(os.open(os.devnull, os.O_WRONLY), sys.stdout.fileno())
+    sys.exit(status)

@@ -1,21 +1,31 @@
 #!/usr/bin/env python3
-"""Draws positions and tables as boards: NAME.svg beside each NAME.txt that the words name; of - the text is read and the picture
-written. Without a file it draws the pictures of this repository, and --check compares them with what is there.
+"""Draws positions, tables and books as boards: NAME.svg beside each NAME.txt that the words name, NAME-N.svg of a book's entry N.
+
+    pictures.py [--out FILE] [--line | --play 'X,Y ..' | --why X,Y] [--mark SIGN=X,Y ..] [--entry N] FILE ..
+
+Of - the text is read and the picture written. A file that is there is written over only where it is this script's picture of the
+same text. --write draws the pictures of this repository, and --check compares them with what is there.
 
 Of a table the first move is shown with a dot, and its answers as rings: each has a number, and the replies that it answers are
 small stones with this number; a ring with a star answers all other replies that go on. --line shows a longest game against the
 table in place of them, as numbered stones, and --play the moves that are given. A cross is a foul of Black, who is to move, as the
-program tells it. --mark SIGN=X,Y writes a sign into a ring, and --mark cost=X,Y marks a point at which a threat can be answered.
+program tells it. A foul that ends a game, or that --why names, is explained: frames hold the stones of its run, its fours or its
+threes, and red dots are where five or a straight four is made. --mark SIGN=X,Y writes a sign into a ring, and --mark cost=X,Y
+marks a point at which a threat can be answered.
 """
 import argparse
 import sys
 import textwrap
 from html import escape
+from math import atan2, degrees, hypot
 from pathlib import Path
 
 sys.dont_write_bytecode = True
 
-from boards import Position, Table, Wrong, letters, named, point_named, read, read_file, saying
+from boards import Book, Table, Wrong, counted, letters, named, read, read_file, saying
+from foul import an, explained, judged, reasons
+from outputs import distinct, write
+from position import points
 
 HERE = Path(__file__).resolve().parent
 # The pictures of the repository: texts of this folder, and the words with which each is drawn.
@@ -50,14 +60,19 @@ class Scene:
         self.position = self.table.position if self.table else found
         self.stones, self.labels = self.position.stones(), {}
         self.rings, self.replies, self.costs = {}, {}, []
-        if words.play or words.line:
+        # The point of a foul that is explained, and what a stone there makes.
+        self.fouled, self.made = None, None
+        if words.why:
+            self.why(points(words.why, self.position))
+        elif words.play or words.line:
             self.play(points(words.play, self.position) if words.play else self.line())
         elif self.table:
             self.answers(self.table.root())
-        self.crosses = [] if self.position.won_at() or self.is_full() else list(self.position.fouls())
+        is_over = self.made or self.position.won_at() or self.is_full()
+        self.crosses = [] if is_over else list(self.position.fouls())
         for mark in words.mark:
             self.mark(mark)
-        self.captions = self.told()
+        self.captions = words.caption or self.told()
 
     def is_full(self):
         return len(self.stones) == self.position.width * self.position.height
@@ -73,9 +88,20 @@ class Scene:
 
     def play(self, moves):
         for number, point in enumerate(moves, 1):
-            if self.position.won_at():
-                raise Wrong(f"move {number - 1} wins, and nothing comes after it")
+            if self.position.won_at() or self.made:
+                raise Wrong(f"move {number - 1} {'is a foul' if self.made else 'wins'}, and nothing comes after it")
+            before = self.position
             self.move(point, number)
+            if before.rule == "renju" and before.side() == "black" and judged(before, before.stones(), point).kind:
+                self.fouled, self.made = point, explained(before, point)
+
+    def why(self, found):
+        """Shows what a stone of Black on a point makes, and so why it is a foul or none."""
+        if len(found) != 1 or self.position.rule != "renju" or self.position.side() != "black":
+            raise Wrong("--why names one point, on Black's turn under renju")
+        self.position.after(found[0])
+        self.fouled, self.made = found[0], explained(self.position, found[0])
+        self.stones[found[0]] = "black"
 
     def answers(self, node):
         """The attack of a node and its answers, each with one number."""
@@ -104,6 +130,8 @@ class Scene:
         """Who is to move, or who wins in how many moves, and the rule."""
         won, rule = self.position.won_at(), f"under {self.position.rule}"
         to_move = f"{self.position.side().capitalize()} is to move"
+        if self.made:
+            return [self.verdict(), *self.reasons()]
         if won:
             return [f"{won[1].capitalize()} has won {rule}"]
         if self.table and self.table.moves:
@@ -112,21 +140,29 @@ class Scene:
         return [f"{to_move} {rule}"]
 
 
-def counted(moves):
-    return f"{moves} move{'' if moves == 1 else 's'}"
+    def verdict(self):
+        """What is said of the point that is explained."""
+        name = named(self.fouled, self.position.height)
+        if self.made.kind and self.fouled in self.labels:
+            return f"Black has lost under {self.position.rule}: {name} is {an(self.made.kind)}"
+        return f"{name} is {an(self.made.kind) if self.made.kind else 'no foul'} under {self.position.rule}"
+
+    def reasons(self):
+        tell = lambda some: " ".join(named(it, self.position.height) for it in some)
+        return [line[0].upper() + line[1:] for line in reasons(self.made, tell)]
+
+    def frames(self):
+        """The rows of stones that make a foul, each with its axis and the points that fill it."""
+        found = [(run, step(run), []) for run in (self.made.five, self.made.overline) if run] if self.made else []
+        for each in [*self.made.fours, *self.made.threes] if self.made else []:
+            free = [it for it, kind in each.points.items() if not kind] if isinstance(each.points, dict) else each.points
+            found.append((each.stones, each.way, free))
+        return found
 
 
-def points(words, position):
-    """The points of a list of words, as 7,7 or h8."""
-    found = []
-    for word in words.split():
-        columns = word.split(",")
-        is_plain = len(columns) == 2 and all(it.isascii() and it.isdigit() for it in columns)
-        point = tuple(map(int, columns)) if is_plain else point_named(word, position.height)
-        if not point or not position.has(point):
-            raise Wrong(f"{word} is no point of the board, as 7,7 or {named((position.width // 2, position.height // 2), position.height)} is")
-        found.append(point)
-    return found
+def step(run):
+    """The way of a run."""
+    return tuple((a > b) - (a < b) for a, b in zip(run[-1], run[0]))
 
 
 def at(point):
@@ -192,6 +228,24 @@ def cross(point):
     return f'<path d="M{x - 8} {y - 8}L{x + 8} {y + 8}M{x - 8} {y + 8}L{x + 8} {y - 8}" stroke="{RED}" stroke-width="3.4" stroke-linecap="round"/>'
 
 
+def frame(stones, way):
+    """A frame around a row of stones."""
+    first, last = at(min(stones, key=along(way))), at(max(stones, key=along(way)))
+    length, turned = hypot(last[0] - first[0], last[1] - first[1]), degrees(atan2(way[1], way[0]))
+    box = f'x="{first[0] - 17}" y="{first[1] - 17}" width="{length + 34:.1f}" height="34" rx="17"'
+    return f'<rect {box} transform="rotate({turned:g} {first[0]} {first[1]})" fill="none" stroke="{RED}" stroke-width="2.4"/>'
+
+
+def along(way):
+    return lambda point: point[0] * way[0] + point[1] * way[1]
+
+
+def filling(point):
+    """A dot where five, or a straight four, is made."""
+    x, y = at(point)
+    return f'<circle cx="{x}" cy="{y}" r="5.5" fill="{RED}"/>'
+
+
 def cost(point):
     x, y = at(point)
     return f'<path d="M{x} {y - 9}L{x + 9} {y}L{x} {y + 9}L{x - 9} {y}Z" fill="#efd29b" stroke="{GREEN}" stroke-width="2.6" stroke-linejoin="round"/>'
@@ -212,8 +266,8 @@ def caption(parts, width, top):
     return [label(width // 2, top + 18 * place, line, INK, 14, "normal") for place, line in enumerate(lines)], 18 * len(lines)
 
 
-def picture(found, words):
-    """The picture of a position or a table."""
+def picture(found, words, of=None):
+    """The picture of a position or a table, and of which file it is, if that is said."""
     scene = Scene(found, words)
     position = scene.position
     width = EDGE + (position.width - 1) * STEP + EDGE
@@ -221,8 +275,8 @@ def picture(found, words):
     said, room = caption(scene.captions, width, bottom + BELOW + 18)
     height = bottom + BELOW + room + 12
     parts = [
-        f'<svg xmlns="http://www.w3.org/2000/svg" width="{width}" height="{height}" viewBox="0 0 {width} {height}" role="img">',
-        f"<title>{'; '.join(scene.captions)}</title>",
+        f'<svg xmlns="http://www.w3.org/2000/svg" width="{width}" height="{height}" viewBox="0 0 {width} {height}" role="img"{shown(of)}>',
+        f"<title>{escape('; '.join(scene.captions))}</title>",
         DEFINED,
         f'<rect width="{width}" height="{height}" rx="6" fill="url(#wood)"/>',
         f'<g stroke="{LINE}" stroke-width="1">',
@@ -239,17 +293,32 @@ def picture(found, words):
         if point not in scene.stones:
             parts += ring(point, sign)
     parts += [cross(point) for point in scene.crosses if point not in scene.rings]
+    for row, way, free in scene.frames():
+        parts += [frame(row, way), *map(filling, free)]
+    if scene.made and scene.made.kind and not scene.labels.get(scene.fouled):
+        parts.append(cross(scene.fouled))
     for point, number in scene.replies.items():
         parts += reply(point, position.side(), number, point not in scene.rings)
     return "\n".join([*parts, "</g>", "</svg>"]) + "\n"
+
+
+def shown(of):
+    """What a picture says of the file that it shows."""
+    return f' data-of="{escape(of)}"' if of else ""
 
 
 def words_of(given):
     words = argparse.ArgumentParser(description=__doc__, formatter_class=argparse.RawDescriptionHelpFormatter)
     words.add_argument("files", nargs="*", metavar="FILE", help="a text, or - for standard input")
     words.add_argument("--check", action="store_true", help="compare the pictures of this repository")
-    words.add_argument("--line", action="store_true", help="a longest line of the table")
-    words.add_argument("--play", default="", metavar="'X,Y ..'", help="moves from the position on")
+    words.add_argument("--write", action="store_true", help="draw the pictures of this repository")
+    words.add_argument("--out", metavar="FILE", help="the picture's file")
+    words.add_argument("--entry", type=int, metavar="N", help="one entry of a book, counted from 1")
+    shows = words.add_mutually_exclusive_group()
+    shows.add_argument("--line", action="store_true", help="a longest line of the table")
+    shows.add_argument("--play", default="", metavar="'X,Y ..'", help="moves from the position on")
+    shows.add_argument("--why", default="", metavar="X,Y", help="why a point is a foul of Black, or none")
+    words.add_argument("--caption", action="append", default=[], metavar="WORDS", help="words below the board, in place of its own")
     words.add_argument("--mark", action="append", default=[], metavar="SIGN=X,Y", help="a sign in a ring")
     return words.parse_args(given)
 
@@ -258,11 +327,11 @@ def of_repository(is_check):
     failed = 0
     for name, words in PICTURES.items():
         text, there = HERE / f"{name}.txt", HERE / f"{name}.svg"
-        drawn = picture(read(text.read_bytes()), words_of(words))
+        drawn = picture(read(text.read_bytes()), words_of(words), text.name)
         if not is_check:
             there.write_text(drawn)
         elif not there.exists() or there.read_text() != drawn:
-            print(f"FAILED examples/{name}.svg: it isn't what examples/pictures.py draws; run that script")
+            print(f"FAILED examples/{name}.svg: it isn't what examples/pictures.py draws; run that script with --write")
             failed = 1
     # examples/games.py draws those of the games.
     for path in [*HERE.glob("*.svg"), *HERE.glob("wins/*.svg")]:
@@ -272,16 +341,41 @@ def of_repository(is_check):
     return failed
 
 
+def to_draw(words):
+    """What is drawn: of each file what it holds, and the picture's file, which is none of standard input; of a book its entries."""
+    for file in words.files:
+        found, path = read_file(file), Path(words.out or file)
+        if words.entry is not None and not isinstance(found, Book):
+            raise Wrong(f"{file} is no book, and has no entry {words.entry}")
+        if not isinstance(found, Book):
+            yield found, file, None if file == "-" and not words.out else path.with_suffix(".svg") if not words.out else path
+            continue
+        numbers = [words.entry] if words.entry is not None else range(1, len(found.entries) + 1)
+        if words.out and len(numbers) > 1 or file == "-" and len(numbers) > 1:
+            raise Wrong(f"{file} is a book of {len(numbers)} entries: name one of them with --entry")
+        for number in numbers:
+            own = None if file == "-" and not words.out else Path(words.out) if words.out else path.with_name(f"{path.stem}-{number}.svg")
+            yield found.table(number), f"{file} entry {number}", own
+
+
 def main():
     words = words_of(sys.argv[1:])
-    if not words.files:
+    if words.check or words.write:
+        if words.files or words.check and words.write:
+            raise Wrong("--check and --write stand alone: they are for the pictures of this repository")
         return of_repository(words.check)
-    for file in words.files:
-        drawn = picture(read_file("" if file == "-" else file), words)
-        if file == "-":
-            sys.stdout.write(drawn)
+    if not words.files:
+        raise Wrong("name a text to draw, or - for standard input; --write draws the pictures of this repository")
+    if words.out and len(words.files) > 1:
+        raise Wrong("--out is for one text")
+    drawn = [(picture(found, words, Path(name).name if path else None), name, path) for found, name, path in to_draw(words)]
+    distinct([(name, path) for _, name, path in drawn if path])
+    for svg, name, path in drawn:
+        if path is None:
+            sys.stdout.write(svg)
         else:
-            Path(file).with_suffix(".svg").write_text(drawn)
+            is_ours = lambda there: there.split("\n", 1)[0].endswith(f"{shown(Path(name).name)}>")
+            write(path, svg, is_ours, f"it is no picture of {name}; name another file with --out")
     return 0
 
 

@@ -1,21 +1,21 @@
 #!/usr/bin/env python3
 """Writes the one spelling of a position, from a file that the words name or from standard input, and says on standard error what
-was wrong with a text that isn't spelled so.
+was wrong with a text that isn't spelled so, and whose turn it is.
 
     position.py [--rule RULE] [--size N or W,H] [--at X,Y] [FILE]
 
-It takes a text whose stones stand in any order, with h8 as well as 7,7, with tabs, blank lines or carriage returns; a diagram of
-X, O and dots; and a game as a list of its moves, Black's first. Lines `rule RULE` and `size N` may stand before each. Without
-them the rule is freestyle, and the size that of the diagram, or 15. --at is the point of a smaller diagram's upper left corner.
+Without a FILE, or of -, it reads standard input. It takes a text whose stones stand in any order, with h8 as well as 7,7, with tabs,
+blank lines or carriage returns; a diagram of X, O and dots; and a game as a list of its moves, Black's first. Lines `rule RULE` and
+`size N` may stand before each. Without them the rule is freestyle, and the size that of the diagram, or 15. --at is the point of a
+smaller diagram's upper left corner.
 """
 import argparse
 import re
 import sys
-from pathlib import Path
 
 sys.dont_write_bytecode = True
 
-from boards import LEAST, MOST, RULES, SIDES, Position, Wrong, named, point_named, read, saying, spelled
+from boards import LEAST, MOST, RULES, SIDES, Position, Wrong, bytes_of, named, point_named, read, saying, spelled, tell
 
 BLACK, WHITE, EMPTY = "Xx#●", "Oo○0", ".+*-_·"
 SIGN = f"[{re.escape(BLACK + WHITE + EMPTY)}]"
@@ -56,10 +56,7 @@ class Draft:
         if sum(forms) > 1:
             raise Wrong("it is a list of stones, a diagram and a list of moves at once; take one of them")
         of_rows = self.size_of_rows()
-        width, height = self.size or of_rows or (15, 15)
-        for side in (width, height):
-            if not LEAST <= side <= MOST:
-                raise Wrong(f"a board has {LEAST} to {MOST} columns and rows, and not {width} by {height}")
+        width, height = on_range(self.size or of_rows or (15, 15))
         position = Position(self.rule or "freestyle", width, height)
         if self.rows:
             return self.of_rows(position)
@@ -68,9 +65,9 @@ class Draft:
         return self.of_stones(position)
 
     def size_of_rows(self):
-        for place, row in enumerate(self.rows):
+        for place, row in enumerate(self.rows, 1):
             if len(row) != len(self.rows[0]):
-                raise Wrong(f"row {place} of the diagram has {len(row)} points, and row 0 has {len(self.rows[0])}")
+                raise Wrong(f"line {place} of the diagram has {len(row)} points, and its first line has {len(self.rows[0])}")
         return (len(self.rows[0]), len(self.rows)) if self.rows and not self.corner else None
 
     def of_rows(self, position):
@@ -128,7 +125,14 @@ def size_of(word):
     found = re.fullmatch(r"\s*(\d{1,3})(?:\s*[,x]\s*(\d{1,3}))?\s*", word)
     if not found:
         raise Wrong(f"{word.strip() or 'nothing'} is no size, as 15 or 15,19 is")
-    return int(found.group(1)), int(found.group(2) or found.group(1))
+    return on_range((int(found.group(1)), int(found.group(2) or found.group(1))))
+
+
+def on_range(size):
+    """The size of a board, which has to be one."""
+    if not all(LEAST <= side <= MOST for side in size):
+        raise Wrong(f"a board has {LEAST} to {MOST} columns and rows, and not {size[0]} by {size[1]}")
+    return size
 
 
 def corner_of(word):
@@ -143,6 +147,22 @@ def points_of(text):
     if left:
         raise Wrong(f"in '{text.strip()}' stands '{left[:20]}', which is no point, as h8 or 7,7 is")
     return [found.group(3) or f"{int(found.group(1))},{int(found.group(2))}" for found in MOVE.finditer(text)]
+
+
+def points(words, position):
+    """The points of a list of words, as 7,7 or h8."""
+    middle = named((position.width // 2, position.height // 2), position.height)
+    wrong = lambda word: Wrong(f"{word} is no point of the board, as 7,7 or {middle} is")
+    left = MOVE.sub(" ", words).replace(";", " ").replace(",", " ").split()
+    if left:
+        raise wrong(left[0])
+    found = []
+    for move in MOVE.finditer(words):
+        point = point_named(move.group(3), position.height) if move.group(3) else (int(move.group(1)), int(move.group(2)))
+        if not point or not position.has(point):
+            raise wrong(move.group().strip("()"))
+        found.append(point)
+    return found
 
 
 def point_of(word, position):
@@ -186,15 +206,13 @@ def main():
     words = argparse.ArgumentParser(description=__doc__, formatter_class=argparse.RawDescriptionHelpFormatter)
     words.add_argument("--rule"), words.add_argument("--size"), words.add_argument("--at"), words.add_argument("file", nargs="?")
     given = words.parse_args()
-    try:
-        data = Path(given.file).read_bytes() if given.file else sys.stdin.buffer.read()
-    except OSError as error:
-        raise Wrong(f"{given.file} cannot be read: {error.strerror}")
+    data = bytes_of(given.file)
     if b"renju-" in data:
-        wrong = wrong_with(data)
-        print(f"position.py: {wrong}" if wrong else "position.py: the text is spelled as it has to be", file=sys.stderr)
+        tell(f"position.py: {wrong_with(data) or 'the text is spelled as it has to be'}")
     options = (given.rule and rule_of(given.rule), given.size and size_of(given.size), given.at and corner_of(given.at))
-    sys.stdout.write(understood(data, *options).text())
+    position = understood(data, *options)
+    tell(f"position.py: {position.to_move()}")
+    sys.stdout.write(position.text())
 
 
 if __name__ == "__main__":

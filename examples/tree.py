@@ -1,10 +1,11 @@
 #!/usr/bin/env python3
-"""Prints a table as an indented tree of moves, from a file that the words name or from standard input.
+"""Prints a table as an indented tree of moves, from a file that the words name or from standard input, and of a book its entries.
 
-    tree.py [--names] [--depth N] [FILE]
+    tree.py [--names] [--depth N] [--entry N] [FILE]
 
 Each line has the replies that are answered alike, and the answer; what follows it stands further in. A node that is named again
-is told once, with a number in brackets. --names writes points as players do, h8 for 7,7; --depth N stops after so many moves.
+is told once, with a number in brackets. --names writes points as players do, h8 for 7,7; --depth N stops after so many moves. Of a
+book --entry N tells one entry.
 """
 import argparse
 import sys
@@ -13,7 +14,7 @@ from collections import Counter
 
 sys.dont_write_bytecode = True
 
-from boards import Table, Wrong, named, read_file, saying, spelled
+from boards import named, saying, spelled, tables_in
 
 WIDTH = 120
 # Lines of later moves stand no further in, and say which move it is.
@@ -45,9 +46,7 @@ class Tree:
                 left += self.answers(self.nodes[place], level + 1)
 
     def headline(self):
-        position, moves = self.table.position, self.table.moves
-        first = f"{position.side().capitalize()} is to move. " if self.table.start else ""
-        return f"{first}{self.table.attacker().capitalize()} wins in {moves} move{'' if moves == 1 else 's'} under {position.rule}."
+        return f"{self.table.words()}."
 
     def answer(self, place):
         """The attack of a node, and what stands after it."""
@@ -77,13 +76,16 @@ class Tree:
 
 def main():
     words = argparse.ArgumentParser(description=__doc__, formatter_class=argparse.RawDescriptionHelpFormatter)
-    words.add_argument("--names", action="store_true"), words.add_argument("--depth", type=int, default=0), words.add_argument("file", nargs="?")
+    words.add_argument("--names", action="store_true", help="h8 for 7,7")
+    words.add_argument("--depth", type=int, default=0, metavar="N", help="stop after so many moves")
+    words.add_argument("file", nargs="?", metavar="FILE", help="a table or a book, or - for standard input")
+    words.add_argument("--entry", type=int, metavar="N", help="one entry of a book, counted from 1")
     given = words.parse_args()
-    table = read_file(given.file)
-    if not isinstance(table, Table):
-        raise Wrong("the text is a position, and has no table; fours and solve of renju write one")
-    for line in Tree(table, given.names, given.depth).lines():
-        print(line)
+    for number, table in tables_in(given.file, given.entry):
+        if number is not None:
+            print(f"entry {number}:")
+        for line in Tree(table, given.names, given.depth).lines():
+            print(line)
 
 
 if __name__ == "__main__":

@@ -1,0 +1,170 @@
+#!/usr/bin/env python3
+"""Runs the scripts that composers and players use over cases of their own, and prints those that fail.
+
+What is wanted was worked out by hand, or is compared with what the program says of the same position or table.
+"""
+import os
+import random
+import re
+import subprocess
+import sys
+import tempfile
+from pathlib import Path
+
+from trying import EXAMPLES, PROGRAM, SECONDS, TABLE, TEXT, expect, fails, run, tried
+
+FOULS = (EXAMPLES / "allowed-double-three.txt").read_text()
+BOOK = (EXAMPLES / "book.txt").read_text()
+
+
+def asked(words, text):
+    done = subprocess.run([PROGRAM, *words], input=text.encode(), capture_output=True, timeout=SECONDS)
+    return done.stdout.decode()
+
+
+def drawn_position(numbers):
+    """A position of renju with some stones near the middle, in which Black is to move and nobody has won."""
+    from boards import Position, Wrong
+
+    while True:
+        area = [(x, y) for x in range(4, 11) for y in range(4, 11)]
+        stones = numbers.sample(area, 2 * numbers.randrange(5, 9))
+        found = Position("renju", 15, 15, stones[::3] + stones[1::3], stones[2::3])
+        spare = [(x, 14) for x in range(15)]
+        found.white += spare[: len(found.black) - len(found.white)]
+        try:
+            return found.lawful()
+        except Wrong:
+            continue
+
+
+def fouls_explained():
+    """Which stones make a foul, and that the rule as foul.py has it finds the fouls of the program."""
+    from foul import judged
+
+    # In the row only 5,7 would make a straight four, and a stone there makes threes of its own.
+    wanted = (
+        "h8 is no foul\n  no three in the row: g8 h8 i8, since f8 is a double-three itself\n"
+        "  a three in the column: h9 h8 h7, a straight four at h10 or h6\n"
+    )
+    expect("foul.py: an allowed double-three", run("foul.py", ["--names", "-", "7,7"], FOULS), (0, wanted, ""))
+    seven = (
+        "7,9 is a double-three\n  a three in the column: 7,6 7,8 7,9, a straight four at 7,7\n"
+        "  a three in the diagonal down: 4,6 6,8 7,9, a straight four at 5,7\n"
+    )
+    status, told, _ = run("foul.py", [], FOULS)
+    expect("foul.py: all fouls", (status, told.splitlines()[0], told.endswith(seven)), (0, "fouls 3", True))
+    rows = "rule renju\nblack {}\nwhite a1 c1 e1 g1 i1 k1\n"
+    for name, stones, point, said in [
+        ("an overline", "d8 e8 f8 h8 i8 a15", "g8", "g8 is an overline\n  a run of 6: d8 e8 f8 g8 h8 i8\n"),
+        ("a five beside six", "d8 e8 f8 h8 g7 g6", "g8", "g8 is no foul\n  a run of exactly five, which wins: d8 e8 f8 g8 h8\n"),
+        (
+            "two fours in one line", "b8 d8 e8 h8 a15 c15", "f8",
+            "f8 is a double-four\n  a four in the row: b8 d8 e8 f8, five at c8\n  a four in the row: d8 e8 f8 h8, five at g8\n",
+        ),
+    ]:
+        status, told, errors = run("foul.py", ["--names", "-", point], rows.format(stones))
+        expect(f"foul.py: {name}", (status, told, errors), (0, said, ""))
+    numbers = random.Random(1)
+    for _ in range(40):
+        position = drawn_position(numbers)
+        stones = position.stones()
+        found = {point: judged(position, stones, point).kind for point in position.empties()}
+        expect(f"foul.py: the fouls of {position.text()!r}", {p: kind for p, kind in found.items() if kind}, position.fouls())
+    fails("foul.py: White's turn", "foul.py", [], "rule renju\nh8\n", "fouls are Black's, on Black's turn under renju; .* White is to move")
+    fails("foul.py: a stone", "foul.py", ["-", "5,8"], FOULS, "a stone stands on 5,8")
+
+
+def pictures_of_fouls():
+    """A foul that ends a game is captioned, and explained by its stones."""
+    from boards import read
+    from pictures import Scene, words_of
+
+    def scene(*words):
+        return Scene(read(FOULS.encode()), words_of(words))
+
+    lines = ["A three in the column: h9 h7 h6, a straight four at h8", "A three in the diagonal down: e9 g7 h6, a straight four at f8"]
+    expect("pictures.py: a foul is played", scene("--play", "7,9").captions, ["Black has lost under renju: h6 is a double-three", *lines])
+    expect("pictures.py: why a point is a foul", scene("--why", "7,9").captions, ["h6 is a double-three under renju", *lines])
+    rows = [(row, free) for row, _, free in scene("--why", "h6").frames()]
+    expect("pictures.py: the rows of a foul", rows, [([(7, 6), (7, 8), (7, 9)], [(7, 7)]), ([(4, 6), (6, 8), (7, 9)], [(5, 7)])])
+    expect("pictures.py: why a point is none", scene("--why", "7,7").captions[0], "h8 is no foul under renju")
+    expect("pictures.py: no crosses after a foul", (scene("--play", "7,9").crosses, len(scene().crosses)), ([], 3))
+    for name, words, text, said in [
+        ("a move after a foul", ["--play", "7,9 0,0"], FOULS, "move 1 is a foul, and nothing comes after it"),
+        ("why under freestyle", ["--why", "7,9"], TEXT, "--why names one point, on Black's turn under renju"),
+    ]:
+        fails(f"pictures.py: {name}", "pictures.py", [*words, "-"], text, said)
+
+
+def kept():
+    """That no script writes over what a user has, nor the pages of the repository without being asked."""
+    with tempfile.TemporaryDirectory() as folder:
+        put = lambda name, text: Path(folder, name).write_text(text)
+        held = lambda name: Path(folder, name).read_text()
+        for name, text in (("a.txt", TABLE), ("a.win", TEXT), ("b.txt", TABLE), ("k.book", BOOK)):
+            put(name, text)
+        for name, script, words, said in [
+            ("OUT forgotten", "books.py", ["a.txt", "b.txt"], "a.txt is there already, .*: OUT comes first"),
+            ("a book there", "books.py", ["k.book", "b.txt"], "k.book is there already, and is not written over: .*--replace"),
+            ("no folder", "books.py", ["no/x", "b.txt"], "no/x cannot be written: No such file or directory"),
+            ("two texts with one picture", "pictures.py", ["a.txt", "a.win"], "a.txt and a.win would both be written to a.svg"),
+            ("no text", "pictures.py", [], "name a text to draw, .*--write draws the pictures of this repository"),
+            ("a mark alone", "pictures.py", ["--mark", "a.txt"], "name a text to draw"),
+        ]:
+            status, output, errors = run(script, words, cwd=folder)
+            expect(f"{script}: {name}", f"{status} {output}{errors}", re.compile(rf"1 {script}: {said}.*\n"))
+        expect("books.py: what was there", (held("a.txt"), held("k.book")), (TABLE, BOOK))
+        longer = run("books.py", ["k.book", "k.book", "a.txt"], cwd=folder)
+        expect("books.py: a book that is added to", longer, (0, "k.book: 3 entries, 3 nodes\n", ""))
+        expect("pictures.py: a first picture", run("pictures.py", ["a.txt"], cwd=folder), (0, "", ""))
+        first = held("a.svg")
+        expect("pictures.py: the same text again", run("pictures.py", ["a.txt"], cwd=folder), (0, "", ""))
+        status, _, errors = run("pictures.py", ["a.win"], cwd=folder)
+        is_said = "it is no picture of a.win; name another" in errors
+        expect("pictures.py: the picture of another text", (status, is_said, held("a.svg")), (1, True, first))
+        put("a.svg", "<svg>mine</svg>\n")
+        status = run("pictures.py", ["a.txt"], cwd=folder)[0]
+        expect("pictures.py: a picture of the user's", (status, held("a.svg")), (1, "<svg>mine</svg>\n"))
+        status = run("pictures.py", ["--out", "b.svg", "a.txt"], cwd=folder)[0]
+        expect("pictures.py: another file", (status, held("b.svg")), (0, first))
+        expect("nothing is left behind", sorted(os.listdir(folder)), ["a.svg", "a.txt", "a.win", "b.svg", "b.txt", "k.book"])
+
+
+def books():
+    """Books in the scripts that take tables, and what is taken out of one."""
+    listed = (
+        "entry 1: Black wins in 2 moves under freestyle; 6 stones on 15, 3 nodes\n"
+        "entry 2: White is to move. Black wins in 1 move under freestyle; 7 stones on 15, 2 nodes\n"
+    )
+    expect("books.py: --list", run("books.py", ["--list", "-"], BOOK), (0, listed, ""))
+    expect("books.py: --take", run("books.py", ["--take", "1", "-"], BOOK), (0, TABLE, ""))
+    second = run("books.py", ["--take", "2", "-"], BOOK)[1]
+    expect("books.py: --take of a start is accepted", asked(["check", "1000"], second), re.compile("accepted in 1 moves, .*\n"))
+    with tempfile.TemporaryDirectory() as folder:
+        Path(folder, "b").write_text(BOOK)
+        left = run("books.py", ["--drop", "2", "b"], cwd=folder)[1]
+        expect("books.py: --drop", (left, asked(["book", "219"], left)), (asked_bind(folder, TABLE), "accepted 1 entries, 219 arrivals\n"))
+        two = run("tree.py", [], TABLE)[1], run("tree.py", [], second)[1]
+        expect("tree.py: a book", run("tree.py", ["b"], cwd=folder), (0, f"entry 1:\n{two[0]}entry 2:\n{two[1]}", ""))
+        expect("tree.py: an entry", run("tree.py", ["--entry", "2", "b"], cwd=folder), (0, f"entry 2:\n{two[1]}", ""))
+        drawn = run("pictures.py", ["b"], cwd=folder)
+        expect("pictures.py: a book", (drawn, sorted(os.listdir(folder))), ((0, "", ""), ["b", "b-1.svg", "b-2.svg", "t"]))
+        alone = run("pictures.py", ["--entry", "2", "-"], BOOK)[1]
+        of = re.compile(r' data-of="[^"]*"')
+        expect("pictures.py: an entry", of.sub("", alone), of.sub("", Path(folder, "b-2.svg").read_text()))
+    fails("books.py: no entry", "books.py", ["--take", "3", "-"], BOOK, "the book has the entries 1 to 2, and not 3")
+    fails("books.py: no book", "books.py", ["--list", "-"], TABLE, "- is no book")
+    fails("tree.py: an entry of a table", "tree.py", ["--entry", "1"], TABLE, "the text is a table, and has no entry 1")
+    wrong = "line 12: the nodes that it can name are 0 to 2, and not 3"
+    fails("tree.py: a book that is none", "tree.py", [], BOOK.replace("root 2", "root 3"), wrong)
+
+
+def asked_bind(folder, table):
+    """The book that the program makes of a table."""
+    Path(folder, "t").write_text(table)
+    return subprocess.run([PROGRAM, "bind", f"{folder}/t"], capture_output=True, timeout=SECONDS).stdout.decode()
+
+
+if __name__ == "__main__":
+    sys.exit(tried(fouls_explained, pictures_of_fouls, kept, books))
