@@ -39,7 +39,10 @@ BOOK_NODES, BOOK_BYTES = 785, (225_964, 197_121)
 SYMMETRIES = ["identity", "half", "flip-x", "flip-y", "quarter", "three-quarter", "diagonal", "antidiagonal"]
 MAX_INPUT_BYTES = 16_777_216
 MAX_NODES = 1_000_000
-USAGE = "usage: renju check WORK, foul, fours DEPTH NODES, threats LENGTH NODES, solve DEPTH NODES, brain [FILE], drill N, image SYMMETRY, referee [FILE], defend DEPTH NODES, bind FILE .., book WORK\n"
+USAGE = (
+    "usage: renju check WORK, foul, fours DEPTH NODES, threats LENGTH NODES, solve DEPTH NODES, "
+    "brain [FILE], drill N, image SYMMETRY, referee [FILE], defend DEPTH NODES, bind FILE .., book WORK\n"
+)
 
 
 @dataclass
@@ -118,17 +121,25 @@ def words_without_a_form():
         ["fours", "5", "3", "1"], ["fours", "5,3"], ["fours", "4294967297", "1"], ["fours", "1", "18446744073709551617"],
         ["threats"], ["threats", "1"], ["threats", "0", "1"], ["threats", "31", "1"], ["threats", "1", "0"], ["threats", "1", "10000001"],
         ["threats", "01", "1"], ["threats", "1", "1", "1"], ["threats", "4294967297", "1"], ["threat", "1", "1"], ["Threats", "1", "1"],
-        ["solve"], ["solve", "5"], ["solve", "0", "1"], ["solve", "61", "1"], ["solve", "1", "0"], ["solve", "1", "10000001"], ["solve", "05", "3"],
+        ["solve"], ["solve", "5"], ["solve", "0", "1"], ["solve", "61", "1"], ["solve", "1", "0"], ["solve", "1", "10000001"],
+        ["solve", "05", "3"],
         ["solve", "5", "3", "1"], ["solve", "4294967297", "1"], ["Solve", "5", "3"],
-        ["drill"], ["drill", ""], ["drill", "00"], ["drill", "01"], ["drill", "-1"], ["drill", "1000000"], ["drill", "0", "0"], ["drill 0"], ["Drill", "0"],
-        ["image"], ["image", ""], ["image", "0"], ["image", "Half"], ["image", "flip"], ["image", "flipx"], ["image", "half", "half"], ["image half"], ["Image", "half"],
-        ["defend"], ["defend", "2"], ["defend", "0", "1"], ["defend", "61", "1"], ["defend", "2", "0"], ["defend", "2", "10000001"], ["defend", "02", "4"],
-        ["defend", "2", "04"], ["defend", "2", "4", "1"], ["defend", "4294967298", "4"], ["defend 2 4"], ["Defend", "2", "4"], ["defends", "2", "4"],
-        ["bind"], ["bind", ""], ["bind", "t", ""], ["bind", "", "t"], ["bind", *64 * ["t"], "t"], ["bind t"], ["Bind", "t"], ["binds", "t"], [b"bind", b"t", b"\xff"],
-        ["book"], ["book", ""], ["book", "0"], ["book", "007"], ["book", "1000000000001"], ["book", "1", "1"], ["book 1"], ["Book", "1"], ["books", "1"],
+        ["drill"], ["drill", ""], ["drill", "00"], ["drill", "01"], ["drill", "-1"], ["drill", "1000000"], ["drill", "0", "0"], ["drill 0"],
+        ["Drill", "0"],
+        ["image"], ["image", ""], ["image", "0"], ["image", "Half"], ["image", "flip"], ["image", "flipx"], ["image", "half", "half"],
+        ["image half"], ["Image", "half"],
+        ["defend"], ["defend", "2"], ["defend", "0", "1"], ["defend", "61", "1"], ["defend", "2", "0"], ["defend", "2", "10000001"],
+        ["defend", "02", "4"],
+        ["defend", "2", "04"], ["defend", "2", "4", "1"], ["defend", "4294967298", "4"], ["defend 2 4"], ["Defend", "2", "4"],
+        ["defends", "2", "4"],
+        ["bind"], ["bind", ""], ["bind", "t", ""], ["bind", "", "t"], ["bind", *64 * ["t"], "t"], ["bind t"], ["Bind", "t"], ["binds", "t"],
+        [b"bind", b"t", b"\xff"],
+        ["book"], ["book", ""], ["book", "0"], ["book", "007"], ["book", "1000000000001"], ["book", "1", "1"], ["book 1"], ["Book", "1"],
+        ["books", "1"],
         ["referee", ""], ["referee", "t", "t"], ["Referee"], ["referees"], ["referee t"], [b"referee", b"\xff"],
         ["brain", ""], ["brain", "t", "t"], ["brain", "t", ""], ["Brain"], ["BRAIN", "t"], ["brains"], ["brain t"], [b"brain", b"\xff"],
-        [b"\xff"], [b"check", b"\xff"], [b"check", b"219\xff"], [b"check", b"219", b"\xff"], [b"\xc3\x28", b"219"], [b"fours", b"5", b"\x80"],
+        [b"\xff"], [b"check", b"\xff"], [b"check", b"219\xff"], [b"check", b"219", b"\xff"], [b"\xc3\x28", b"219"],
+        [b"fours", b"5", b"\x80"],
     ]
     for each in words:
         yield Case(f"words {each}", each, text, 1, USAGE)
@@ -149,8 +160,13 @@ def checks():
     yield Case("the most work", ["check", "1000000000000"], two_moves, 0, accepted)
     yield Case("one arrival too few", ["check", "218"], two_moves, 5, "spent\n")
     yield Case("the least work", ["check", "1"], two_moves, 5, "spent\n")
-    yield Case("a block that fouls", ["check", "213"], table(*BLOCK_FOULS, 2, ["7,3 wins", "6,3 rest 0"]), 0, "accepted in 2 moves, 213 arrivals\n")
-    yield Case("six in a row under freestyle", ["check", "1"], table("freestyle", *SIX, 1, ["4,7 wins"]), 0, "accepted in 1 moves, 1 arrivals\n")
+    yield Case(
+        "a block that fouls", ["check", "213"], table(*BLOCK_FOULS, 2, ["7,3 wins", "6,3 rest 0"]), 0,
+        "accepted in 2 moves, 213 arrivals\n",
+    )
+    yield Case(
+        "six in a row under freestyle", ["check", "1"], table("freestyle", *SIX, 1, ["4,7 wins"]), 0, "accepted in 1 moves, 1 arrivals\n",
+    )
     wide = table("freestyle", "9,5", "0,2 1,2 2,2 3,2", "0,0 2,0 4,0 6,0", 1, ["4,2 wins"])
     yield Case("a board that is wider than high", ["check", "1"], wide, 0, "accepted in 1 moves, 1 arrivals\n")
     opponent = ("freestyle", 15, "4,7 5,7 6,7 7,7", "0,0 2,0 4,0")
@@ -283,7 +299,8 @@ def fours():
 
 
 # Stones round 7,7, where a stone makes a three in the row and one in the column. A sequence has to have its gain where two lines with
-# two stones meet, which is there alone. Ten threats with one gain come before it: those at 7,5, 5,4, 6,5, 4,5, 5,6, 8,5, 9,4, 9,6, 10,5 and 5,7.
+# two stones meet, which is there alone. Ten threats with one gain come before it:
+# those at 7,5, 5,4, 6,5, 4,5, 5,6, 8,5, 9,4, 9,6, 10,5 and 5,7.
 DIAMOND = "7,6 6,7 8,7 7,8"
 DOUBLE_THREE = lines("threats 1", "three 7,7 row 5,7 9,7", "final 7,5")
 
@@ -303,9 +320,14 @@ def lists_of_fours(threes, fours):
 
 def threats():
     yield Case("threats: a double three", ["threats", "1", "12"], position("freestyle", 15, DIAMOND, CORNERS), 0, DOUBLE_THREE)
-    yield Case("threats: the most threats and lists", ["threats", "30", "10000000"], position("exact", 15, DIAMOND, CORNERS), 0, DOUBLE_THREE)
+    yield Case(
+        "threats: the most threats and lists", ["threats", "30", "10000000"], position("exact", 15, DIAMOND, CORNERS), 0, DOUBLE_THREE,
+    )
     yield Case("threats: one list too few", ["threats", "1", "11"], position("freestyle", 15, DIAMOND, CORNERS), 5, "spent\n")
-    yield Case("threats: White's double three", ["threats", "1", "12"], position("renju", 15, "0,0 14,0 14,7 0,14 14,14", DIAMOND), 0, DOUBLE_THREE)
+    yield Case(
+        "threats: White's double three", ["threats", "1", "12"], position("renju", 15, "0,0 14,0 14,7 0,14 14,14", DIAMOND), 0,
+        DOUBLE_THREE,
+    )
     # Of the 22 threats that one stone makes there, those two with the gain 7,7 are none of Black's, since it is a foul.
     yield Case("threats: a double three that fouls", ["threats", "1", "21"], position("renju", 15, DIAMOND, CORNERS), 9, "none\n")
     yield Case("threats: the same, one list too few", ["threats", "1", "20"], position("renju", 15, DIAMOND, CORNERS), 5, "spent\n")
@@ -324,7 +346,9 @@ def threats():
     # So many are counted in time only where boards are remembered from which no list has a final point.
     count = lists_of_fours(7, 30)
     yield Case("threats: few boards in many orders", ["threats", "30", str(count)], position(*THREES_APART), 9, "none\n", seconds=1)
-    yield Case("threats: the same board, one list too few", ["threats", "30", str(count - 1)], position(*THREES_APART), 5, "spent\n", seconds=1)
+    yield Case(
+        "threats: the same board, one list too few", ["threats", "30", str(count - 1)], position(*THREES_APART), 5, "spent\n", seconds=1,
+    )
 
 
 # Five threes of that kind. Each is as it was, or has its four and the block in one of two ways: that makes 243 positions, to which
@@ -341,7 +365,9 @@ def solves():
     yield Case("solve: three in a row", ["solve", "5", "3"], position(*THREE), 0, table(*THREE, 2, THREE_WINS))
     yield Case("solve: the most moves and positions", ["solve", "60", "10000000"], position(*THREE), 0, table(*THREE, 2, THREE_WINS))
     yield Case("solve: within one move too few", ["solve", "1", "1"], position(*THREE), 9, "none\n")
-    yield Case("solve: a block that fouls", ["solve", "5", "2"], position(*BLOCK_FOULS), 0, table(*BLOCK_FOULS, 2, ["7,3 wins", "6,3 rest 0"]))
+    yield Case(
+        "solve: a block that fouls", ["solve", "5", "2"], position(*BLOCK_FOULS), 0, table(*BLOCK_FOULS, 2, ["7,3 wins", "6,3 rest 0"]),
+    )
     five = ("renju", 15, "7,4 7,5 7,6 3,7 4,7 5,7 6,7 7,8 7,9", "0,0 4,0 10,0 14,0 2,7 0,14 4,14 10,14 14,14")
     yield Case("solve: five goes before fouls", ["solve", "1", "1"], position(*five), 0, table(*five, 1, ["7,7 wins"]))
     # No stone makes a threat: the game of threats has one position.
@@ -354,7 +380,9 @@ def solves():
     yield Case("solve: the other side's fours come first", ["solve", "60", "100"], position(*threes), 9, "none\n")
     # There is a win, so that `none` would be wrong, and each step may look at one position alone, within fewer moves too.
     for depth in ("5", "60"):
-        yield Case(f"solve: a win within {depth} that needs more positions", ["solve", depth, "1"], example("wins/quiet-three.txt"), 5, "spent\n")
+        yield Case(
+            f"solve: a win within {depth} that needs more positions", ["solve", depth, "1"], example("wins/quiet-three.txt"), 5, "spent\n",
+        )
 
 
 def drilled(number, wins, none, spent, moves):
@@ -403,17 +431,25 @@ def images():
     opponent = ("freestyle", 15, "4,7 5,7 6,7 7,7", "0,0 2,0 4,0")
     flipped = ("freestyle", 15, "7,7 8,7 9,7 10,7", "10,0 12,0 14,0")
     start, image = ["8,7 wins", "3,7 wins"], ["6,7 wins", "11,7 wins"]
-    yield Case("image: the opponent moves first", ["image", "flip-x"], table(*opponent, 1, start, "start rest 0 8,7>1"), 0, table(*flipped, 1, image, "start rest 0 6,7>1"))
+    yield Case(
+        "image: the opponent moves first", ["image", "flip-x"], table(*opponent, 1, start, "start rest 0 8,7>1"), 0,
+        table(*flipped, 1, image, "start rest 0 6,7>1"),
+    )
     wide = ("freestyle", "9,5", "0,2 1,2 2,2 3,2", "0,0 2,0 4,0 6,0")
     high = ("freestyle", "5,9", "2,0 2,1 2,2 2,3", "0,0 0,2 0,4 0,6")
     for word in ["quarter", "three-quarter", "diagonal", "antidiagonal"]:
         yield Case(f"image: {word} of a wide board", ["image", word], table(*wide, 1, ["4,2 wins"]), 3, "refused symmetry\n")
         yield Case(f"image: {word} of a high board", ["image", word], table(*high, 1, ["2,4 wins"]), 3, "refused symmetry\n")
-    yield Case("image: a flip of a wide board", ["image", "flip-x"], table(*wide, 1, ["4,2 wins"]), 0, table("freestyle", "9,5", "5,2 6,2 7,2 8,2", "2,0 4,0 6,0 8,0", 1, ["4,2 wins"]))
+    yield Case(
+        "image: a flip of a wide board", ["image", "flip-x"], table(*wide, 1, ["4,2 wins"]), 0,
+        table("freestyle", "9,5", "5,2 6,2 7,2 8,2", "2,0 4,0 6,0 8,0", 1, ["4,2 wins"]),
+    )
     yield Case("image: a text is refused first", ["image", "diagonal"], table(*wide, 2, ["4,2 wins"]), 3, "refused moves 2 1\n")
     yield Case("image: a bad line comes first", ["image", "diagonal"], table(*wide, 1, ["9,2 wins"]), 3, "refused line 8\n")
     yield Case("image: a text of a position", ["image", "identity"], position(*THREE), 3, "refused line 1\n")
-    yield Case("image: a table that is not accepted", ["image", "flip-y"], table(*EMPTY, 1, ["4,0 wins"]), 0, table(*EMPTY, 1, ["4,14 wins"]))
+    yield Case(
+        "image: a table that is not accepted", ["image", "flip-y"], table(*EMPTY, 1, ["4,0 wins"]), 0, table(*EMPTY, 1, ["4,14 wins"]),
+    )
 
 
 # Each symmetry with the one that undoes it.
@@ -433,7 +469,10 @@ def defends():
     yield Case("defend: its table is accepted", ["check", "46441"], lost, 0, "accepted in 2 moves, 46441 arrivals\n")
     held = lines("START 15", *batch("7,6 6,7 8,7 7,8", CORNERS), "TURN 0,7", "TURN 7,4", "TURN 1,1", "END")
     yield Case("defend: its table is held", ["brain", "t"], held, 0, told("OK", "7,7", "7,5", "7,9", "ERROR game over"), lost)
-    yield Case("defend: a move that wins", ["defend", "1", "1"], position("freestyle", 15, "5,7 6,7 7,7 8,7 14,14", "0,0 1,0 2,0 3,0"), 0, "defences 1\n4,0\n")
+    yield Case(
+        "defend: a move that wins", ["defend", "1", "1"], position("freestyle", 15, "5,7 6,7 7,7 8,7 14,14", "0,0 1,0 2,0 3,0"), 0,
+        "defences 1\n4,0\n",
+    )
     rule, size, black, white = BLOCK_FOULS
     four = (rule, size, black, white.replace("5,3 ", "5,3 6,3 "))
     yield Case("defend: a block that fouls", ["defend", "5", "1"], position(*four), 0, table(*four, 1, ["7,3 wins"], "start rest 0"))
@@ -487,7 +526,10 @@ def brains():
         ("a taken point", lines("START 15", "TURN 7,7", "TURN 7,7", "TURN 15,0"), ("OK", "6,6", "ERROR bad move", "ERROR bad move")),
         ("a move taken back", lines("START 15", "BEGIN", "TAKEBACK 7,7", "TURN 0,0"), ("OK", "7,7", "OK", "7,7")),
         ("a board begun anew", lines("START 15", "BEGIN", "TURN 6,6", "RESTART", "TURN 7,7"), ("OK", "7,7", "7,6", "OK", "6,6")),
-        ("a wish that is unknown", lines("START 15", "INFO rule 2", "BEGIN", "INFO rule 1", "BEGIN"), ("OK", "ERROR unsupported rule", "7,7")),
+        (
+            "a wish that is unknown", lines("START 15", "INFO rule 2", "BEGIN", "INFO rule 1", "BEGIN"),
+            ("OK", "ERROR unsupported rule", "7,7"),
+        ),
         ("a five point", lines("START 15", *batch("3,3 4,3 5,3 6,3", "0,0 2,0 4,0 6,0")), ("OK", "2,3")),
         ("a position that is uneven", lines("START 15", *batch("3,3 4,3", "")), ("OK", "ERROR bad board")),
         ("a win by fours", lines("START 15", *batch(THREE[2], THREE[3]), "TURN 3,7"), ("OK", "4,7", "8,7")),
@@ -566,13 +608,18 @@ def books():
             yield Case(f"brain t: a book, {name}", ["brain", "t"], "", 3, output, text)
     lost = book(["31,31 wins"], (THREE, 1, "root 0"))
     yield Case("book: an attack off the board of its entry", ["book", "1"], lost, 4, "entry 1 refused attack-refused 31,31\n")
-    yield Case("brain t: a book, an attack off the board of its entry", ["brain", "t"], "", 4, "entry 1 refused attack-refused 31,31\n", lost)
+    yield Case(
+        "brain t: a book, an attack off the board of its entry", ["brain", "t"], "", 4, "entry 1 refused attack-refused 31,31\n", lost,
+    )
     yield Case("referee t: a book", ["referee", "t"], "", 3, "refused line 1\n", two)
     yield Case("check: a book", ["check", "219"], two, 3, "refused line 1\n")
     start = lines("START 15", *batch("5,7 6,7 7,7", THREE[3]), "TURN 0,14", "TAKEBACK 3,7", "TAKEBACK 0,14", "TURN 1,14")
     yield Case("brain t: both entries of a book", ["brain", "t"], start, 0, told("OK", "4,7", "3,7", "OK", "OK", "8,7"), two)
     first = book(["3,7 wins", "8,7 wins"], (FIVE_TWO, 1, "root 1"), (FIVE_TWO, 1, "root 0"))
-    yield Case("brain t: the first of two entries at one position", ["brain", "t"], lines("START 15", *batch(FIVE_TWO[2], FIVE_TWO[3])), 0, told("OK", "8,7"), first)
+    yield Case(
+        "brain t: the first of two entries at one position", ["brain", "t"], lines("START 15", *batch(FIVE_TWO[2], FIVE_TWO[3])), 0,
+        told("OK", "8,7"), first,
+    )
     far = book(PASSES, (FAR_CORNERS, 4, f"root {len(PASSES) - 1}"))
     yield Case("brain t: a book, more arrivals than it may have", ["brain", "t"], "", 5, "entry 1 spent\n", far)
 
@@ -642,9 +689,13 @@ def referees():
         ("4,7 3,7 8,7 1,1", "after end 4\ntable follows\n"),
     ):
         yield Case(f"referee t: {moves}", ["referee", "t"], game(*THREE, moves), 0, output, two_moves)
-    yield Case("referee t: a reply that fouls", ["referee", "t"], game(*BLOCK_FOULS, "6,3 7,3"), 0, "foul overline 2\ntable follows\n", BLOCK_WINS)
+    yield Case(
+        "referee t: a reply that fouls", ["referee", "t"], game(*BLOCK_FOULS, "6,3 7,3"), 0, "foul overline 2\ntable follows\n", BLOCK_WINS,
+    )
     yield Case("referee t: another position", ["referee", "t"], game(*BLOCK_FOULS, ""), 0, "open 0\ntable absent\n", two_moves)
-    yield Case("referee t: the file goes before the game", ["referee", "t"], "", 4, "refused attack-refused 5,7\n", table(*THREE, 1, ["5,7 wins"]))
+    yield Case(
+        "referee t: the file goes before the game", ["referee", "t"], "", 4, "refused attack-refused 5,7\n", table(*THREE, 1, ["5,7 wins"]),
+    )
     yield Case("referee u: no such file", ["referee", "u"], "", 2, "shelf failed\n", two_moves)
     yield Case("referee t: more arrivals than it may have", ["referee", "t"], "", 5, "spent\n", table(*FAR_CORNERS, 4, PASSES))
 
@@ -711,7 +762,10 @@ def cut_tables():
 
 
 # The commands that read a whole input, with words.
-WHOLE_INPUTS = [["check", "1"], ["foul"], ["fours", "1", "1"], ["threats", "1", "1"], ["solve", "1", "1"], ["image", "half"], ["referee"], ["defend", "1", "1"], ["book", "1"]]
+WHOLE_INPUTS = [
+    ["check", "1"], ["foul"], ["fours", "1", "1"], ["threats", "1", "1"], ["solve", "1", "1"], ["image", "half"], ["referee"],
+    ["defend", "1", "1"], ["book", "1"],
+]
 
 
 def long_inputs():
@@ -719,7 +773,10 @@ def long_inputs():
     for command in (*WHOLE_INPUTS, ["referee", "t"]):
         yield Case(f"{command}: the longest input", command, MAX_INPUT_BYTES * b"x", 3, "refused line 1\n", held)
         yield Case(f"{command}: an input that is too long", command, (MAX_INPUT_BYTES + 1) * b"x", 11, "input too long\n", held)
-    for name, text, status, output in (("the longest file", MAX_INPUT_BYTES * b"x", 3, "refused line 1\n"), ("a file that is too long", (MAX_INPUT_BYTES + 1) * b"x", 11, "input too long\n")):
+    for name, text, status, output in (
+        ("the longest file", MAX_INPUT_BYTES * b"x", 3, "refused line 1\n"),
+        ("a file that is too long", (MAX_INPUT_BYTES + 1) * b"x", 11, "input too long\n"),
+    ):
         yield Case(f"referee t: {name}", ["referee", "t"], game(*THREE, ""), status, output, text)
     yield Case("a form goes before the length", ["check", "0"], (MAX_INPUT_BYTES + 1) * b"x", 1, USAGE)
 
@@ -850,14 +907,19 @@ class Runs:
         with shelf_of(text) as shelf:
             answers = self.run(["brain", "t"], input=lines(*before, *asked).encode(), cwd=shelf).stdout.decode().split("\r\n")
             moves = moves_played(asked, answers[1:-1] or ["none"])
-            judged = self.run(["referee", "t"], input=(position.text("renju-game 1") + lines(f"moves {' '.join(moves)}")).encode(), cwd=shelf)
+            judged = self.run(
+                ["referee", "t"], input=(position.text("renju-game 1") + lines(f"moves {' '.join(moves)}")).encode(), cwd=shelf,
+            )
         end = f"won {own} {len(moves)}" if len(moves) % 2 else rf"foul \S+ {len(moves)}"
         self.expect(f"the game {' '.join(moves)} by the table of {name}", judged, 0, re.compile(f"{end}\ntable follows\n"))
 
     def over_games(self):
         """The games that a brain plays in the sessions of the cases, each beside the table that it holds."""
         played = [(name, BLOCK_FOULS, moves_played(asked, answers[1:]), BLOCK_WINS) for name, asked, answers in BLOCK_SESSIONS]
-        played += [("a start", FOUR_OF_START, ["1,14", "8,7"], FOUR_AND_REPLY), ("a pass", FAR_CORNERS, ["30,15", "3,7", "8,7"], table(*FAR_CORNERS, 2, PASSES[:3]))]
+        played += [
+            ("a start", FOUR_OF_START, ["1,14", "8,7"], FOUR_AND_REPLY),
+            ("a pass", FAR_CORNERS, ["30,15", "3,7", "8,7"], table(*FAR_CORNERS, 2, PASSES[:3])),
+        ]
         played += [("an image", TURNED, ["10,7", "11,7", "6,7"], table(*TURNED, 2, TURNED_WINS))]
         for name, stones, moves, held in played:
             with shelf_of(held) as shelf:
@@ -883,14 +945,20 @@ class Runs:
             self.expect("a book of 1,000 entries is made", done, 0, f"book: {len(tables)} entries, {BOOK_NODES} nodes\n")
             sizes = sum(map(len, tables)), len(book.read_bytes())
             if sizes != BOOK_BYTES:
-                self.failed.append(f"FAILED a book of 1,000 entries ({self.program.name}): tables and book have {sizes} bytes; wanted {BOOK_BYTES}")
+                self.failed.append(
+                    f"FAILED a book of 1,000 entries ({self.program.name}): "
+                    f"tables and book have {sizes} bytes; wanted {BOOK_BYTES}"
+                )
             wanted = f"accepted {len(tables)} entries, {sum(counts)} arrivals\n"
             self.expect("a book of 1,000 entries", self.run(["book", "2000000"], input=book.read_bytes()), 0, wanted)
             for i in range(0, len(tables), 41):
                 position = read(tables[i]).position
                 moves, end = drill.played(position, str(book), Numbers(i))
                 if end != "won" or (len(moves) + 1) // 2 > int(re.search(rb"moves (\d+)", tables[i]).group(1)):
-                    self.failed.append(f"FAILED a book of 1,000 entries ({self.program.name}): the game of entry {i + 1} ends so: {end}, {moves}")
+                    self.failed.append(
+                        f"FAILED a book of 1,000 entries ({self.program.name}): "
+                        f"the game of entry {i + 1} ends so: {end}, {moves}"
+                    )
 
     def over_a_choice(self):
         """A wrong table with too little work: it may be refused or spent."""
@@ -914,7 +982,9 @@ class Runs:
             os.close(folder)
         self.expect("a closed input that is unasked", self.run([], preexec_fn=lambda: os.close(0)), 1, USAGE)
         text = as_bytes(table(*THREE, 2, THREE_WINS))
-        pieces = subprocess.Popen([sys.executable, "-c", "import os, sys\nfor b in sys.argv[1].encode(): os.write(1, bytes([b]))", text], stdout=subprocess.PIPE)
+        pieces = subprocess.Popen(
+            [sys.executable, "-c", "import os, sys\nfor b in sys.argv[1].encode(): os.write(1, bytes([b]))", text], stdout=subprocess.PIPE,
+        )
         self.expect("an input in pieces", self.run(["check", "219"], stdin=pieces.stdout), 0, "accepted in 2 moves, 219 arrivals\n")
         pieces.stdout.close()
         pieces.wait()
@@ -953,7 +1023,10 @@ class Runs:
     def over_outputs(self):
         """An output that fails: a full device, a closed output, and a reader that goes away."""
         text = as_bytes(table(*THREE, 2, THREE_WINS))
-        for words, text in ((["check", "219"], text), (["check", "218"], text), (["foul"], text), (["solve", "5", "3"], as_bytes(position(*THREE))), ([], text), (["brain"], b"ABOUT\n")):
+        for words, text in (
+            (["check", "219"], text), (["check", "218"], text), (["foul"], text), (["solve", "5", "3"], as_bytes(position(*THREE))),
+            ([], text), (["brain"], b"ABOUT\n"),
+        ):
             if os.path.exists("/dev/full"):
                 with open("/dev/full", "wb") as full:
                     self.expect("a full device", self.run(words, input=text, stdout=full), 8, "")
@@ -973,7 +1046,9 @@ class Runs:
             asked = [*WHITE_TO_MOVE, "TURN 0,14", "TURN 1,14", "ABOUT", "END"]
             answered = {0: "OK", len(WHITE_TO_MOVE) - 1: "6,3", -4: "7,3", -3: "ERROR game over", -2: 'name="renju", version="1.0"'}
             answered = {place % len(asked): answer for place, answer in answered.items()}
-            brain = subprocess.Popen(["renju", "brain", "t"], executable=self.program, stdin=subprocess.PIPE, stdout=subprocess.PIPE, cwd=shelf, env={})
+            brain = subprocess.Popen(
+                ["renju", "brain", "t"], executable=self.program, stdin=subprocess.PIPE, stdout=subprocess.PIPE, cwd=shelf, env={},
+            )
             for place, line in enumerate(asked):
                 os.write(brain.stdin.fileno(), f"{line}\n".encode())
                 wanted = told(answered[place]).encode() if place in answered else b""
@@ -1097,7 +1172,10 @@ def over_documents(program, failed):
                 done = subprocess.run(["bash", "-c", command], timeout=SECONDS, **devices)
                 # The lines of a brain end with a carriage return too, which a document doesn't show.
                 if done.stdout.decode().replace("\r\n", "\n") != output:
-                    failed.append(f"FAILED {document.name} ({program.name}): {command} prints {done.stdout!r}, and the document shows {output!r}")
+                    failed.append(
+                        f"FAILED {document.name} ({program.name}): "
+                        f"{command} prints {done.stdout!r}, and the document shows {output!r}"
+                    )
 
 
 def main():
