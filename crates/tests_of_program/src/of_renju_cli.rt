@@ -1,0 +1,379 @@
+//! Runs of the program over devices in memory: each command once, devices that fail in the middle of a run, those that would fail after
+//! it, and inputs without an end.
+//!
+//! One place calls `run_renju`, and it promises nothing, so that its contract is not proved again for each test. What the built program
+//! answers to texts is compared by `.ci/cases`, which proves nothing.
+
+use crate::compared::same;
+use crate::devices::{Failing, SOUND, shelf_of, sink_of, source_of, text_of};
+use calling::TWO_ENTRIES;
+use renju_cli::{USAGE, run_renju};
+use renju_io::{MemoryShelf, MemorySink, MemorySource, RealSource, Shelf, Sink, Source, read_all};
+use std::alloc::{AllocError, Global};
+use std::io;
+use std::process::Abort;
+
+/// Words, what the file t holds, an input, the devices, and the status and the text that are wanted.
+#[derive(Drop)]
+struct Run {
+    words: &'static str,
+    file: &'static str,
+    input: &'static str,
+    failing: Failing,
+    status: u8,
+    output: &'static str,
+}
+
+/// Runs the program over these devices.
+fn status_of<I: Source, O: Sink, F: Shelf>(
+    alloc: Global,
+    words: &[String],
+    source: &mut I,
+    sink: &mut O,
+    shelf: &mut F,
+) -> u8 {
+    run_renju(alloc, words, source, sink, shelf)
+}
+
+/// The words of a text, which are separated by spaces.
+fn words_of(alloc: Global, text: &str) -> Result<Vec<String>, AllocError> {
+    let mut words = Vec::new(alloc);
+    for word in text.split_whitespace() {
+        words.push(String::from_str(alloc, word)?)?;
+    }
+    Ok(words)
+}
+
+/// Runs the program with these words.
+fn run_words<I: Source>(
+    alloc: Global,
+    words: &str,
+    source: &mut I,
+    sink: &mut MemorySink,
+    shelf: &mut MemoryShelf,
+) -> Result<u8, AllocError> {
+    let words = words_of(alloc, words)?;
+    Ok(status_of(alloc, words.as_slice(), source, sink, shelf))
+}
+
+/// Runs the program beside the file of the row, and compares what it answers and writes with what is wanted.
+fn compare_over<I: Source>(rt: &(impl Abort + AllocGlobal), row: &Run, source: &mut I) {
+    let shelf = shelf_of(rt.alloc(), "t", row.file.as_bytes(), &row.failing);
+    let mut shelf = shelf.expect(rt, "a shelf");
+    let mut sink = sink_of(rt.alloc(), &row.failing).expect(rt, "a sink");
+    let status = run_words(rt.alloc(), row.words, source, &mut sink, &mut shelf);
+    same(
+        rt,
+        (row.words, sink.bytes()),
+        (row.words, row.output.as_bytes()),
+    );
+    same(rt, (row.words, status.ok()), (row.words, Some(row.status)));
+}
+
+/// Compares the run of the row, and answers what it leaves of its input.
+fn compare(rt: &(impl Abort + AllocGlobal), row: &Run) -> MemorySource {
+    let source = source_of(rt.alloc(), row.input.as_bytes(), &row.failing);
+    let mut source = source.expect(rt, "a source");
+    compare_over(rt, row, &mut source);
+    source
+}
+
+/// Compares the run of each row.
+fn compare_each(rt: &(impl Abort + AllocGlobal), rows: &[Run]) {
+    for row in rows {
+        compare(rt, row);
+    }
+}
+
+/// How many bytes a source has left. It promises nothing, as `status_of`.
+fn left_in(alloc: Global, source: &mut MemorySource) -> Option<usize> {
+    Some(read_all(alloc, source).ok()?.len())
+}
+
+const THREE: &str =
+    "renju-position 1\nrule freestyle\nsize 15\nblack 5,7 6,7 7,7\nwhite 0,0 2,0 4,0\n";
+
+const THREE_TABLE: &str =
+    "renju-table 1\nrule freestyle\nsize 15\nblack 5,7 6,7 7,7\nwhite 0,0 2,0 4,0\nmoves 2\nnodes 3\n3,7 wins\n8,7 wins\n4,7 rest 0 3,7>1\n";
+
+const THREE_TURNED: &str =
+    "renju-table 1\nrule freestyle\nsize 15\nblack 7,7 8,7 9,7\nwhite 10,14 12,14 14,14\nmoves 2\nnodes 3\n11,7 wins\n6,7 wins\n10,7 rest 0 11,7>1\n";
+
+const THREE_TWICE: &str =
+    "renju-book 1\nnodes 3\n3,7 wins\n8,7 wins\n4,7 rest 0 3,7>1\nentries 2\nrule freestyle\nsize 15\nblack 5,7 6,7 7,7\nwhite 0,0 2,0 4,0\nmoves 2\nroot 2\nrule freestyle\nsize 15\nblack 5,7 6,7 7,7\nwhite 0,0 2,0 4,0\nmoves 2\nroot 2\n";
+
+/// Four stones of Black round a point, which makes two threes.
+const DIAMOND: &str =
+    "renju-position 1\nrule freestyle\nsize 15\nblack 7,6 6,7 8,7 7,8\nwhite 0,0 14,0 0,14 14,14\n";
+
+/// An open three of Black. White can take one of its ends, or make a four of its own.
+const OPEN_THREE: &str =
+    "renju-position 1\nrule freestyle\nsize 15\nblack 5,7 6,7 7,7 14,14\nwhite 0,0 2,0 4,0\n";
+
+/// White wins by 6,3, since Black's only block, 7,3, is an overline; and a session that follows the table.
+const BLOCK_FOULS: &str =
+    "renju-table 1\nrule renju\nsize 15\nblack 7,0 7,1 7,2 2,3 7,4 7,5\nwhite 3,3 4,3 5,3 12,14 14,14\nmoves 2\nnodes 2\n7,3 wins\n6,3 rest 0\n";
+
+const BLOCK_LINES: &str =
+    "START 15\nINFO rule 4\nBOARD\n3,3,1\n4,3,1\n5,3,1\n12,14,1\n14,14,1\n7,0,2\n7,1,2\n7,2,2\n2,3,2\n7,4,2\n7,5,2\nDONE\nTURN 0,14\nTURN 1,14\nEND\n";
+
+/// A game from the position of the table of two moves.
+const GAME: &str =
+    "renju-game 1\nrule freestyle\nsize 15\nblack 5,7 6,7 7,7\nwhite 0,0 2,0 4,0\nmoves 4,7 3,7 8,7\n";
+
+const ACCEPTED: &str = "accepted in 2 moves, 219 arrivals\n";
+
+/// A row of one of the tables below. It is a macro, since a constant calls no function.
+macro_rules! run {
+    ($words:literal, $file:expr, $input:expr, $status:literal, $output:expr $(, $device:ident: $value:expr)*) => {
+        Run {
+            words: $words,
+            file: $file,
+            input: $input,
+            failing: Failing { $($device: $value,)* ..SOUND },
+            status: $status,
+            output: $output,
+        }
+    };
+}
+
+/// Each command over devices that do not fail.
+static SOUND_RUNS: [Run; 14] = [
+    run!("check 219", "", THREE_TABLE, 0, ACCEPTED),
+    run!("foul", "", THREE, 0, "fouls 0\n"),
+    run!("fours 5 3", "", THREE, 0, THREE_TABLE),
+    run!(
+        "threats 1 12",
+        "",
+        DIAMOND,
+        0,
+        "threats 1\nthree 7,7 row 5,7 9,7\nfinal 7,5\n"
+    ),
+    run!("solve 5 3", "", THREE, 0, THREE_TABLE),
+    run!(
+        "defend 2 4",
+        "",
+        OPEN_THREE,
+        0,
+        "defences 4\n1,0\n3,0\n4,7\n8,7\n"
+    ),
+    run!("image half", "", THREE_TABLE, 0, THREE_TURNED),
+    run!(
+        "drill 0",
+        "",
+        "no text",
+        0,
+        "drill 0\npositions 60\nwins 43 none 17 spent 0\naccepted 43\ngames 43 moves 68\n"
+    ),
+    run!(
+        "book 219",
+        "",
+        TWO_ENTRIES,
+        0,
+        "accepted 2 entries, 438 arrivals\n"
+    ),
+    run!("bind t t", THREE_TABLE, "", 0, THREE_TWICE),
+    run!("referee", "", GAME, 0, "won black 3\n"),
+    run!(
+        "referee t",
+        THREE_TABLE,
+        GAME,
+        0,
+        "won black 3\ntable follows\n"
+    ),
+    run!("brain", "", "START 15\nBEGIN\nEND\n", 0, "OK\r\n7,7\r\n"),
+    run!(
+        "brain t",
+        BLOCK_FOULS,
+        BLOCK_LINES,
+        0,
+        "OK\r\n6,3\r\n7,3\r\nERROR game over\r\n"
+    ),
+];
+
+/// Inputs that fail at their first read, in their midst and where the end is told.
+static FAILING_READS: [Run; 16] = [
+    run!("check 219", "", THREE_TABLE, 7, "", reads: &[1]),
+    run!("check 219", "", THREE_TABLE, 7, "", piece: 1, reads: &[11]),
+    run!("check 219", "", THREE_TABLE, 7, "", reads: &[2]),
+    run!("check 219", "", THREE_TABLE, 7, "", piece: 1, reads: &[THREE_TABLE.len() as u64 + 1]),
+    run!("book 219", "", TWO_ENTRIES, 7, "", piece: 7, reads: &[3]),
+    run!("book 219", "", TWO_ENTRIES, 7, "", reads: &[2]),
+    run!("book 219", "", TWO_ENTRIES, 7, "", piece: 1, reads: &[TWO_ENTRIES.len() as u64 + 1]),
+    run!("image half", "", THREE_TABLE, 7, "", piece: 7, reads: &[2]),
+    run!("defend 2 4", "", OPEN_THREE, 7, "", piece: 7, reads: &[2]),
+    run!("referee t", THREE_TABLE, GAME, 7, "", reads: &[1]),
+    run!("brain t", BLOCK_FOULS, BLOCK_LINES, 7, "", reads: &[1]),
+    run!("brain t", BLOCK_FOULS, BLOCK_LINES, 7, "OK\r\n", piece: 1, reads: &[11]),
+    run!("brain", "", "START 15\nEND\n", 7, "", reads: &[1]),
+    run!("brain", "", "START 15\nEND\n", 7, "OK\r\n", piece: 1, reads: &[13]),
+    run!("brain", "", "START 15\n", 7, "OK\r\n", reads: &[2]),
+    run!("brain", "", "START 15\n", 7, "OK\r\n", piece: 1, reads: &[10]),
+];
+
+/// Inputs that would fail at the read after the one that tells the end, or after that of END.
+static READS_AFTER: [Run; 8] = [
+    run!("check 219", "", THREE_TABLE, 0, ACCEPTED, reads: &[3]),
+    run!("check 219", "", THREE_TABLE, 0, ACCEPTED, piece: 1, reads: &[THREE_TABLE.len() as u64 + 2]),
+    run!("book 219", "", TWO_ENTRIES, 0, "accepted 2 entries, 438 arrivals\n", reads: &[3]),
+    run!("book 219", "", TWO_ENTRIES, 0, "accepted 2 entries, 438 arrivals\n", piece: 1, reads: &[TWO_ENTRIES.len() as u64 + 2]),
+    run!("brain", "", "START 15\nEND\n", 0, "OK\r\n", reads: &[2]),
+    run!("brain", "", "START 15\nEND\n", 0, "OK\r\n", piece: 1, reads: &[14]),
+    run!("brain", "", "START 15\n", 0, "OK\r\n", reads: &[3]),
+    run!("brain", "", "START 15\n", 0, "OK\r\n", piece: 1, reads: &[11]),
+];
+
+/// Outputs that fail and keep the front of their piece, of which the drill's has an input that is not asked; and one that would fail
+/// after the last piece.
+static FAILING_WRITES: [Run; 9] = [
+    run!("check 219", "", THREE_TABLE, 8, "acc", piece: 3, writes: &[1], kept: 3),
+    run!("check 219", "", THREE_TABLE, 0, ACCEPTED, piece: 3, writes: &[2]),
+    run!("book 219", "", TWO_ENTRIES, 8, "accepted", piece: 7, writes: &[1], kept: 8),
+    run!("image half", "", THREE_TABLE, 8, "renju", piece: 7, writes: &[1], kept: 5),
+    run!("defend 2 4", "", OPEN_THREE, 8, "defen", piece: 7, writes: &[1], kept: 5),
+    run!("drill 0", "", "", 8, "dri", piece: 1, reads: &[1], writes: &[1], kept: 3),
+    run!("bind t t", THREE_TABLE, "input", 8, "renju-b", writes: &[1], kept: 7),
+    run!("referee t", THREE_TABLE, GAME, 8, "won ", writes: &[1], kept: 4),
+    run!("brain t", BLOCK_FOULS, BLOCK_LINES, 8, "OK\r\n6,", writes: &[2], kept: 2),
+];
+
+/// Files that cannot be loaded, each at its load: a table and a book that are held are loaded once.
+static FAILING_LOADS: [Run; 8] = [
+    run!("bind t t", THREE_TABLE, "input", 2, "file 1 shelf failed\n", loads: &[1]),
+    run!("bind t t", THREE_TABLE, "input", 2, "file 2 shelf failed\n", loads: &[2]),
+    run!("bind t t", THREE_TABLE, "input", 0, THREE_TWICE, loads: &[3]),
+    run!("referee t", THREE_TABLE, GAME, 2, "shelf failed\n", loads: &[1]),
+    run!("brain t", BLOCK_FOULS, BLOCK_LINES, 2, "shelf failed\n", loads: &[1]),
+    run!("brain t", BLOCK_FOULS, BLOCK_LINES, 0, "OK\r\n6,3\r\n7,3\r\nERROR game over\r\n", loads: &[2]),
+    run!("brain t", TWO_ENTRIES, "ABOUT\n", 2, "shelf failed\n", loads: &[1]),
+    run!("brain t", TWO_ENTRIES, "START 33\n", 0, "ERROR unsupported size\r\n", loads: &[2]),
+];
+
+/// Runs that leave their input unread, of which one read would fail: words without a form, and files that are none, that hold no
+/// accepted table, or that are not there.
+static UNREAD: [Run; 11] = [
+    run!("", "", "219", 1, USAGE, writes: &[2]),
+    run!("check 0", "", THREE_TABLE, 1, USAGE, writes: &[2]),
+    run!(
+        "drill 0",
+        "",
+        "no text",
+        0,
+        "drill 0\npositions 60\nwins 43 none 17 spent 0\naccepted 43\ngames 43 moves 68\n"
+    ),
+    run!("bind t t", THREE_TABLE, "input", 0, THREE_TWICE),
+    run!("bind t u", THREE_TABLE, "input", 2, "file 2 shelf failed\n"),
+    run!(
+        "referee t",
+        "renju-table 1\nrule gomoku\n",
+        "no text",
+        3,
+        "refused line 2\n"
+    ),
+    run!("referee u", THREE_TABLE, "no text", 2, "shelf failed\n"),
+    run!(
+        "brain t",
+        "renju-book 1\nnodes 1\n8,7 wins\n",
+        BLOCK_LINES,
+        3,
+        "refused line 4\n"
+    ),
+    run!(
+        "brain t",
+        "renju-table 1\nrule gomoku\n",
+        BLOCK_LINES,
+        3,
+        "refused line 2\n"
+    ),
+    run!(
+        "brain t",
+        "renju-table 1\nrule renju\nsize 15\nblack 7,0 7,1 7,2 2,3 7,4 7,5\nwhite 3,3 4,3 5,3 12,14 14,14\nmoves 1\nnodes 1\n7,3 wins\n",
+        BLOCK_LINES,
+        4,
+        "refused not-won 7,3\n"
+    ),
+    run!("brain u", BLOCK_FOULS, BLOCK_LINES, 2, "shelf failed\n"),
+];
+
+/// The rows of each test. They stand in one place, since each proof of a function that names them goes through their texts.
+fn rows(test: u8) -> &'static [Run] {
+    match test {
+        0 => &SOUND_RUNS,
+        1 => &FAILING_READS,
+        2 => &READS_AFTER,
+        3 => &FAILING_WRITES,
+        4 => &FAILING_LOADS,
+        _ => &UNREAD,
+    }
+}
+
+#[test]
+fn each_command_answers_over_sound_devices(rt: HostRuntime) {
+    compare_each(&rt, rows(0));
+}
+
+#[test]
+fn a_failing_read_is_told(rt: HostRuntime) {
+    compare_each(&rt, rows(1));
+}
+
+#[test]
+fn nothing_is_read_after_the_end(rt: HostRuntime) {
+    compare_each(&rt, rows(2));
+}
+
+#[test]
+fn a_failing_write_leaves_the_front_of_the_text(rt: HostRuntime) {
+    compare_each(&rt, rows(3));
+}
+
+#[test]
+fn a_failing_shelf_is_told(rt: HostRuntime) {
+    compare_each(&rt, rows(4));
+}
+
+#[test]
+fn an_input_that_is_not_asked_is_left(rt: HostRuntime) {
+    for row in rows(5) {
+        let mut source = compare(&rt, row);
+        let left = left_in(rt.alloc(), &mut source);
+        same(&rt, (row.words, left), (row.words, Some(row.input.len())));
+    }
+}
+
+/// An answer is written before the next line is read: of a byte at each read all but the first line is left.
+#[test]
+fn an_answer_is_written_before_the_next_line_is_read(rt: HostRuntime) {
+    let row = run!("brain", "", "START 15\nEND\n", 8, "", piece: 1, writes: &[1]);
+    let mut source = compare(&rt, &row);
+    same(&rt, left_in(rt.alloc(), &mut source), Some("END\n".len()));
+}
+
+/// Inputs without an end: of these words, this byte and this text.
+const ENDLESS: [(Run, u8); 3] = [
+    (run!("check 219", "", "", 11, "input too long\n"), b'x'),
+    (run!("referee", "", "", 11, "input too long\n"), b'x'),
+    (run!("brain", "", "", 11, ""), b'\n'),
+];
+
+#[test]
+fn an_input_without_an_end_is_too_long(rt: HostRuntime) {
+    for (row, byte) in &ENDLESS {
+        compare_over(&rt, row, &mut RealSource::new(io::repeat(*byte)));
+    }
+}
+
+/// What the brain answers to so many empty lines.
+fn status_of_lines(alloc: Global, count: usize) -> Option<u8> {
+    let lines = text_of(alloc, b'\n', count)?;
+    let mut source = MemorySource::new(lines, 65_536, Vec::new(alloc));
+    let mut sink = sink_of(alloc, &SOUND).ok()?;
+    let mut shelf = shelf_of(alloc, "", b"", &SOUND).ok()?;
+    run_words(alloc, "brain", &mut source, &mut sink, &mut shelf).ok()
+}
+
+#[test]
+fn a_session_has_at_most_67108864_bytes(rt: HostRuntime) {
+    same(&rt, status_of_lines(rt.alloc(), 67_108_864), Some(0));
+    same(&rt, status_of_lines(rt.alloc(), 67_108_865), Some(11));
+}

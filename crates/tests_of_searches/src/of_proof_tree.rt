@@ -1,0 +1,64 @@
+//! A tree whose root has two children, and what becomes of it when they are settled.
+
+use crate::compared::same;
+use proof_tree::{INFINITE, Numbers, ProofTree};
+use std::alloc::Global;
+
+fn pair(proof: u32, disproof: u32) -> Numbers {
+    Numbers { proof, disproof }
+}
+
+/// A tree whose root has children with the numbers 1 and 3, and 2 and 1.
+fn two_children(alloc: Global) -> Option<ProofTree> {
+    let mut tree = ProofTree::new(alloc).ok()?;
+    tree.expand(&[pair(1, 3), pair(2, 1)]).ok()?;
+    Some(tree)
+}
+
+/// How many nodes there are, the numbers of the root, which is not settled, and the leaf that proves most.
+fn told(tree: &ProofTree) -> Option<(u32, Numbers, u32)> {
+    let len = tree.len();
+    if len == 0 || tree.numbers(0).is_settled() {
+        return None;
+    }
+    Some((len, tree.numbers(0), tree.most_proving()))
+}
+
+/// The numbers of a node.
+fn numbers_of(tree: &ProofTree, i: u32) -> Option<Numbers> {
+    if i < tree.len() {
+        Some(tree.numbers(i))
+    } else {
+        None
+    }
+}
+
+/// The numbers of the root once the leaf that proves most is settled.
+fn settled(tree: &mut ProofTree, proved: bool) -> Option<Numbers> {
+    let len = tree.len();
+    if len == 0 || tree.numbers(0).is_settled() {
+        return None;
+    }
+    tree.settle(proved);
+    numbers_of(tree, 0)
+}
+
+#[test]
+fn a_root_has_minimum_and_sum_of_its_children(rt: HostRuntime) {
+    let tree = two_children(rt.alloc()).expect(&rt, "a tree");
+    same(&rt, told(&tree), Some((3, pair(1, 4), 1)));
+}
+
+#[test]
+fn a_proved_child_proves_the_root(rt: HostRuntime) {
+    let mut tree = two_children(rt.alloc()).expect(&rt, "a tree");
+    same(&rt, settled(&mut tree, true), Some(pair(0, INFINITE)));
+    same(&rt, numbers_of(&tree, 2), Some(pair(2, 1)));
+}
+
+#[test]
+fn children_that_are_disproved_one_by_one_disprove_the_root(rt: HostRuntime) {
+    let mut tree = two_children(rt.alloc()).expect(&rt, "a tree");
+    same(&rt, settled(&mut tree, false), Some(pair(2, 1)));
+    same(&rt, settled(&mut tree, false), Some(pair(INFINITE, 0)));
+}

@@ -1,0 +1,21 @@
+//! Tests of tables: nodes and starts, what makes and checks them, the texts of positions, games and tables, their images, and books.
+//!
+//! A module `of_NAME` tries the crate NAME. It uses public calls alone, so it stands apart from that crate, which is proved once:
+//! a crate with tests is proved a second time for them. Like cases are rows of a table, each call is made by a small function that
+//! promises nothing, and one function compares.
+#![tactic(auto)]
+
+#[cfg(test)]
+mod compared;
+#[cfg(test)]
+mod of_board_symmetry;
+#[cfg(test)]
+mod of_position_files;
+#[cfg(test)]
+mod of_strategy_checker;
+#[cfg(test)]
+mod of_strategy_compiler;
+#[cfg(test)]
+mod of_strategy_graph;
+#[cfg(test)]
+mod of_table_book;
