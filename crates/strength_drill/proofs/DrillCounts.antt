@@ -2,7 +2,7 @@
 use Rattle.std.specs.Prelude.{Option, Some, None, ◌≢◌}
 use Rattle.std.specs.List.{All, find, range_with_len}
 use Rattle.std.proofs.Common.{◌≡◌, ◌⊎◌, inl, inr, refl, sym, ap, subst, ◌∙◌, ℕ, zero, suc, ◌+◌, ◌*◌, ◌<◌, ◌≤◌, Bool, true, false, cond}
-use Rattle.std.proofs.Common.{nat_le, List, [], ◌∷◌, length, add-one, arith, ◌-◌, ◌++◌}
+use Rattle.std.proofs.Common.{nat_le, List, [], ◌∷◌, length, add-one, arith, ◌++◌}
 use Rattle.std.proofs.lemmas.Bool.{cases_lt, lt-ltb}
 use Rattle.std.proofs.lemmas.Bool.Decides.{nat_tests}
 use Rattle.game_rules.specs.Grid.{Grid}
@@ -21,6 +21,9 @@ use Rattle.strategy_compiler.specs.Walks.{IsTableOf, last}
 use Rattle.strategy_compiler.proofs.Unique.{one-table}
 use Rattle.strategy_checker.specs.HeldRoots.{HeldTable, IsHeldRoot, IsHeld}
 use Rattle.strategy_checker.specs.declared.held.HeldRoot.{HeldRoot}
+use Rattle.four_search.specs.declared.fewest.FourTable.{FourTable}
+use Rattle.four_search.specs.Answers.{IsWithoutFours}
+use Rattle.four_search.specs.FewestWins.{IsFoundTable}
 use Rattle.four_search.specs.FourGame.{four_cost, least_moves}
 use Rattle.four_search.specs.Plans.{four_plan}
 use Rattle.four_search.proofs.Written.{least-none, least-wins, plan-written}
@@ -361,38 +364,34 @@ only-counts n c is = record {
 -- ---- the table of a win
 
 -- the last node is one of the table
-pub last-below : (t u : List Node) (k : ℕ) → u ≡ t → k ≡ length t → 0 < length t → root_below (Attack (k - 1)) (length u) ≡ true
-last-below t u k same count some = lt-ltb (k - 1) (length u) (let e : length u ≡ length t = ap length same in omega (arith, e, count, some))
+pub node-below : (t u : List Node) (i : ℕ) → u ≡ t → i < length t → root_below (Attack i) (length u) ≡ true
+node-below t u i same low = lt-ltb i (length u) (let e : length u ≡ length t = ap length same in omega (arith, e, low))
 
 -- the root that was added to the table is its last node, at the board
-pub held-as : (rule : RuleKind) (b c : Grid) (t : List Node) (k : ℕ) (new old : HeldTable) → c ≡ b → k ≡ length t → old.table ≡ t
+pub held-as : (rule : RuleKind) (b c : Grid) (t : List Node) (i : ℕ) (new old : HeldTable) → c ≡ b → i ≡ last t → old.table ≡ t
     → old.roots ≡ [] → new.table ≡ old.table
-    → new.roots ≡ old.roots ++ (let r : HeldRoot = record { root = Attack (k - 1); kind = rule; board = c } in r) ∷ []
+    → new.roots ≡ old.roots ++ (let r : HeldRoot = record { root = Attack i; kind = rule; board = c } in r) ∷ []
     → new ≡ held_at rule b t
-held-as rule b c t k new old board count table none kept added =
-    let root : k - 1 ≡ last t = ap (λ (n : ℕ). n - 1) count in
+held-as rule b c t i new old board node table none kept added =
     let tables : new.table ≡ t = kept ∙ table in
     let roots : new.roots ≡ (let r : HeldRoot = record { root = Attack (last t); kind = rule; board = b } in r) ∷ [] =
     added
-    ∙ ap (λ (rs : List HeldRoot). rs ++ (let r : HeldRoot = record { root = Attack (k - 1); kind = rule; board = c } in r) ∷ []) none
-    ∙ ap (λ (i : ℕ). (let r : HeldRoot = record { root = Attack i; kind = rule; board = c } in r) ∷ []) root
+    ∙ ap (λ (rs : List HeldRoot). rs ++ (let r : HeldRoot = record { root = Attack i; kind = rule; board = c } in r) ∷ []) none
+    ∙ ap (λ (j : ℕ). (let r : HeldRoot = record { root = Attack j; kind = rule; board = c } in r) ∷ []) node
     ∙ ap (λ (x : Grid). (let r : HeldRoot = record { root = Attack (last t); kind = rule; board = x } in r) ∷ []) board in
-    λ i. record { table = tables i; roots = roots i }
+    λ k. record { table = tables k; roots = roots k }
 
 -- node i is accepted at the board, and has few arrivals
 abbrev pub IsHeldNode : RuleKind → List Node → ℕ → Grid → Type 0
 IsHeldNode rule t i b = Accepted rule t i b × (arrivals rule t i b ≤ BRAIN_WORK)
 
-module _ (rule : RuleKind) (b c : Grid) (t u : List Node) (k : ℕ) (board : c ≡ b) (count : k ≡ length t) (table : u ≡ t) where
-  root : k - 1 ≡ last t
-  root = ap (λ (n : ℕ). n - 1) count
-
-  -- the table may be held where its last node was found to be so, and only there
-  pub holdable-as : IsHeldNode rule u (k - 1) c → IsHoldable rule b t
-  holdable-as held =
-      let here : IsHeldNode rule t (last t) b = subst (λ (x : Grid). IsHeldNode rule t (last t) x) board
-      (subst (λ (v : List Node). IsHeldNode rule v (last t) c) table (subst (λ (i : ℕ). IsHeldNode rule u i c) root held)) in
-      record { accepted = here.0; within = here.1 }
+-- the table may be held where its last node was found to be so, and only there
+pub holdable-as : (rule : RuleKind) (b c : Grid) (t u : List Node) (i : ℕ) → c ≡ b → i ≡ last t → u ≡ t → IsHeldNode rule u i c
+    → IsHoldable rule b t
+holdable-as rule b c t u i board node table held =
+    let here : IsHeldNode rule t (last t) b = subst (λ (x : Grid). IsHeldNode rule t (last t) x) board
+    (subst (λ (v : List Node). IsHeldNode rule v (last t) c) table (subst (λ (j : ℕ). IsHeldNode rule u j c) node held)) in
+    record { accepted = here.0; within = here.1 }
 
 -- what comes of a table that is held, by the game that is played by it
 pub plays-as : (rule : RuleKind) (b : Grid) (t : List Node) (s : ℕ) (c : Counts) (u moves : ℕ) (won : Bool) (h : HeldTable)
@@ -423,26 +422,28 @@ win-within moves won few =
 
 -- ---- the position
 
-module _ (rule : RuleKind) (n : ℕ) (c : Counts) (u : ℕ) (b : Grid) (s : ℕ) (board : b ≡ position_drawn rule n)
-    (number : s ≡ number_after n DRAWN_POINTS) where
-  -- what comes of the board, by what is found there
-  by-found : (f : Found) → found_within DEPTH BUDGET rule b ≡ f → ComesOf rule b f s c u → IsShare rule n c u
-  by-found f found comes =
-      let here : ComesOf rule b (found_within DEPTH BUDGET rule b) s c u =
-      subst (λ (x : Found). ComesOf rule b x s c u) (sym found) comes in
-      subst (λ (x : ℕ). ComesOf rule (position_drawn rule n) (found_within DEPTH BUDGET rule (position_drawn rule n)) x c u) number
-      (subst (λ (x : Grid). ComesOf rule x (found_within DEPTH BUDGET rule x) s c u) board here)
+-- what comes of the board, by what is found there
+module _ (rule : RuleKind) (b : Grid) (s : ℕ) (c : Counts) (u : ℕ) where
+  by-found : (f : Found) → found_within DEPTH BUDGET rule b ≡ f → ComesOf rule b f s c u
+      → ComesOf rule b (found_within DEPTH BUDGET rule b) s c u
+  by-found f found comes = subst (λ (x : Found). ComesOf rule b x s c u) (sym found) comes
 
-  pub share-win : (moves : ℕ) (t : List Node) → (BUDGET < four_cost rule DEPTH b → ⊥) → least_moves rule DEPTH b ≡ Some moves
-      → IsTableOf (four_plan rule moves b) t → PlaysGame rule b t s c u ⊎ IsNotHeld rule b t s c u → IsShare rule n c u
-  share-win moves t enough least table comes = by-found _
-      (found-win DEPTH BUDGET rule b moves (not_above (four_cost rule DEPTH b) BUDGET enough) least) (t, table, comes) where
-        not_above : (cost budget : ℕ) → (budget < cost → ⊥) → cost ≤ budget
-        not_above cost budget h = omega arith
+  pub comes-win : (made : FourTable) → IsFoundTable rule DEPTH BUDGET b made
+      → PlaysGame rule b made.table s c u ⊎ IsNotHeld rule b made.table s c u → ComesOf rule b (found_within DEPTH BUDGET rule b) s c u
+  comes-win made is tried =
+      by-found _ (found-win DEPTH BUDGET rule b made.moves is.fits is.made.win.least) (made.table, is.made.plan, tried)
 
-  pub share-none : wins_by_fours rule DEPTH b ≡ false → four_cost rule DEPTH b ≤ BUDGET → c ≡ record no_counts { none = 1 } → u ≡ s
-      → IsShare rule n c u
-  share-none none enough counts same = by-found _ (found-none DEPTH BUDGET rule b none enough) (counts, same)
+  pub comes-none : IsWithoutFours rule DEPTH BUDGET b → c ≡ record no_counts { none = 1 } → u ≡ s
+      → ComesOf rule b (found_within DEPTH BUDGET rule b) s c u
+  comes-none is counts same = by-found _ (found-none DEPTH BUDGET rule b is.none is.fits) (counts, same)
 
-  pub share-spent : BUDGET < four_cost rule DEPTH b → c ≡ record no_counts { spent = 1 } → u ≡ s → IsShare rule n c u
-  share-spent more counts same = by-found _ (found-spent DEPTH BUDGET rule b more) (counts, same)
+  pub comes-spent : BUDGET < four_cost rule DEPTH b → c ≡ record no_counts { spent = 1 } → u ≡ s
+      → ComesOf rule b (found_within DEPTH BUDGET rule b) s c u
+  comes-spent more counts same = by-found _ (found-spent DEPTH BUDGET rule b more) (counts, same)
+
+-- on the board that is drawn it is the share
+pub share-as : (rule : RuleKind) (n : ℕ) (b : Grid) (s : ℕ) → b ≡ position_drawn rule n → s ≡ number_after n DRAWN_POINTS → (c : Counts)
+    (u : ℕ) → ComesOf rule b (found_within DEPTH BUDGET rule b) s c u → IsShare rule n c u
+share-as rule n b s board number c u comes =
+    subst (λ (x : ℕ). ComesOf rule (position_drawn rule n) (found_within DEPTH BUDGET rule (position_drawn rule n)) x c u) number
+    (subst (λ (x : Grid). ComesOf rule x (found_within DEPTH BUDGET rule x) s c u) board comes)

@@ -3,8 +3,10 @@
 //! A position is made of the next draws and searched. What comes of a win is tried: its table is checked, and a game played by it.
 #![tactic(auto)]
 
-ghost use Rattle.std.specs.Prelude.{◌≡◌, ◌⊎◌, ◌<◌, ◌≤◌, length, if◌then◌else◌, IfOk};
-ghost use Rattle.strength_drill.specs.Counts.{AreWithin, PlaysGame, IsNotHeld, IsShare, IsCounted, AreOnlyCounts, no_counts};
+ghost use Rattle.std.specs.Prelude.{◌≡◌, ◌⊎◌, ◌<◌, length, if◌then◌else◌, IfOk};
+ghost use Rattle.strategy_compiler.specs.Walks.{last};
+ghost use Rattle.four_search.specs.FewestWins.{IsFewestWin};
+ghost use Rattle.strength_drill.specs.Counts.{AreWithin, PlaysGame, IsNotHeld, IsShare, ComesOf, IsCounted, AreOnlyCounts, found_within, no_counts};
 
 use crate::POSITIONS;
 use crate::counts::Counts;
@@ -13,11 +15,10 @@ use crate::drill_game::{GameResult, play_game};
 use crate::positions::{SIDE, drawn_position, rule_at};
 use brain_session::BRAIN_WORK;
 use foul_judge::Position;
-use four_search::{FourAnswer, four_search};
+use four_search::{FewestWin, FourTable, fewest_win};
 use row_shapes::{Rule, RuleKind, under_rule};
 use std::alloc::{AllocError, Global};
 use strategy_checker::{Held, HeldError};
-use strategy_compiler::{Compiler, SearchError};
 use strategy_graph::{Root, Table};
 
 /// The most moves within which a win is searched.
@@ -58,41 +59,59 @@ fn share_under<R: Rule>(alloc: Global, draws: &mut Draws) -> Result<Counts, Allo
     ensures within { IfOk result (AreWithin 1) }
 {
     let mut position = drawn_position::<R>(alloc, draws)?;
-    let mut compiler = Compiler::new(alloc);
-    match four_search::<R, Position<R>>(alloc, &mut position, DEPTH, BUDGET, &mut compiler) {
-        Ok(FourAnswer::Win(win)) => {
-            let table = compiler.finish_win(win)?;
-            try_table(alloc, position, table, draws)
-        }
-        Ok(FourAnswer::None) => Ok(Counts {
+    let found = fewest_win::<R, Position<R>>(alloc, &mut position, DEPTH, BUDGET)?;
+    share_found(alloc, position, found, draws)
+}
+
+/// What the position adds to the counts, where this is found.
+fn share_found<R: Rule>(
+    alloc: Global,
+    position: Position<R>,
+    found: FewestWin,
+    draws: &mut Draws,
+) -> Result<Counts, AllocError>
+    requires found { IsFewestWin R.KIND DEPTH BUDGET position found }
+    requires wide { position.width ≡ SIDE }
+    requires high { position.height ≡ SIDE }
+    ensures comes { IfOk result (λ c. ComesOf R.KIND position (found_within DEPTH BUDGET R.KIND position) draws.old.number c draws.new.number) }
+    ensures within { IfOk result (AreWithin 1) }
+{
+    match found {
+        FewestWin::Win(
+            FourTable {
+                table,
+                node,
+                moves: _,
+            },
+        ) => try_table(alloc, position, table, node, draws),
+        FewestWin::None => Ok(Counts {
             none: 1,
             ..Counts::NONE
         }),
-        Ok(FourAnswer::Spent) => Ok(Counts {
+        FewestWin::Spent => Ok(Counts {
             spent: 1,
             ..Counts::NONE
         }),
-        Err(SearchError::Full) => unreachable!(),
-        Err(SearchError::Memory) => Err(AllocError),
     }
 }
 
-/// What a win at the position adds to the counts, with this table: the table is checked, and a game played by it.
+/// What a win at the position adds to the counts, with this table and its last node: the table is checked, and a game played by it.
 fn try_table<R: Rule>(
     alloc: Global,
     position: Position<R>,
     table: Table,
+    node: u32,
     draws: &mut Draws,
 ) -> Result<Counts, AllocError>
-    requires some { 0 < length table }
+    requires last_node { node ≡ last table }
+    requires in_table { node < length table }
     requires wide { position.width ≡ SIDE }
     requires high { position.height ≡ SIDE }
     ensures tried { IfOk result (λ c. PlaysGame R.KIND position table draws.old.number c draws.new.number ⊎ IsNotHeld R.KIND position table draws.old.number c draws.new.number) }
     ensures within { IfOk result (AreWithin 1) }
 {
-    let root = Root::Attack(table.len() - 1);
     let mut held = Held::new(alloc, table);
-    match held.add::<R>(root, position.copy()?, BRAIN_WORK) {
+    match held.add::<R>(Root::Attack(node), position.copy()?, BRAIN_WORK) {
         Ok(_) => Ok(with_game(play_game::<R>(alloc, held, position, draws)?)),
         Err(HeldError::Memory) => Err(AllocError),
         Err(_) => Ok(Counts {
