@@ -85,7 +85,8 @@ pub returns-in-Some-Bind-clause-report : goal.returns-in-Some-Bind-clause-report
 returns-in-Some-Bind-clause-report g c =
     let words = map string_bytes c.args.words.now in
     let input = change g.I.Source.left g.I.Source.faults g.I.Source.asked c.args.input.now c.args.input.now in
-    let run : Run = program_run words input (change g.O.Sink.written g.O.Sink.faults g.O.Sink.asked c.args.output.now c.bind_book.new.output)
+    let run : Run = program_run words input
+    (change g.O.Sink.written g.O.Sink.faults g.O.Sink.asked c.args.output.now c.bind_book.new.output)
     (change g.F.Shelf.files g.F.Shelf.faults g.F.Shelf.asked c.args.shelf.now c.bind_book.new.shelf) (status_number c.bind_book.result) in
     let form : IsForm words Bind = subst (λ (f : Form). IsForm words f) c.in-Some-Bind.field-0-is c.in-Some-Bind.ensures.form in
     bind-reported run _ form (words-after string_bytes c.args.words.now)
