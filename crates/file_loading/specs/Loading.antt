@@ -17,7 +17,7 @@ use Rattle.file_loading.specs.BookFiles.{AreAccepted, IsBookAt, IsRefusedEntry}
 use Rattle.file_loading.specs.HeldFiles.{BookFileSays, FileSays, HeldFile, IsFit, IsHeldText, IsLoaded, IsUnheld, TableFileSays, held_by}
 use Rattle.file_loading.specs.HeldFiles.{of_book, of_table}
 use Rattle.file_loading.specs.declared.loading.Fitted.{Fitted}
-use Rattle.file_loading.specs.declared.loading.Fitted.TheVariants.{Fits, Tells}
+use Rattle.file_loading.specs.declared.loading.Fitted.TheVariants.{Fits, Tells as TellsFitted}
 
 -- what comes of the table of a text: it is held, or what is told of it says why not
 abbrev pub IsLoadedFile : TableFile → Loaded → Type 0
@@ -70,10 +70,10 @@ IsLoadedFrom holdable shelf name (Tells answer) = IsUnheld (SaysUnheld holdable)
 -- what comes of the table of a text: it is accepted, or what is told of it says why not
 abbrev pub IsFittedFile : TableFile → Fitted → Type 0
 IsFittedFile file (Fits found) = IsFit file × (found ≡ file)
-IsFittedFile file (Tells answer) = IsRefusedTable file answer.status answer.text ⊎ IsSpentWork BRAIN_WORK file answer.status
+IsFittedFile file (TellsFitted answer) = IsRefusedTable file answer.status answer.text ⊎ IsSpentWork BRAIN_WORK file answer.status
     answer.text
 
 -- what comes of the bytes of a FILE: they are the text of a table that is accepted, or what is told of them says why not
 abbrev pub IsFittedText : List ℕ → Fitted → Type 0
 IsFittedText bytes (Fits file) = IsTableAt file bytes × IsFit file
-IsFittedText bytes (Tells answer) = TableFileSays bytes answer.status answer.text
+IsFittedText bytes (TellsFitted answer) = TableFileSays bytes answer.status answer.text

@@ -2,7 +2,7 @@
 //! it, and inputs without an end.
 //!
 //! One place calls `run_renju`, and it promises nothing, so that its contract is not proved again for each test. What the built program
-//! answers to texts is compared by `.ci/cases`, which proves nothing.
+//! answers to texts is compared by `.ci/cases.py`, which proves nothing.
 
 use crate::compared::same;
 use crate::devices::{Failing, SOUND, shelf_of, sink_of, source_of, text_of};
