@@ -4,19 +4,21 @@
 //! `check` accepts.
 #![tactic(auto)]
 
-ghost use Rattle.std.specs.Prelude.{◌≡◌, ◌≤◌, ◌*◌, ℕ, length, IfOk};
+ghost use Rattle.std.specs.Prelude.{◌≡◌, ◌≤◌, ◌<◌, ℕ, length, IfOk};
+ghost use Rattle.strategy_graph.specs.Tables.{TableOnBoard};
 ghost use Rattle.strategy_compiler.specs.Wins.{IsWrittenWin};
-ghost use Rattle.four_search.specs.Answers.{IsFourWin};
-ghost use Rattle.position_commands.specs.Fours.{SearchSays, IsFourText, IsShortWinText};
+ghost use Rattle.position_files.specs.Tables.{IsTextOfTable};
+ghost use Rattle.position_commands.specs.Fours.{SearchSays, IsShortWinText, table_at};
 
 use command_base::{Answer, AtPosition, Status, none, spent};
-use foul_judge::Position;
-use four_search::{FourAnswer, MAX_DEPTH, four_search};
+use foul_judge::{Position, Seen};
+use four_search::{FewestWin, MAX_DEPTH, fewest_win};
 use position_files::write_table;
 use row_shapes::Rule;
 use std::alloc::{AllocError, Global};
-use strategy_compiler::{Compiler, SearchError, WrittenWin};
-use strategy_graph::Root;
+use stone_board::Board;
+use strategy_compiler::{Compiler, WrittenWin};
+use strategy_graph::{Root, Table};
 
 /// `fours DEPTH NODES`.
 #[derive(Clone, Copy)]
@@ -52,18 +54,34 @@ fn search<R: Rule>(
     ensures says { IfOk result (λ answer. SearchSays depth nodes (record { kind = R.KIND; board = position }) answer.status answer.text) }
 {
     let mut view = position;
-    let mut compiler = Compiler::new(alloc);
-    match four_search::<R, Position<R>>(alloc, &mut view, depth, nodes, &mut compiler) {
-        Ok(FourAnswer::Win(win)) => win_text(alloc, view, compiler, win),
-        Ok(FourAnswer::None) => Ok(none()),
-        Ok(FourAnswer::Spent) => Ok(spent()),
-        Err(SearchError::Full) => unreachable!(),
-        Err(SearchError::Memory) => Err(AllocError),
+    match fewest_win::<R, Position<R>>(alloc, &mut view, depth, nodes)? {
+        FewestWin::Win(win) => table_text::<R>(alloc, view.board(), &win.table, win.moves),
+        FewestWin::None => Ok(none()),
+        FewestWin::Spent => Ok(spent()),
     }
 }
 
-/// The table of a win at the position, as a text: by fours, where the compiler has at most two nodes for each move, or any. It is no
-/// longer than the compiler.
+/// The table of a win on the board within so many moves, with its last node as root, as a text.
+pub fn table_text<R: Rule>(
+    alloc: Global,
+    board: &Board,
+    table: &Table,
+    moves: u32,
+) -> Result<Answer, AllocError>
+    requires on_board { TableOnBoard board.now table.now }
+    requires some { 0 < length table.now }
+    requires some_moves { 1 ≤ moves }
+    requires moves_fit { moves ≤ MAX_DEPTH }
+    ensures status { IfOk result (λ answer. answer.status ≡ Status.Done) }
+    ensures text { IfOk result (λ answer.
+        IsTextOfTable (table_at (record { kind = R.KIND; board = board.now }) moves table.now) answer.text) }
+{
+    let root = Root::Attack(table.len() - 1);
+    let bytes = write_table(alloc, R::KIND, board, table, &root, moves)?;
+    Ok(Answer::written(Status::Done, bytes))
+}
+
+/// The table of a win at the position that is in a compiler, as a text. It is no longer than the compiler.
 pub fn win_text<R: Rule>(
     alloc: Global,
     position: Position<R>,
@@ -72,14 +90,9 @@ pub fn win_text<R: Rule>(
 ) -> Result<Answer, AllocError>
     requires win { (limit : ℕ) × (limit ≤ MAX_DEPTH) × IsWrittenWin R.KIND limit position compiler win }
     ensures status { IfOk result (λ answer. answer.status ≡ Status.Done) }
-    ensures text { IfOk result (λ answer. (limit : ℕ) → IsFourWin R.KIND limit position compiler win → length compiler ≤ 2 * win.moves
-        → IsFourText limit (record { kind = R.KIND; board = position }) answer.text) }
     ensures shown { IfOk result (λ answer. (limit : ℕ) → IsWrittenWin R.KIND limit position compiler win
         → IsShortWinText limit (length compiler) (record { kind = R.KIND; board = position }) answer.text) }
 {
-    let board = position.into_board();
     let table = compiler.finish_win(win)?;
-    let root = Root::Attack(table.len() - 1);
-    let bytes = write_table(alloc, R::KIND, &board, &table, &root, win.moves)?;
-    Ok(Answer::written(Status::Done, bytes))
+    table_text::<R>(alloc, position.board(), &table, win.moves)
 }

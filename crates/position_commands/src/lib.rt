@@ -10,5 +10,5 @@ mod threats;
 
 pub use defend::Defend;
 pub use fouls::ListFouls;
-pub use fours::{Fours, win_text};
+pub use fours::{Fours, table_text, win_text};
 pub use threats::FindSequence;

@@ -1,7 +1,7 @@
 -- What is said of the position of a text, by the step of `solve` that decides.
-use Rattle.std.proofs.Common.{◌≡◌, true, false, ◌↔◌, inl, inr, ℕ, ◌*◌, ◌<◌, ◌≤◌, sym, subst, ◌∙◌, List}
+use Rattle.std.proofs.Common.{◌≡◌, true, false, ◌↔◌, inl, inr, ℕ, ◌<◌, ◌≤◌, sym, subst, ◌∙◌, List}
 use Rattle.std.proofs.Common.{length, arith}
-use Rattle.std.specs.Prelude.{Result, Ok, Err, IfOk}
+use Rattle.std.specs.Prelude.{Result, Ok, Err, IfOk, Some, None}
 use Rattle.std.proofs.lemmas.Bool.{true_from_ne_false}
 use Rattle.game_rules.specs.Games.{has_threat}
 use Rattle.game_rules.proofs.Games.{WinsUnder-more}
@@ -11,8 +11,10 @@ use Rattle.strategy_graph.specs.declared.Node.{Node}
 use Rattle.strategy_compiler.specs.declared.wins.WrittenWin.{WrittenWin}
 use Rattle.strategy_compiler.specs.Wins.{IsWrittenWin}
 use Rattle.strategy_compiler.proofs.Growing.{win-within}
-use Rattle.four_search.specs.Answers.{IsFourWin}
-use Rattle.four_search.specs.FourGame.{four_cost}
+use Rattle.four_search.specs.declared.fewest.FourTable.{FourTable}
+use Rattle.four_search.specs.declared.fewest.FewestWin.{FewestWin}
+use Rattle.four_search.specs.declared.fewest.FewestWin.TheVariants.{Win as Found, None as NoFours, Spent as OverBudget}
+use Rattle.four_search.specs.FewestWins.{IsFewestWin, IsFoundTable, win_of}
 use Rattle.threat_moves.specs.declared.threat_list.Threat.{Threat}
 use Rattle.line_proof.specs.Lines.{line_wins, line_tree}
 use Rattle.line_proof.specs.declared.proof.LineAnswer.{LineAnswer}
@@ -22,18 +24,57 @@ use Rattle.threat_game.proofs.TreeLaws.{tree-more}
 use Rattle.position_files.specs.declared.PositionFile.{PositionFile}
 use Rattle.command_base.specs.declared.answer.Answer.{Answer}
 use Rattle.command_base.specs.declared.status.Status.TheVariants.{Done, NotFound, Spent, Full}
-use Rattle.position_commands.specs.Fours.{IsFourText, IsShortWinText}
+use Rattle.position_files.specs.Tables.{IsTextOfTable}
+use Rattle.position_commands.specs.Fours.{IsShortWinText, table_at}
 use Rattle.command_base.specs.Texts.{none_line, spent_line, full_line}
 use Rattle.solve_command.specs.declared.solve.Searched.TheVariants.{Win, None as NoWin}
 use Rattle.solve_command.specs.Solves.{SolutionSays, IsWonByFours, IsFirstLine, IsLeftOver, IsToldByThreats, MayBeTooGreat}
 use Rattle.command_base.proofs.PositionLaws.{file_at}
-use Rattle.position_commands.proofs.Searches.{not-above}
+use Rattle.position_commands.proofs.Searches.{four-text, wins-last}
 
 -- a line that is proved wins
 pub line-proved : (rule : RuleKind) (line : List Threat) (n : ℕ) (b : Grid) (a : LineAnswer) (win : WrittenWin) → a ≡ Proved win
     → (a ≡ Fails) ↔ (line_wins rule line n b ≡ false) → line_wins rule line n b ≡ true
 line-proved rule line n b a win e fails =
     true_from_ne_false (line_wins rule line n b) (λ f. let no : Proved win ≡ Fails = sym e ∙ fails.1 f in absurd (cc))
+
+-- what the first step finds: the table of a win by fours, or that there is none for which the budget is enough
+pub win-found : (rule : RuleKind) (limit nodes : ℕ) (b : Grid) (found : FewestWin) (made : FourTable) → IsFewestWin rule limit nodes b found
+    → win_of found ≡ Some made → IsFoundTable rule limit nodes b made
+win-found rule limit nodes b (Found table) made is e =
+    let same : table ≡ made = cc in
+    subst (λ (t : FourTable). IsFoundTable rule limit nodes b t) same is
+win-found rule limit nodes b NoFours made is e = absurd (cc)
+win-found rule limit nodes b OverBudget made is e = absurd (cc)
+
+pub win-missed : (rule : RuleKind) (limit nodes : ℕ) (b : Grid) (found : FewestWin) → IsFewestWin rule limit nodes b found
+    → win_of found ≡ None → ¬ IsWonByFours limit nodes (file_at rule b)
+win-missed rule limit nodes b (Found table) is e won = cc
+win-missed rule limit nodes b NoFours is e won = is.no_win won.wins
+win-missed rule limit nodes b OverBudget is e won = let enough = won.enough in omega (arith, is, enough)
+
+-- the text of the table of a win of the first step is what is said
+pub first-says : {E : Type 0} (r : Result Answer E) (limit nodes : ℕ) (rule : RuleKind) (b : Grid) (made : FourTable)
+    → IsFoundTable rule limit nodes b made → IfOk r (λ a. a.status ≡ Done)
+    → IfOk r (λ a. IsTextOfTable (table_at (file_at rule b) made.moves made.table) a.text)
+    → IfOk r (λ a. SolutionSays limit nodes (file_at rule b) a.status a.text)
+first-says (Err e) limit nodes rule b made is done text = tt
+first-says (Ok a) limit nodes rule b made is done text =
+    let here = wins-last rule limit b made is.made in
+    inl (record {
+      found = record { enough = is.fits; win = four-text rule limit b made is.made a.text text; ends = done };
+      win = record {
+        moves = made.moves;
+        table = made.table;
+        within = here.written.within;
+        accepted = here.written.accepted;
+        deep = here.written.deep;
+        different = is.made.plan.different;
+        reached = is.made.reached;
+        written = text;
+      };
+      few = let few = is.made.few in let within = here.written.within in omega (arith, few, within);
+    })
 
 module _ {E : Type 0} (r : Result Answer E) (limit nodes : ℕ) (rule : RuleKind) (p b : Grid) (there : b ≡ p) (compiled : List Node)
     (win : WrittenWin) where
@@ -45,31 +86,7 @@ module _ {E : Type 0} (r : Result Answer E) (limit nodes : ℕ) (rule : RuleKind
       let at : IsWrittenWin rule limit b compiled win = subst (λ (c : Grid). IsWrittenWin rule limit c compiled win) (sym there) is in
       subst (λ (c : Grid). IsShortWinText limit (length compiled) (file_at rule c) a.text) there (shown limit at)
 
-  -- the text of the table of a win of the first step is what is said
-  pub first-says : IsFourWin rule limit p compiled win → length compiled ≤ 2 * win.moves → (nodes < four_cost rule limit p → ⊥)
-      → IfOk r (λ a. a.status ≡ Done) → IfOk r (λ a. (limit : ℕ) → IsFourWin rule limit b compiled win
-      → length compiled ≤ 2 * win.moves → IsFourText limit (file_at rule b) a.text) → IfOk r (λ a. (limit : ℕ)
-      → IsWrittenWin rule limit b compiled win → IsShortWinText limit (length compiled) (file_at rule b) a.text)
-      → IfOk r (λ a. SolutionSays limit nodes (file_at rule p) a.status a.text)
-  first-says is short few done text shown = elim r as (λ (r : Result Answer E). IfOk r (λ a. a.status ≡ Done)
-      → IfOk r (λ a. (limit : ℕ) → IsFourWin rule limit b compiled win → length compiled ≤ 2 * win.moves
-      → IsFourText limit (file_at rule b) a.text) → IfOk r (λ a. (limit : ℕ) → IsWrittenWin rule limit b compiled win
-      → IsShortWinText limit (length compiled) (file_at rule b) a.text)
-      → IfOk r (λ a. SolutionSays limit nodes (file_at rule p) a.status a.text)) [
-        | Ok a ↦ λ done text shown.
-            let at : IsFourWin rule limit b compiled win = subst (λ (c : Grid). IsFourWin rule limit c compiled win) (sym there) is in
-            let written : IsFourText limit (file_at rule p) a.text =
-            subst (λ (c : Grid). IsFourText limit (file_at rule c) a.text) there (text limit at short) in
-            let win_text : IsShortWinText limit (length compiled) (file_at rule p) a.text = written-text a is.written shown in
-            inl (record {
-              found = record { enough = not-above nodes (four_cost rule limit p) few; win = written; ends = done };
-              win = win_text.0;
-              few = let table = win_text.1 in let within = is.written.within in omega (arith, table, short, within);
-            })
-        | Err e ↦ λ done text shown. tt
-      ] done text shown
-
-  -- so is that of the second, where the first has none
+  -- that of the second step is what is said, where the first has none
   pub line-says : (line : List Threat) → IsWrittenWin rule limit p compiled win → length compiled ≤ line_tree rule line limit p
       → ¬ IsWonByFours limit nodes (file_at rule p) → IsFirstLine limit nodes (file_at rule p) line → line_wins rule line limit p ≡ true
       → IfOk r (λ a. a.status ≡ Done) → IfOk r (λ a. (limit : ℕ) → IsWrittenWin rule limit b compiled win

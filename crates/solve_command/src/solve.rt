@@ -12,9 +12,9 @@ ghost use Rattle.solve_command.specs.Solves.{SolutionSays, IsWonByFours, IsFirst
 
 use command_base::{Answer, AtPosition, MAX_SEARCHED, full, none, spent};
 use foul_judge::{Position, Seen};
-use four_search::{FourAnswer, MAX_DEPTH, four_search};
+use four_search::{MAX_DEPTH, fewest_win};
 use line_proof::{LineAnswer, prove_line};
-use position_commands::win_text;
+use position_commands::{table_text, win_text};
 use proof_number::{ProofAnswer, proof_number};
 use proof_tree::ProofTree;
 use row_shapes::Rule;
@@ -59,13 +59,9 @@ fn by_fours<R: Rule>(
     ensures says { IfOk result (λ answer. SolutionSays depth nodes (record { kind = R.KIND; board = position }) answer.status answer.text) }
 {
     let mut view = position;
-    let mut compiler = Compiler::new(alloc);
-    match four_search::<R, Position<R>>(alloc, &mut view, depth, nodes, &mut compiler) {
-        Ok(FourAnswer::Win(win)) => win_text(alloc, view, compiler, win),
-        Ok(FourAnswer::None) => by_line(alloc, view, depth, nodes),
-        Ok(FourAnswer::Spent) => by_line(alloc, view, depth, nodes),
-        Err(SearchError::Full) => unreachable!(),
-        Err(SearchError::Memory) => Err(AllocError),
+    match fewest_win::<R, Position<R>>(alloc, &mut view, depth, nodes)?.win() {
+        Some(win) => table_text::<R>(alloc, view.board(), &win.table, win.moves),
+        None => by_line(alloc, view, depth, nodes),
     }
 }
 

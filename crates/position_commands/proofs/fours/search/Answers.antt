@@ -1,30 +1,31 @@
-use Rattle.std.proofs.Common.{subst}
-use Rattle.four_search.specs.Answers.{OnWin, IsFourWin}
-use Rattle.four_search.specs.declared.answer.FourAnswer.{FourAnswer}
-use Rattle.position_commands.proofs.Searches.{win-says, none-says, fours-few}
+use Rattle.std.proofs.Common.{subst, ◌∙◌, IfOk}
+use Rattle.game_rules.specs.Grid.{Grid}
+use Rattle.position_files.specs.Tables.{IsTextOfTable}
+use Rattle.four_search.specs.Answers.{IsWithoutFours}
+use Rattle.four_search.specs.FewestWins.{IsFewestWin, IsFoundTable}
+use Rattle.position_commands.specs.Fours.{table_at}
+use Rattle.command_base.proofs.PositionLaws.{file_at}
+use Rattle.position_commands.proofs.Searches.{win-says, none-says}
 use Rattle.position_commands.proofs.fours.search.Goals as goal
 
-pub returns-in-Ok-Win : goal.returns-in-Ok-Win
-returns-in-Ok-Win g c =
+pub returns-in-Win : goal.returns-in-Win
+returns-in-Win g c =
     let rule = g.R.Rule.KIND in
-    let p = c.args.position in
-    let compiled = c.four_search.new.compiler in
-    let win = c.in-Ok-Win.win in
-    let is : IsFourWin rule c.args.depth p compiled win =
-    subst (λ (a : FourAnswer). OnWin a (IsFourWin rule c.args.depth p compiled)) c.in-Ok-Win.field-0-is c.in-Ok-Win.ensures.win in
+    let b : Grid = c.args.position in
+    let win = c.in-Win.win in
+    let is : IsFoundTable rule c.args.depth c.args.nodes b win =
+    subst (IsFewestWin rule c.args.depth c.args.nodes b) c.in-Win.is c.in_ok-win.ensures.found in
     record {
-      says = win-says c.win_text.result c.args.depth c.args.nodes rule p c.four_search.new.view compiled win c.four_search.ensures.same is
-          (fours-few c.new-compiler.result compiled c.in-Ok-Win.field-0 win c.in-Ok-Win.field-0-is c.new-compiler.ensures.empty
-          c.in-Ok-Win.ensures.added)
-          (λ above. let spent = c.in-Ok-Win.ensures.spent.1 above in let not = c.in-Ok-Win.field-0-is in absurd (cc))
-          c.win_text.ensures.status c.win_text.ensures.text;
+      says = win-says c.table_text.result c.args.depth c.args.nodes rule b win is c.table_text.ensures.status
+          (subst (λ (w : Grid). IfOk c.table_text.result (λ a. IsTextOfTable (table_at (file_at rule w) win.moves win.table) a.text))
+          (c.board.ensures.board ∙ c.in_ok-win.ensures.same) c.table_text.ensures.text);
     }
 
-pub returns-in-Ok-None : goal.returns-in-Ok-None
-returns-in-Ok-None g c =
-    let none = c.in-Ok-None.field-0-is in
-    let facts = c.in-Ok-None.ensures.none.0 none in
+pub returns-in-None : goal.returns-in-None
+returns-in-None g c =
+    let none : IsWithoutFours g.R.Rule.KIND c.args.depth c.args.nodes c.args.position =
+    subst (IsFewestWin g.R.Rule.KIND c.args.depth c.args.nodes c.args.position) c.in-None.is c.in_ok-win.ensures.found in
     record {
-      says = none-says c.none.result c.args.depth c.args.nodes g.R.Rule.KIND c.args.position (c.in-Ok-None.ensures.no_win none) facts.1
-          c.none.ensures.status c.none.ensures.text;
+      says = none-says c.none.result c.args.depth c.args.nodes g.R.Rule.KIND c.args.position none.no_win none.fits c.none.ensures.status
+          c.none.ensures.text;
     }

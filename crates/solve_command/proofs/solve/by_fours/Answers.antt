@@ -1,22 +1,30 @@
-use Rattle.std.proofs.Common.{subst}
-use Rattle.four_search.specs.Answers.{OnWin, IsFourWin}
-use Rattle.four_search.specs.declared.answer.FourAnswer.{FourAnswer}
-use Rattle.position_commands.proofs.Searches.{fours-few}
-use Rattle.solve_command.proofs.Solutions.{first-says}
+use Rattle.std.proofs.Common.{sym, subst, ◌∙◌, IfOk}
+use Rattle.game_rules.specs.Grid.{Grid}
+use Rattle.position_files.specs.Tables.{IsTextOfTable}
+use Rattle.four_search.specs.FewestWins.{IsFoundTable}
+use Rattle.position_commands.specs.Fours.{table_at}
+use Rattle.solve_command.specs.Solves.{IsWonByFours}
+use Rattle.command_base.proofs.PositionLaws.{file_at}
+use Rattle.solve_command.proofs.Solutions.{first-says, win-found, win-missed}
 use Rattle.solve_command.proofs.solve.by_fours.Goals as goal
 
-pub returns-in-Ok-Win : goal.returns-in-Ok-Win
-returns-in-Ok-Win g c =
+pub returns-in-Some : goal.returns-in-Some
+returns-in-Some g c =
     let rule = g.R.Rule.KIND in
-    let p = c.args.position in
-    let compiled = c.four_search.new.compiler in
-    let win = c.in-Ok-Win.win in
-    let is : IsFourWin rule c.args.depth p compiled win =
-    subst (λ (a : FourAnswer). OnWin a (IsFourWin rule c.args.depth p compiled)) c.in-Ok-Win.field-0-is c.in-Ok-Win.ensures.win in
+    let b : Grid = c.args.position in
+    let win = c.in-Some.win in
+    let is : IsFoundTable rule c.args.depth c.args.nodes b win =
+    win-found rule c.args.depth c.args.nodes b c.in_ok-fewest_win.field-0 win c.in_ok-fewest_win.ensures.found
+    (sym c.win.ensures.win ∙ c.in-Some.is) in
     record {
-      says = first-says c.win_text.result c.args.depth c.args.nodes rule p c.four_search.new.view c.four_search.ensures.same compiled win is
-          (fours-few c.new-compiler.result compiled c.in-Ok-Win.field-0 win c.in-Ok-Win.field-0-is c.new-compiler.ensures.empty
-          c.in-Ok-Win.ensures.added)
-          (λ above. let spent = c.in-Ok-Win.ensures.spent.1 above in let not = c.in-Ok-Win.field-0-is in absurd (cc))
-          c.win_text.ensures.status c.win_text.ensures.text c.win_text.ensures.shown;
+      says = first-says c.table_text.result c.args.depth c.args.nodes rule b win is c.table_text.ensures.status
+          (subst (λ (w : Grid). IfOk c.table_text.result (λ a. IsTextOfTable (table_at (file_at rule w) win.moves win.table) a.text))
+          (c.board.ensures.board ∙ c.in_ok-fewest_win.ensures.same) c.table_text.ensures.text);
     }
+
+pub by_line-requires-clause-no_fours : goal.by_line-requires-clause-no_fours
+by_line-requires-clause-no_fours g c =
+    let rule = g.R.Rule.KIND in
+    let missed = win-missed rule c.args.depth c.args.nodes c.args.position c.in_ok-fewest_win.field-0 c.in_ok-fewest_win.ensures.found
+    (sym c.win.ensures.win ∙ c.in-None.is) in
+    subst (λ (w : Grid). ¬ IsWonByFours c.args.depth c.args.nodes (file_at rule w)) (sym c.in_ok-fewest_win.ensures.same) missed
