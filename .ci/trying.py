@@ -15,7 +15,7 @@ sys.dont_write_bytecode = True
 TOP = Path(__file__).resolve().parent.parent
 EXAMPLES = TOP / "examples"
 PROGRAM = os.path.abspath(sys.argv[1] if sys.argv[1:] else TOP / "crates" / "renju" / "out" / "renju")
-SECONDS = 60
+SECONDS = 300
 os.environ["RENJU"] = PROGRAM
 sys.path.insert(0, str(EXAMPLES))
 

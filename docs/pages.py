@@ -11,6 +11,8 @@ from reading import TOP, Unread, Word, sentence, tokens_of
 LIST, FOLDER, CLAIMS = "docs/DEFINITIONS.md", "docs/definitions", "docs/claims.txt"
 # The part of docs/claims.txt that is about no claim.
 UNSAID = "what no clause says"
+# So many names of what a claim needs of a chapter, or doesn't, are listed.
+FEW = 6
 NO_COMMENT = "(it has no comment)"
 
 
@@ -161,7 +163,6 @@ class Pages:
             "",
             *([f"Read before: {', '.join(before)}.", ""] if before else []),
             *self.section(chapter.found, in_full),
-            *self.std_line(self.repository.std_of(chapter.found)),
         ]
 
     def claim(self, claim):
@@ -181,11 +182,10 @@ class Pages:
             f"And here, {counted(claim.found)}. `docs/definitions.py --text {claim.name}` prints all of them, one after the other.",
             "",
             *self.section(claim.found, in_full),
-            *self.std_line(self.repository.std_of(claim.found) | claim.std),
         ]
 
     def before(self, claim, place):
-        """What a claim needs of a chapter, or of another claim's page."""
+        """What a claim needs of a chapter, or of another claim's page; by name where that is short."""
         needed = [it for it in place.found if it in claim.rests]
         words, all_words = of_words(needed), of_words(place.found)
         left = [it.name for it in all_words if it not in claim.rests]
@@ -194,9 +194,9 @@ class Pages:
             return f"{link}: {quoted(it.name for it in needed)} alone"
         if not left:
             return f"{link}: all {len(words)}"
-        if len(left) < len(words):
+        if len(left) <= FEW:
             return f"{link}: {len(words)} of {len(all_words)}, all but {quoted(left)}"
-        return f"{link}: {len(words)} of {len(all_words)}, {quoted(it.name for it in words)}"
+        return f"{link}: {len(words)} of {len(all_words)}" + (f", {quoted(it.name for it in words)}" if len(words) <= FEW else "")
 
     def section(self, found, shown):
         """What is found of each crate, lowest first."""
@@ -228,11 +228,6 @@ class Pages:
             if it.name in self.of_several and place != (words[0].crate, words[0].module):
                 said.append(f"`{it.name}` is that of `{'.'.join(place)}`")
         return [f"Here {'; '.join(said)}.", ""] if said else []
-
-    def std_line(self, std):
-        """The toolchain's words of a document. Those that are signs, or of the language, are left out."""
-        names = sorted({name for place, name in std if place and re.fullmatch(r"\w+", name)})
-        return [f"Of the [toolchain's words](toolchain.md): {quoted(names)}."] if names else []
 
     def toolchain(self):
         """How a definition is written, and what the toolchain's words mean."""
@@ -278,11 +273,11 @@ What an answer of `renju` says is said by clauses, and the clauses by definition
 
 To read a claim:
 
-1. Take its page in the table below. It says the claim in words, has the clause, and names the chapters that come before it, with those of their definitions on which the claim does not rest.
+1. Take its page in the table below. It says the claim in words, has the clause, and names the chapters that come before it, with how many of their definitions it rests on, by name where these or the others are few.
 2. Read these chapters from top to bottom, in their order. Each definition stands with its comment and its text, after the definitions that it uses; two that use each other stand together.
 3. Then read the page: what this claim adds to the chapters.
 
-How definitions are written, and a line on each word of the toolchain that they use, is in [toolchain.md](definitions/toolchain.md). Where a name is defined, ``grep -rn '^..`NAME`' docs/definitions`` tells. Begin with `won`, of which the chapters are the ones that most claims need. `docs/definitions.py --text CLAUSE` prints all that a claim rests on as one text, the clause first, with types and limits as they stand in the sources.
+How definitions are written is in [toolchain.md](definitions/toolchain.md), with a line on each word of the toolchain: what no page defines. Where a name is defined, ``grep -rn '^..`NAME`' docs/definitions`` tells. Begin with `won`, of which the chapters are the ones that most claims need. `docs/definitions.py --text CLAUSE` prints all that a claim rests on as one text, the clause first, with types and limits as they stand in the sources.
 
 Nothing else has to be read to believe a claim: no other claim's page, but where a page names one; no body and no proof. Other definitions are printed on demand: by `docs/definitions.py --text crates` those of which only a crate that is used alone speaks, by `docs/definitions.py --text private` those of private contracts and of proofs. The words `pub`, `abbrev` and `unfoldable` before a definition matter to proofs alone.
 

@@ -16,7 +16,7 @@ NAMED_EDIT = re.compile(r"`(\w+)/(\w+)`")
 NEVER = "## Wrong bodies that are never let through"
 DOCUMENT = TOP / "docs" / "PROVED.md"
 PROMISED = re.compile(r"`([\w:]+)` \((`\w+`(?:, `\w+`)*)\)")
-REFUSED = "Wrong bodies that the prover refuses, by the call whose code they turn: "
+REFUSED = "Wrong bodies: "
 FUNCTION = re.compile(r"^( *)(?:pub(?:\([^)]*\))? )?(?:const )?fn (\w+)", re.M)
 OWNER = re.compile(r"^(?:impl|pub trait|trait)\b(?:<[^{]*?>(?= ))?[^{]*?(\w+)(?:<[^{]*>)?(?: where[^{]*)? \{", re.M)
 
@@ -104,7 +104,7 @@ def refused(folder, section):
 def written(text):
     """The document with the lines of must-fail edits as they have to be."""
     for name, section in sections_of(text).items():
-        kept = "\n".join(line for line in section.rstrip().splitlines() if not line.startswith(REFUSED)).rstrip()
+        kept = "\n".join(line for line in section.rstrip().splitlines() if not line.startswith("Wrong bodies")).rstrip()
         line = refused(TOP / "crates" / name, section)
         end = section[len(section.rstrip()) :]
         text = text.replace(f"## `{name}`{section}", f"## `{name}`{kept}" + (f"\n\n{line}" if line else "") + end, 1)
