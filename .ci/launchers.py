@@ -163,6 +163,10 @@ def unbuilt():
         why = "the crate low failed:\nsrc/lib.rt:7:5: error: it is two\nrt: low NOT PROVED\nrt: FAILED: low renju\n"
         expect("renju: a build that fails", f"{status} {output}{errors}", re.compile(f"70 {BUILDING}{re.escape(why)}renju is not built\n"))
         expect("renju: nothing is left behind by a failure", [*kept.iterdir()], [])
+    with small_repository() as top, builder() as (env, _):
+        (top / "HANDLES").unlink()
+        status, output, errors = launched(top / "renju", ["foul"], env=env)
+        expect("renju: a copy that fails", f"{status} {output}{errors}", re.compile(f"70 {BUILDING}cp: .*HANDLES.*\nrenju is not built\n"))
     with small_repository() as top, builder(between="echo 'rt: renju: the program ended with status 1'; exit 1") as (env, _):
         errors = launched(top / "renju", ["foul"], env=env)[2]
         expect("renju: a program that fails", errors.splitlines()[2:], ["rt: renju: the program ended with status 1", "renju is not built"])
