@@ -6,6 +6,8 @@ What is wanted was worked out by hand, or is compared with what the program says
 import os
 import random
 import re
+import shutil
+import signal
 import subprocess
 import sys
 import tempfile
@@ -66,7 +68,7 @@ def fouls_explained():
         status, told, errors = run("foul.py", ["--names", "-", point], rows.format(stones))
         expect(f"foul.py: {name}", (status, told, errors), (0, said, ""))
     numbers = random.Random(1)
-    for _ in range(40):
+    for _ in range(10):
         position = drawn_position(numbers)
         stones = position.stones()
         found = {point: judged(position, stones, point).kind for point in position.empties()}
@@ -166,5 +168,117 @@ def asked_bind(folder, table):
     return subprocess.run([PROGRAM, "bind", f"{folder}/t"], capture_output=True, timeout=SECONDS).stdout.decode()
 
 
+# Black has an open three: a stone at either end of it makes two five points. Other moves make one at most.
+SMALL = "renju-position 1\nrule freestyle\nsize 7\nblack 2,3 3,3 4,3\nwhite 0,0 6,0 0,6\n"
+# One end is closed, so that the other alone is left.
+CLOSED = SMALL.replace(" 0,6", " 0,3")
+
+
+def solutions():
+    """All first moves that win, and the replies that hold after one."""
+    head = "Black is to move: 3 black stones, 3 white stones\n"
+    asked = ", by fours or threats with 1,000\n"
+    both = "1. 1,3 (b4) in 2 moves, by fours\n2. 5,3 (f4) in 2 moves, by fours\n"
+    two = f"{head}2 of 43 first moves win within 2 moves{asked}{both}undecided: none\n"
+    tried = lambda text, *words: run("solutions.py", ["--depth", "2", "--nodes", "1000", *words], text)
+    expect("solutions.py: two first moves", tried(SMALL), (4, two, ""))
+    one = f"{head}1 of 43 first moves wins within 2 moves{asked}1. 5,3 (f4) in 2 moves, by fours\nundecided: none\n"
+    expect("solutions.py: one first move", tried(CLOSED), (0, one, ""))
+    expect("solutions.py: no first move", tried(SMALL.replace("4,3", "6,6"))[0], 9)
+    against = "for 2 moves, against fours and threats with 1,000"
+    holds = f"{head}after 0,3 (a4) 1 reply holds {against}: 1,3 (b4)\nundecided: none\n41 of 42 replies lose\n"
+    expect("solutions.py: a reply holds", tried(SMALL, "--after", "a4"), (4, holds, ""))
+    lose = f"{head}after 1,3 (b4) 0 replies hold {against}: none\nundecided: none\n42 of 42 replies lose\n"
+    expect("solutions.py: no reply holds", tried(SMALL, "--after", "1,3"), (0, lose, ""))
+    with tempfile.TemporaryDirectory() as folder:
+        path = f"{folder}/s.svg"
+        tried(SMALL, "--picture", path)
+        drawn = Path(path).read_text()
+        marks = re.findall(r'<text x="(\d+)" y="[\d.]+" font-size="16" [^>]*>(\d)</text>', drawn)
+        expect("solutions.py: the picture", (marks, "2 of 43 first moves win within 2 moves" in drawn), ([("86", "1"), ("222", "2")], True))
+        Path(folder, "t").write_text(TABLE)
+        status, _, errors = tried(SMALL, "--picture", f"{folder}/t")
+        is_kept = "is not written over" in errors and Path(folder, "t").read_text() == TABLE
+        expect("solutions.py: a picture over a table", (status, is_kept), (1, True))
+    four = SMALL.replace("4,3\n", "4,3 5,3\n").replace("0,6", "0,6 6,6")
+    fails("solutions.py: a point that wins", "solutions.py", ["--after", "b4"], four, "1,3 .* wins at once")
+    errors = run("solutions.py", ["--depth", "61"], SMALL)[2]
+    expect("solutions.py: a depth out of range", errors.splitlines()[-1], re.compile(".*DEPTH is 1 to 60, and not 61"))
+
+
+def batches():
+    """One command over many texts, in their order, and what was done is kept."""
+    with tempfile.TemporaryDirectory() as folder:
+        for name, text in (("a.txt", TEXT), ("b.txt", TEXT.replace("7,7", "9,9")), ("c.txt", "zz\n")):
+            Path(folder, name).write_text(text)
+        line = re.compile(r", \d+\.\d s$", re.M)
+        many = lambda *words: run("many.py", words, cwd=folder)
+        status, told, errors = many("--jobs", "2", "--keep", "k", "solve 2 1000", "c.txt", "a.txt", "b.txt", "no.txt")
+        wanted = (
+            "c.txt: refused line 1\na.txt: Black wins in 2 moves under freestyle, 3 nodes\nb.txt: none\n"
+            "no.txt cannot be read: No such file or directory\n"
+        )
+        expect("many.py: a line a file", (status, line.sub("", told), errors), (3, wanted, ""))
+        table = Path(folder, "k", "a.txt.solve-2-1000.answer").read_text()
+        expect("many.py: an answer that is kept", table, asked(["solve", "2", "1000"], TEXT))
+        # What is kept isn't asked again: here by a program that answers nothing. What changed is, and a line without its end is no line.
+        Path(folder, "b.txt").write_text(TEXT)
+        with open(Path(folder, "k", "done.txt"), "a") as out:
+            out.write("half a line")
+        none = {**os.environ, "RENJU": "/bin/false"}
+        status, again, _ = run("many.py", ["--keep", "k", "solve 2 1000", "c.txt", "a.txt", "b.txt"], cwd=folder, env=none)
+        expect("many.py: a run that goes on", line.sub("", again), "".join(wanted.splitlines(True)[:2]) + "b.txt: no answer, status 1\n")
+        Path(folder, "sub").mkdir()
+        Path(folder, "sub", "a.txt").write_text(TEXT)
+        for name, words, said in [
+            ("two files with one answer", ["--keep", "k", "foul", "a.txt", "sub/a.txt"], "a.txt and sub/a.txt would both be written to"),
+            ("a folder of the user's", ["--keep", ".", "foul", "a.txt"], ". is there already, and holds no answers of this script"),
+            ("no command", ["dance", "a.txt"], "dance is no command over texts"),
+        ]:
+            status, output, errors = run("many.py", words, cwd=folder)
+            expect(f"many.py: {name}", f"{status} {output}{errors}", re.compile(rf"1 many.py: {said}.*\n"))
+        if not shutil.which("parallel"):
+            print("parallel is missing here: positions are not spread by it")
+            return
+        spread = ["parallel", "--will-cite", "-k", "-S", ":", f"{PROGRAM} solve 2 1000 < {{}}", ":::", "a.txt", "sub/a.txt"]
+        done = subprocess.run(spread, capture_output=True, cwd=folder, timeout=SECONDS, stdin=subprocess.DEVNULL)
+        expect("parallel: two positions", done.stdout.decode(), 2 * asked(["solve", "2", "1000"], TEXT))
+
+
+# A program that answers a depth of 2 by a table, and then, asked of 1 with more, doesn't answer any more.
+SLOW = """#!/bin/sh
+[ $2 = 1 ] && [ $3 = 10000 ] && echo spent && exit 5
+[ $2 = 2 ] && exec cat '{}'
+exec sleep 60
+"""
+
+
+def deepened():
+    """The shortest win, with what is told meanwhile, and the best table when it is interrupted."""
+    quiet = EXAMPLES / "wins" / "quiet-three.txt"
+    with tempfile.TemporaryDirectory() as folder:
+        status, told, errors = run("deepen.py", ["--out", f"{folder}/t", quiet])
+        lines = re.sub(r", \d+ s$", "", errors, flags=re.M).splitlines()
+        none = [f"no win within {depth}" for depth in (1, 2, 3, 4)]
+        end = "Black wins in 5 moves under freestyle, and in no fewer by threats; all is decided"
+        expect("deepen.py: the shortest win", (status, told, [it for it in none if it not in lines], lines[-1]), (0, "", [], end))
+        told = asked(["check", "100000000"], Path(folder, "t").read_text())
+        expect("deepen.py: its table", told, re.compile("accepted in 5 moves, .*\n"))
+        status, _, errors = run("deepen.py", ["--out", f"{folder}/t", quiet])
+        expect("deepen.py: a file that is there", (status, "t is there already" in errors), (1, True))
+        status, told, errors = run("deepen.py", ["--depth", "3", quiet])
+        expect("deepen.py: no win", (status, told, "no win by threats within 3 moves; all is decided" in errors), (9, "", True))
+        Path(folder, "slow").write_text(SLOW.format(EXAMPLES / "two-move-win.txt"))
+        Path(folder, "slow").chmod(0o755)
+        words = [EXAMPLES / "deepen.py", "--nodes", "100000", EXAMPLES / "three-in-a-row.txt"]
+        env = {**os.environ, "RENJU": f"{folder}/slow"}
+        run_of = subprocess.Popen(words, stdout=subprocess.PIPE, stderr=subprocess.PIPE, stdin=subprocess.DEVNULL, env=env)
+        while "a win in 2" not in run_of.stderr.readline().decode():
+            pass
+        run_of.send_signal(signal.SIGINT)
+        told, errors = run_of.communicate(timeout=SECONDS)
+        expect("deepen.py: an interrupt", (run_of.returncode, told.decode(), b"interrupted" in errors), (0, TABLE, True))
+
+
 if __name__ == "__main__":
-    sys.exit(tried(fouls_explained, pictures_of_fouls, kept, books))
+    sys.exit(tried(fouls_explained, pictures_of_fouls, kept, books, solutions, batches, deepened))

@@ -332,7 +332,7 @@ def answered(words, text):
         raise Wrong(f"{PROGRAM} cannot be started: {error.strerror}")
     RUNNING.add(run)
     try:
-        told, _ = run.communicate(text.encode())
+        told, _ = run.communicate(text if isinstance(text, bytes) else text.encode())
     finally:
         RUNNING.discard(run)
     return told.decode(), run.returncode

@@ -22,6 +22,12 @@ def write(path, text, is_ours=None, hint="name another file"):
         raise Wrong(f"{path} cannot be written: {error.strerror}")
 
 
+def claim(path):
+    """Refuses a file that is there, or that can't be written, before a long work whose result it is to hold."""
+    write(path, "")
+    os.unlink(path)
+
+
 def replace(path, text):
     """Puts a text in place of what a file holds, at once, so that an interrupt leaves the one or the other."""
     path = Path(os.path.realpath(path))
