@@ -280,5 +280,51 @@ def deepened():
         expect("deepen.py: an interrupt", (run_of.returncode, told.decode(), b"interrupted" in errors), (0, TABLE, True))
 
 
+def session(words, lines, folder):
+    """What play.py says of some lines, without the boards, and its status."""
+    status, output, errors = run("play.py", words, "".join(f"{line}\n" for line in lines), cwd=folder)
+    return status, [line for line in output.splitlines() if not re.match(r" +(a b c|\d+ ?[ (])|The last move", line)], errors
+
+
+def players():
+    """Games of two people, from a position, by a table and by a book's entry; what is saved; and options that don't go together."""
+    with tempfile.TemporaryDirectory() as folder:
+        for name, text in (("p", TEXT), ("t", TABLE), ("f", FOULS), ("b", BOOK), ("mine", "mine\n")):
+            Path(folder, name).write_text(text)
+        # Black makes a straight four, of which the brain blocks the first end.
+        _, said, errors = session(["p"], ["hint", "e8", "moves", "save g", "i8", "save g", "save g2", "picture g.svg", "h1"], folder)
+        wanted = [
+            "Black is to move.", "Black has a win in 2 moves by fours: e8.", "Black is to move.", "1. e8 2. d8", "The game is in g.",
+            "You have won.", "g is there already, and is not written over: name another file", "The game is in g2.",
+            "The board is drawn in g.svg.", "You have won.", "the game is over; undo goes back, and quit ends",
+        ]
+        expect("play.py: from a position", (said, errors), (wanted, ""))
+        expect("play.py: a saved game", asked(["referee"], Path(folder, "g2").read_text()), "won black 3\n")
+        expect("play.py: a saved game is gone on with", session(["g"], ["i8"], folder)[1], ["Black is to move.", "You have won."])
+        _, said, _ = session(["--two", "f"], ["7,9", "undo", "7,7", "h7", "moves"], folder)
+        lost = [
+            "Black has lost by a foul.", "h6 is a double-three", "  a three in the column: h9 h7 h6, a straight four at h8",
+            "  a three in the diagonal down: e9 g7 h6, a straight four at f8",
+        ]
+        turn = "Black is to move."
+        taken = "a stone stands on 7,8 (h7) already"
+        expect("play.py: two people and a foul", said, [turn, *lost, turn, "White is to move.", taken, "1. h8"])
+        _, said, _ = session(["t"], ["a1", "undo", "7, 0"], folder)
+        twice = 2 * ["White is to move.", "The brain has won."]
+        expect("play.py: a table, again after undo", said, twice)
+        _, said, _ = session(["--entry", "2", "b"], ["3,7"], folder)
+        expect("play.py: an entry in which the player moves first", said, ["White is to move.", "The brain has won."])
+        for name, words, told in [
+            ("a side and a table", ["--white", "t"], "--white doesn't go together with t"),
+            ("a rule and a table", ["--rule", "renju", "t"], "--rule doesn't go together with t"),
+            ("two people and a book", ["--two", "b"], "--two doesn't go together with b"),
+            ("an entry of a table", ["--entry", "1", "t"], "t is a table, and has no entry 1"),
+            ("standard input as FILE", ["-"], "FILE can't be -"),
+            ("a text of another kind", ["mine"], "in 'mine' stands 'mine', which is no point"),
+        ]:
+            status, output, errors = run("play.py", words, cwd=folder)
+            expect(f"play.py: {name}", f"{status} {output}{errors}", re.compile(rf"1 play.py: .*{told}.*\n"))
+
+
 if __name__ == "__main__":
-    sys.exit(tried(fouls_explained, pictures_of_fouls, kept, books, solutions, batches, deepened))
+    sys.exit(tried(fouls_explained, pictures_of_fouls, kept, books, solutions, batches, deepened, players))

@@ -305,7 +305,6 @@ def sessions():
             "play.py: a table that is refused", "play.py", [f"{folder}/u.txt"], "",
             "(the brain says|the brain ended with status 4): refused attack-refused 4,7 3,7 3,7",
         )
-    fails("play.py: a position", "play.py", [EXAMPLES / "three-in-a-row.txt"], "", "has to be a table whose own side moves first")
     fails("play.py: no rule", "play.py", ["--rule", "caro"], "", "caro is no rule")
     fails("play.py: no size", "play.py", ["--size", "40"], "", "a board has 5 to 32 columns and rows, and not 40 by 40")
     position = Position("renju", 15, 15, [(7, 6), (6, 7), (8, 7), (7, 8)], [(0, 0), (14, 0), (0, 14), (14, 14)])
