@@ -1,17 +1,37 @@
 """What the scripts beside it share: the program, or another one with the same words, and the time of a run.
 
-Times are those of the processor, which tell more on a busy machine than those of a clock.
+Times are those of the processor, which tell more on a busy machine than those of a clock. It is imported before anything is made,
+so that a script with --help tells what it is at once.
 """
 import os
 import resource
+import shutil
 import subprocess
 import sys
 
 HERE = os.path.dirname(os.path.abspath(__file__))
 
 
+def told(kind, error, trace):
+    """Ends at an interrupt, or where the reader has gone, without a trace."""
+    if not issubclass(kind, (KeyboardInterrupt, BrokenPipeError)):
+        sys.__excepthook__(kind, error, trace)
+        return
+    # What isn't written yet has no reader.
+    os.dup2(os.open(os.devnull, os.O_WRONLY), 1)
+
+
+sys.excepthook = told
+if set(sys.argv[1:]) & {"-h", "--help"}:
+    name = os.path.basename(sys.argv[0])
+    print(f"bench/{name} [PROGRAM [WORD ..]]\n\n{sys.modules['__main__'].__doc__.strip()}")
+    sys.exit(0)
+
+
 def programs():
     """Our program, which is built if it isn't built yet, and the program that the caller's words name, if any."""
+    if sys.argv[1:] and not shutil.which(sys.argv[1]):
+        sys.exit(f"{os.path.basename(sys.argv[0])}: {sys.argv[1]} is no program that can be run; --help tells the words")
     top = os.path.dirname(HERE)
     subprocess.run([os.path.join(top, "renju")], stdout=subprocess.DEVNULL)
     return [[os.path.join(top, "crates", "renju", "out", "renju")]] + ([sys.argv[1:]] if len(sys.argv) > 1 else [])
