@@ -3,6 +3,7 @@
 
 What is wanted was worked out by hand, or is compared with what the program says of the same position or table.
 """
+import json
 import os
 import random
 import re
@@ -11,12 +12,15 @@ import signal
 import subprocess
 import sys
 import tempfile
+from html import unescape
 from pathlib import Path
 
 from trying import EXAMPLES, PROGRAM, SECONDS, TABLE, TEXT, expect, fails, run, tried
 
 FOULS = (EXAMPLES / "allowed-double-three.txt").read_text()
 BOOK = (EXAMPLES / "book.txt").read_text()
+# A browser may take its time to start.
+SECONDS_OF_BROWSER = 300
 
 
 def asked(words, text):
@@ -280,6 +284,134 @@ def deepened():
         expect("deepen.py: an interrupt", (run_of.returncode, told.decode(), b"interrupted" in errors), (0, TABLE, True))
 
 
+# What a page does in a browser: at each state that is given every point that can be clicked is clicked, and what is then shown is kept.
+CLICKS = """<script>
+const visited = STATES.map(([problem, line]) => {
+  history.replaceState(null, "", `#${problem + 1}${line.length ? ":" + line.join(",") : ""}`);
+  visit();
+  return { ...shown };
+});
+// A browser passes over addresses that change too often, so that they are left now.
+const told = visited.map(state => {
+  const open = () => { Object.assign(shown, state, { line: state.line.slice() }); draw(); };
+  open();
+  const points = [...document.querySelectorAll("[data-point]")].map(it => it.getAttribute("data-point"));
+  const fouls = [...document.querySelectorAll("[data-foul]")].map(it => Number(it.getAttribute("data-foul")));
+  const clicks = points.map(point => {
+    open();
+    document.querySelector(`[data-point="${point}"]`).dispatchEvent(new MouseEvent("click", { bubbles: true }));
+    const moves = [...document.querySelectorAll("#moves a")].map(it => it.textContent);
+    return [Number(point), moves, document.getElementById("words").textContent, address(shown.count)];
+  });
+  return { fouls, clicks };
+});
+const judged = BOARDS.map(it => [...firstBoard(it).fouls().keys()]);
+document.body.innerHTML = "<pre id='told'></pre>";
+document.getElementById("told").textContent = JSON.stringify([told, judged]);
+</script>
+</body>"""
+BROWSERS = ("chromium", "chromium-browser", "google-chrome")
+
+
+def lines_to_nodes(table):
+    """For each node that the first attack and listed replies lead to, one line of moves up to its attack."""
+    found, left = {}, [(len(table.nodes) - 1, [])]
+    while left:
+        place, line = left.pop()
+        node = table.nodes[place]
+        if place not in found:
+            found[place] = [*line, node.attack]
+            left += [(next_place, [*found[place], reply]) for reply, next_place in node.replies if reply not in found[place]]
+    return found
+
+
+def shown_in(browser, page):
+    """What a browser has in the page once its scripts have run."""
+    with tempfile.TemporaryDirectory() as folder:
+        Path(folder, "page.html").write_text(page, encoding="utf-8")
+        words = ["--headless", "--no-sandbox", "--disable-gpu", "--disable-dev-shm-usage", f"--user-data-dir={folder}/user", "--dump-dom"]
+        done = subprocess.run([browser, *words, f"file://{folder}/page.html"], capture_output=True, timeout=SECONDS_OF_BROWSER)
+    found = re.search(r'<pre id="told">(.*?)</pre>', done.stdout.decode(), re.S)
+    return json.loads(unescape(found.group(1))) if found else None
+
+
+def wanted_click(table, position, node, line, point, fouls):
+    """What a page has to show after a click: the moves, and how the words begin."""
+    from boards import named
+
+    name = named(point, position.height)
+    if point in fouls:
+        return [*line, name], f"{name} is {'an' if fouls[point] == 'overline' else 'a'} {fouls[point]}: a foul. White wins."
+    answer = table.nodes[node.answer(point)]
+    attack = named(answer.attack, position.height)
+    side = table.attacker().capitalize()
+    return [*line, name, attack], f"{attack} makes five. {side} wins." if answer.wins else f"{side} plays {attack}. "
+
+
+def pages():
+    """Every reply of two tables is clicked on their page, and the answers are those of the tables; fouls are those of the program."""
+    from boards import named, read
+
+    block = asked(["fours", "10", "20000"], (EXAMPLES / "wins" / "block-fouls.txt").read_text())
+    with tempfile.TemporaryDirectory() as folder:
+        for name, text in (("two", TABLE), ("block", block), ("no", TABLE.replace("3,7>1", "3,7>0")), ("p", TEXT)):
+            Path(folder, name).write_text(text)
+        status, page, errors = run("page.py", ["two", "block"], cwd=folder)
+        for name, words, said in [
+            ("a table that isn't accepted", ["no"], "no: renju check says refused attack-refused 4,7 3,7 3,7"),
+            ("a position", ["p"], "the text is a position, and has no table"),
+            ("a file that is there", ["--out", "p", "two"], "p is there already, and is not written over: it is no page of this script"),
+        ]:
+            fails_in(folder, f"page.py: {name}", words, said)
+    expect("page.py: a page", (status, errors, re.findall(r"(?:src|href)=[^ >]*", page)), (0, "", []))
+    browser = next(filter(None, map(shutil.which, BROWSERS)), None)
+    if not browser:
+        print("chromium is missing here: the pages are not clicked")
+        return
+    tables, states, wanted = [read(TABLE.encode()), read(block.encode())], [], []
+    for number, table in enumerate(tables):
+        for place, line in lines_to_nodes(table).items():
+            position = table.position
+            for point in line:
+                position = position.after(point)
+            if not position.won_at():
+                names = [named(point, position.height) for point in line]
+                states.append([number, names])
+                wanted.append((table, position, table.nodes[place], names))
+    numbers = random.Random(2)
+    drawn = [drawn_position(numbers) for _ in range(20)]
+    at = lambda points, position: [x + y * position.width for x, y in points]
+    boards = [
+        {"rule": it.rule, "width": it.width, "height": it.height, "black": at(it.black, it), "white": at(it.white, it)} for it in drawn
+    ]
+    clicks = CLICKS.replace("STATES", json.dumps(states)).replace("BOARDS", json.dumps(boards))
+    found = shown_in(browser, page.replace("</body>", clicks))
+    if not found:
+        expect("page.py: the page in a browser", found, "what it shows")
+        return
+    told, judged = found
+    expect("page.py: the fouls of drawn positions", judged, [at(it.fouls(), it) for it in drawn])
+    for (table, position, node, line), shown in zip(wanted, told):
+        clicked(table, position, node, line, shown)
+
+
+def clicked(table, position, node, line, shown):
+    """Compares what a page showed after each click in one state."""
+    name = f"page.py: after {' '.join(line)}"
+    number, fouls = lambda point: point[0] + point[1] * position.width, position.fouls()
+    expect(f"{name}: the fouls", sorted(shown["fouls"]), sorted(map(number, fouls)))
+    expect(f"{name}: the points", [point for point, *_ in shown["clicks"]], [number(point) for point in position.empties()])
+    for (_, moves, words, address), point in zip(shown["clicks"], position.empties()):
+        wanted_moves, wanted_words = wanted_click(table, position, node, line, point, fouls)
+        got = (moves, words[: len(wanted_words)], address.partition(":")[2])
+        expect(f"{name} {point}", got, (wanted_moves, wanted_words, ",".join(wanted_moves)))
+
+
+def fails_in(folder, name, words, said):
+    status, output, errors = run("page.py", words, cwd=folder)
+    expect(name, f"{status} {output}{errors}", re.compile(rf"1 page.py: .*{said}.*\n"))
+
+
 def session(words, lines, folder):
     """What play.py says of some lines, without the boards, and its status."""
     status, output, errors = run("play.py", words, "".join(f"{line}\n" for line in lines), cwd=folder)
@@ -327,4 +459,4 @@ def players():
 
 
 if __name__ == "__main__":
-    sys.exit(tried(fouls_explained, pictures_of_fouls, kept, books, solutions, batches, deepened, players))
+    sys.exit(tried(fouls_explained, pictures_of_fouls, kept, books, solutions, batches, deepened, pages, players))
