@@ -1,7 +1,7 @@
 //! Fouls, outcomes and lawful positions on small examples.
 
 use crate::compared::same;
-use foul_judge::{Foul, Outcome, Position, PositionError, Seen, foul_at};
+use foul_judge::{Foul, Outcome, Position, PositionError, Seen, foul_at, refusal};
 use row_shapes::{ExactFive, FivePoints, Freestyle, Renju, Rule, RuleKind, under_rule};
 use std::alloc::Global;
 use std::process::Abort;
@@ -81,26 +81,29 @@ fn fouls_are_judged_under_renju_alone(rt: HostRuntime) {
     }
 }
 
-/// Why the board is no position, and whether it comes back as it was. There is none where it is a position.
-fn refusal(alloc: Global, marks: &str) -> Option<(PositionError, bool)> {
+/// Why the board is no position, whether that is told beforehand, and whether it comes back as it was. There is none where it is a
+/// position.
+fn refused(alloc: Global, marks: &str) -> Option<(PositionError, bool, bool)> {
     let board = drawn_board(alloc, marks)?;
     let copy = board.copy().ok()?;
+    let told = refusal(RuleKind::Freestyle, &board);
     match Position::<Freestyle>::from_board(board) {
         Ok(_) => None,
-        Err((error, returned)) => Some((error, returned.same(&copy))),
+        Err((error, returned)) => Some((error, told == Some(error), returned.same(&copy))),
     }
 }
 
 #[test]
 fn refused_boards_come_back(rt: HostRuntime) {
     let uneven = PositionError::Uneven { black: 0, white: 1 };
-    same(&rt, refusal(rt.alloc(), "..o"), Some((uneven, true)));
+    same(&rt, refused(rt.alloc(), "..o"), Some((uneven, true, true)));
     let won = PositionError::AlreadyWon { at: at(0, 1) };
-    let told = refusal(rt.alloc(), "xo.o.xxxxxo.o.o");
-    same(&rt, told, Some((won, true)));
-    let told = refusal(rt.alloc(), "xoxoxoxoxoxxooxoxoxoxoxox");
-    same(&rt, told, Some((PositionError::BoardFull, true)));
+    let told = refused(rt.alloc(), "xo.o.xxxxxo.o.o");
+    same(&rt, told, Some((won, true, true)));
+    let told = refused(rt.alloc(), "xoxoxoxoxoxxooxoxoxoxoxox");
+    same(&rt, told, Some((PositionError::BoardFull, true, true)));
     let board = drawn_board(rt.alloc(), "xo").expect(&rt, "a board");
+    same(&rt, refusal(RuleKind::Freestyle, &board), None);
     same(&rt, lawful::<Freestyle>(board).is_some(), true);
 }
 
@@ -166,33 +169,17 @@ fn played(
     }
 }
 
-/// Takes back a stone of the side that is not to move, and says whether there is one that can be taken back.
-fn undo(position: &mut Position<Renju>, p: Point) -> Option<bool> {
-    let side = position.side().other();
-    let mut board = position.board().copy().ok()?;
-    if !board.holds(side, p) {
-        return Some(false);
-    }
-    board.lift(p);
-    match Position::<Renju>::from_board(board) {
-        Ok(_) => {
+/// The side of a move that goes on, which is played and taken back.
+fn taken_back(position: &mut Position<Renju>, p: Point) -> Option<Side> {
+    match position.outcome(p) {
+        Outcome::GoesOn => {
+            let side = position.side();
+            position.play(p);
             position.undo(p);
-            Some(true)
+            Some(side)
         }
-        Err(_) => Some(false),
+        _ => None,
     }
-}
-
-fn play_and_take_back(
-    rt: &impl Abort,
-    position: &mut Position<Renju>,
-    before: &Position<Renju>,
-    p: Point,
-) {
-    let told = played(position, before, p);
-    same(rt, told, Some((Side::Black, Side::White, true, false)));
-    same(rt, undo(position, p), Some(true));
-    same(rt, position.same(before), true);
 }
 
 /// The position of the board of 5 with a stone of each side.
@@ -201,10 +188,19 @@ fn two_stones(alloc: Global) -> Option<Position<Renju>> {
 }
 
 #[test]
-fn a_move_is_played_and_taken_back(rt: HostRuntime) {
+fn a_move_is_played(rt: HostRuntime) {
     let before = two_stones(rt.alloc()).expect(&rt, "a position");
     let mut position = before.copy().expect(&rt, "a copy");
-    play_and_take_back(&rt, &mut position, &before, at(2, 2));
+    let told = played(&mut position, &before, at(2, 2));
+    same(&rt, told, Some((Side::Black, Side::White, true, false)));
+}
+
+#[test]
+fn a_move_is_taken_back(rt: HostRuntime) {
+    let before = two_stones(rt.alloc()).expect(&rt, "a position");
+    let mut position = before.copy().expect(&rt, "a copy");
+    same(&rt, taken_back(&mut position, at(2, 2)), Some(Side::Black));
+    same(&rt, position.same(&before), true);
 }
 
 #[test]

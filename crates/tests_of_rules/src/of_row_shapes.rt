@@ -3,8 +3,8 @@
 use crate::compared::same;
 use row_shapes::{
     ExactFive, FivePoints, Freestyle, Renju, Rule, RuleKind, five_at, five_points, fives_in_short,
-    fives_made, fours_through, has_five, stones_in_reach, straight_through, three_points,
-    under_rule,
+    fives_made, fours_through, has_five, is_five_point, stones_in_reach, straight_through,
+    three_points, under_rule,
 };
 use std::process::Abort;
 use stone_board::{Axis, Board, Point, Side};
@@ -33,6 +33,8 @@ fn six_in_a_row_win_by_the_rule(rt: HostRuntime) {
     let six = (Renju::wins(Side::White, 6), Renju::wins(Side::Black, 6));
     same(&rt, six, (true, false));
     same(&rt, Renju::KIND, RuleKind::Renju);
+    let fouls = (Renju::has_fouls(Side::Black), Renju::has_fouls(Side::White));
+    same(&rt, fouls, (true, false));
 }
 
 /// The fours through a stone of Black in its row and in its column, whether its row has a straight four, and the row's three points.
@@ -109,6 +111,10 @@ fn five_points_come_in_reading_order(rt: HostRuntime) {
     let points = five_points::<Freestyle>(rt.alloc(), &board, Side::Black).expect(&rt, "points");
     same(&rt, points.as_slice(), [at(3, 7), at(8, 7)].as_slice());
     same(&rt, has_five::<Freestyle>(&board, Side::White), false);
+    let short = fives_in_short::<Freestyle>(&board, Side::Black);
+    same(&rt, short.is_several(), true);
+    let is_five = is_five_point::<Freestyle>(&board, Side::Black, at(3, 7));
+    same(&rt, is_five, true);
 }
 
 /// Whether Black has a five point under freestyle and under renju, and White's five points in short under freestyle.

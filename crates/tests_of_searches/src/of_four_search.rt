@@ -3,7 +3,7 @@
 use crate::answers::add_fours;
 use crate::compared::same;
 use foul_judge::Position;
-use four_search::{FourAnswer, FourMemory, four_search};
+use four_search::{FourAnswer, FourMemory, fewest_win, four_search};
 use row_shapes::{Freestyle, Rule, RuleKind, under_rule};
 use std::alloc::Global;
 use std::process::Abort;
@@ -223,8 +223,26 @@ fn wins(alloc: Global, case: &Case) -> Option<bool> {
     Some(matches!(found.ok()?, FourAnswer::Win(_)))
 }
 
+/// The number of nodes, the node and the moves of the table of the fewest win within 5 moves, if there is one.
+fn fewest(alloc: Global, case: &Case) -> Option<Option<(u32, u32, u32)>> {
+    let mut view = position_of::<Freestyle>(alloc, case.black, case.white)?;
+    let found = fewest_win::<Freestyle, Position<Freestyle>>(alloc, &mut view, 5, 100).ok()?;
+    Some(
+        found
+            .win()
+            .map(|win| (win.table.len(), win.node, win.moves)),
+    )
+}
+
 #[test]
 fn a_search_has_a_memory_of_its_own(rt: HostRuntime) {
     same(&rt, wins(rt.alloc(), &THREE_IN_A_ROW), Some(true));
     same(&rt, wins(rt.alloc(), &NO_STONES), Some(false));
+}
+
+#[test]
+fn the_fewest_win_has_a_table(rt: HostRuntime) {
+    let told = fewest(rt.alloc(), &THREE_IN_A_ROW);
+    same(&rt, told, Some(Some((3, 2, 2))));
+    same(&rt, fewest(rt.alloc(), &NO_STONES), Some(None));
 }

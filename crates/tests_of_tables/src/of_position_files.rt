@@ -181,30 +181,30 @@ fn names_what_is_refused_of_a_game(rt: HostRuntime) {
     }
 }
 
-/// The rule, the board and the length of a head at the front of the text.
+/// The rule and the size of a head at the front of the text, and how many bytes come after it.
 fn head_in(alloc: Global, text: &[u8]) -> Result<(RuleKind, u8, u8, usize), HeadError> {
-    let head = read_head(alloc, text)?;
+    let (head, rest) = read_head(alloc, text)?;
     let board = &head.board;
-    Ok((head.kind, board.width(), board.height(), head.taken))
+    Ok((head.kind, board.width(), board.height(), rest.len()))
 }
 
 #[test]
 fn reads_a_head_at_the_front(rt: HostRuntime) {
     let text = b"rule exact\nsize 9,5\nblack 0,2\nwhite 0,0\nmoves 0,1\n";
     let told = head_in(rt.alloc(), text).ok();
-    same(&rt, told, Some((RuleKind::Exact, 9, 5, 40)));
+    same(&rt, told, Some((RuleKind::Exact, 9, 5, 10)));
 }
 
-/// How many of two nodes there are at the front of the text, and their length.
+/// How many of two nodes there are at the front of the text, and how many bytes come after them.
 fn nodes_in(alloc: Global, text: &[u8]) -> Result<(u32, usize), HeadError> {
-    let nodes = read_nodes(alloc, text, 2, 15, 15)?;
-    Ok((nodes.table.len(), nodes.taken))
+    let (table, rest) = read_nodes(alloc, text, 2, 15, 15)?;
+    Ok((table.len(), rest.len()))
 }
 
 #[test]
 fn reads_nodes_at_the_front(rt: HostRuntime) {
     let text = b"8,7 wins\n3,7 rest 0 8,7>0\nentries 1\n";
-    same(&rt, nodes_in(rt.alloc(), text).ok(), Some((2, 26)));
+    same(&rt, nodes_in(rt.alloc(), text).ok(), Some((2, 10)));
 }
 
 /// What answers two points.
@@ -212,17 +212,17 @@ fn answers(start: &Start) -> [Option<u32>; 2] {
     [start.lookup(at(8, 7)), start.lookup(at(0, 0))]
 }
 
-/// The length of a start over two nodes at the front of the text, and what answers two points.
+/// How many bytes come after a start over two nodes at the front of the text, and what answers two points.
 fn start_in(alloc: Global, text: &[u8]) -> Result<(usize, [Option<u32>; 2]), HeadError> {
-    let line = read_start(alloc, text, 2, 15, 15)?;
-    Ok((line.taken, answers(&line.start)))
+    let (start, rest) = read_start(alloc, text, 2, 15, 15)?;
+    Ok((rest.len(), answers(&start)))
 }
 
 #[test]
 fn reads_a_start_at_the_front(rt: HostRuntime) {
     let text = b"start rest 1 8,7>0\nrule exact\n";
     let told = start_in(rt.alloc(), text).ok();
-    same(&rt, told, Some((19, [Some(0), Some(1)])));
+    same(&rt, told, Some((11, [Some(0), Some(1)])));
 }
 
 const BAD_HEADS: [(&[u8], u32); 5] = [

@@ -1,15 +1,15 @@
 //! Verdicts on small tables, worked out by hand, and on the longest one.
 
 use crate::compared::same;
-use foul_judge::Position;
+use foul_judge::{Position, refusal};
 use position_files::{TableFile, read_table};
 use row_shapes::{Freestyle, Rule, RuleKind, under_rule};
 use std::alloc::Global;
 use std::process::Abort;
-use stone_board::{Board, Side};
-use strategy_checker::{Held, HeldError, MAX_ROOTS, Verdict, Why, check, check_start};
+use stone_board::{Board, Points, Side};
+use strategy_checker::{Held, HeldError, MAX_ROOTS, Verdict, Why, check, check_root, check_start};
 use strategy_graph::{MAX_NODES, Node, Replies, Rest, Root, Table};
-use test_boards::{at, lawful, points_of, position_of};
+use test_boards::{at, board_of, lawful, points_of, position_of};
 
 /// What a verdict says: the moves and the arrivals, or why a line of moves is refused.
 #[derive(Clone, Copy)]
@@ -88,6 +88,14 @@ fn verdict_on(alloc: Global, text: &str, work: u64) -> Option<Verdict> {
     under_rule!(file.kind, verdict(alloc, &file, board, work))
 }
 
+/// Whether these are the moves of the line.
+fn is_line(alloc: Global, line: &Points, moves: &str) -> bool {
+    match points_of(alloc, moves) {
+        Some(wanted) => wanted.as_slice() == line.as_slice(),
+        None => false,
+    }
+}
+
 /// Whether this is what the verdict says.
 fn says(alloc: Global, verdict: &Verdict, told: Told) -> bool {
     match (verdict, told) {
@@ -95,8 +103,7 @@ fn says(alloc: Global, verdict: &Verdict, told: Told) -> bool {
             *moves == in_moves && *arrivals == count
         }
         (Verdict::Refused { line, why }, Told::Refused(fault, moves)) => {
-            let wanted = points_of(alloc, moves);
-            *why == fault && wanted.is_some_and(|wanted| wanted.as_slice() == line.as_slice())
+            *why == fault && is_line(alloc, line, moves)
         }
         (Verdict::Spent, Told::Spent) => true,
         _ => false,
@@ -108,6 +115,37 @@ fn tables_are_judged_as_worked_out(rt: HostRuntime) {
     for (text, work, told) in verdicts() {
         let verdict = verdict_on(rt.alloc(), text, *work).expect(&rt, text);
         let is_told = says(rt.alloc(), &verdict, *told);
+        same(&rt, (*text, *work, is_told), (*text, *work, true));
+    }
+}
+
+/// The arrivals of the root of the text, or why it is not accepted with so much work.
+fn arrivals_of_root(alloc: Global, text: &str, work: u64) -> Option<Result<u64, HeldError>> {
+    let file = read_table(alloc, text.as_bytes()).ok()?;
+    let (board, table, root) = (&file.board, &file.table, &file.root);
+    if refusal(file.kind, board).is_some() || !root.names_below(table.len()) {
+        return None;
+    }
+    Some(check_root(alloc, file.kind, board, table, root, work))
+}
+
+/// Whether this is what is told of the root.
+fn says_of_root(alloc: Global, answer: &Result<u64, HeldError>, told: Told) -> bool {
+    match (answer, told) {
+        (Ok(arrivals), Told::Accepted(_, count)) => *arrivals == count,
+        (Err(HeldError::Refused { line, why }), Told::Refused(fault, moves)) => {
+            *why == fault && is_line(alloc, line, moves)
+        }
+        (Err(HeldError::Spent), Told::Spent) => true,
+        _ => false,
+    }
+}
+
+#[test]
+fn roots_are_judged_as_worked_out(rt: HostRuntime) {
+    for (text, work, told) in verdicts() {
+        let answer = arrivals_of_root(rt.alloc(), text, *work).expect(&rt, text);
+        let is_told = says_of_root(rt.alloc(), &answer, *told);
         same(&rt, (*text, *work, is_told), (*text, *work, true));
     }
 }
@@ -173,6 +211,19 @@ fn add_three(alloc: Global, held: &mut Held, work: u64) -> Option<Result<u32, He
     Some(held.add(root, position, work))
 }
 
+/// What adding node 2 at the board of the open three answers, where it may be added.
+fn add_three_at(alloc: Global, held: &mut Held, work: u64) -> Option<Result<u32, HeldError>> {
+    let board = board_of(alloc, "5,7 6,7 7,7", "0,0 2,0 4,0")?;
+    let (kind, root) = (RuleKind::Freestyle, Root::Attack(2));
+    if refusal(kind, &board).is_some() || !root.names_below(held.table().len()) {
+        return None;
+    }
+    if held.len() >= MAX_ROOTS {
+        return None;
+    }
+    Some(held.add_at(kind, board, root, work))
+}
+
 /// Where one root is held: its rule, how many black stones its board has, and its node.
 fn held_root(held: &Held) -> Option<(RuleKind, u32, u32)> {
     if held.len() != 1 {
@@ -190,6 +241,8 @@ fn an_accepted_root_is_held(rt: HostRuntime) {
     let added = add_three(rt.alloc(), &mut held, 219).expect(&rt, "an answer");
     same(&rt, added.ok(), Some(2));
     same(&rt, held_root(&held), Some((RuleKind::Freestyle, 3, 2)));
+    let again = add_three_at(rt.alloc(), &mut held, 219).expect(&rt, "an answer");
+    same(&rt, (again.ok(), held.len()), (Some(2), 2));
 }
 
 /// Whether the root is refused since an attack is.
