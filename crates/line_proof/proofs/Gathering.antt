@@ -1,6 +1,7 @@
 -- Answers to the replies so far: they stay answers as the nodes grow, and one more.
-use Rattle.std.proofs.Common.{◌≡◌, ℕ, ◌≤◌, ◌+◌, max, Bool, true, false, cond, ◌&&◌, refl, sym, ap, subst, ◌∙◌, arith, List, [], ◌∷◌, ◌++◌}
-use Rattle.std.proofs.Common.{map, append_assoc}
+use Rattle.std.proofs.Common.{◌≡◌, ℕ, zero, suc, ◌<◌, ◌≤◌, ◌+◌, max, Bool, true, false, cond, ◌&&◌, refl, sym, ap, subst, ◌∙◌, arith, List}
+use Rattle.std.proofs.Common.{[], ◌∷◌, ◌++◌}
+use Rattle.std.proofs.Common.{map, append_assoc, get_or, length}
 use Rattle.std.specs.List.{AllByRecursion, list_all, sum_by}
 use Rattle.std.proofs.lemmas.List.{map-append}
 use Rattle.std.proofs.lemmas.List.Sums.{sum_by-cons}
@@ -77,6 +78,12 @@ answers-few rule n t c a h =
       few : (rs : List Reply) → AllByRecursion (IsBeatenBy rule n c t) rs → greatest (map (depth t) (map (λ r. r.next) rs)) ≤ n
       few [] h = omega arith
       few (r ∷ rs) h = let here = h.0.within in let rest = few rs h.1 in omega (arith, here, rest)
+
+pub answers-below : (rule : RuleKind) (n : ℕ) (t : List Node) (c : Grid) (rs : List Reply) → AllByRecursion (IsBeatenBy rule n c t) rs
+    → (k : ℕ) (d : Reply) → k < length rs → (get_or rs k d).next < length t
+answers-below rule n t c [] h k d l = absurd (omega (arith, l))
+answers-below rule n t c (r ∷ rs) h zero d l = h.0.in_compiler
+answers-below rule n t c (r ∷ rs) h (suc k) d l = answers-below rule n t c rs h.1 k d (omega (arith, l))
 
 -- ---- one reply more
 

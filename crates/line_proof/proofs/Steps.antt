@@ -10,6 +10,7 @@ use Rattle.game_rules.proofs.Games.{each_reply, five-wins}
 use Rattle.game_rules.proofs.Outcomes.{five-outcome}
 use Rattle.threat_moves.specs.declared.threat_list.Threat.{Threat}
 use Rattle.strategy_graph.specs.declared.Node.{Node}
+use Rattle.strategy_compiler.proofs.Common.{GrowsBy, IsCompiled, Writes}
 use Rattle.line_proof.specs.declared.proof.LineAnswer.{LineAnswer}
 use Rattle.line_proof.specs.Answers.{IsTold}
 use Rattle.line_proof.specs.Lines.{line_wins, line_tree, line_move, each_loses, block_of, block_or_gain, move_wins, behind_line_move}
@@ -99,6 +100,11 @@ module _ (rule : RuleKind) (b : Grid) where
     by_test : (r : Bool) → has_five rule b (mover b) ≡ r → cond r 1 0 ≤ cond (wins_by_fours rule (min n 2) b) 4 0
     by_test true e = let wins = ap {B = ℕ} (λ (r : Bool). cond r 4 0) (five-quick n l e) in omega (arith, wins)
     by_test false e = omega arith
+
+-- nodes that were written before are those of a call that had an answer
+pub writes-grown : {A : Type 0} (old new : List Node) (k : ℕ) (x : A) → GrowsBy old new k → IsCompiled new → Writes old new k (Ok x)
+writes-grown old new k x grows compiled =
+    record { grows = grows; compiled = compiled; full = λ h. cc; full_now = λ h. cc }
 
 -- what holds whatever is answered
 pub on-ok : {A E P : Type 0} (r : Result A E) → P → OnOk r P

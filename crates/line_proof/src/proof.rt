@@ -101,7 +101,8 @@ fn prove<R: Rule, V: Seen<R>>(
     requires some { 1 ≤ line.moves }
     requires fits { line.moves ≤ MAX_DEPTH }
     requires compiled { IsCompiled compiler.old }
-    ensures told { IfOk result (IsTold R.KIND line.entry.moves (V.position view.old) compiler.new (line_wins R.KIND line.entry.threats.now line.entry.moves (V.position view.old))) }
+    ensures told { IfOk result (IsTold R.KIND line.entry.moves (V.position view.old) compiler.new
+        (line_wins R.KIND line.entry.threats.now line.entry.moves (V.position view.old))) }
     ensures writes { Writes compiler.old compiler.new (line_tree R.KIND line.entry.threats.now line.entry.moves (V.position view.old)) result }
     ensures same { V.position view.new ≡ V.position view.old }
 {
@@ -195,7 +196,8 @@ fn prove_slow<R: Rule, V: Seen<R>>(
     requires fits { line.moves ≤ MAX_DEPTH }
     requires slow { wins_by_fours R.KIND (min line.moves 2) (V.position view.old) ≡ false }
     requires compiled { IsCompiled compiler.old }
-    ensures told { IfOk result (IsTold R.KIND line.entry.moves (V.position view.old) compiler.new (line_wins R.KIND line.entry.threats.now line.entry.moves (V.position view.old))) }
+    ensures told { IfOk result (IsTold R.KIND line.entry.moves (V.position view.old) compiler.new
+        (line_wins R.KIND line.entry.threats.now line.entry.moves (V.position view.old))) }
     ensures writes { Writes compiler.old compiler.new (line_tree R.KIND line.entry.threats.now line.entry.moves (V.position view.old)) result }
     ensures same { V.position view.new ≡ V.position view.old }
 {
@@ -233,7 +235,8 @@ fn prove_gain<R: Rule, V: Seen<R>>(
     ensures told { IfOk result (IsTold R.KIND (suc line.entry.moves) (V.position view.old) compiler.new
         (move_wins R.KIND (V.position view.old) (λ ts. line_wins R.KIND ts line.entry.moves) (first_gain line.entry.threats.now))) }
     ensures writes { Writes compiler.old compiler.new
-        (1 + behind_line_move R.KIND (V.position view.old) (λ ts. line_tree R.KIND ts line.entry.moves) (first_gain line.entry.threats.now)) result }
+        (1 + behind_line_move R.KIND (V.position view.old) (λ ts. line_tree R.KIND ts line.entry.moves)
+        (first_gain line.entry.threats.now)) result }
     ensures same { V.position view.new ≡ V.position view.old }
 {
     match line.threats.split_first() {
@@ -258,7 +261,8 @@ fn prove_move<R: Rule, V: Seen<R>>(
     ensures told { IfOk result (IsTold R.KIND (suc line.entry.moves) (V.position view.old) compiler.new
         (move_wins R.KIND (V.position view.old) (λ ts. line_wins R.KIND ts line.entry.moves) (Some (p, line.entry.threats.now)))) }
     ensures writes { Writes compiler.old compiler.new
-        (1 + behind_line_move R.KIND (V.position view.old) (λ ts. line_tree R.KIND ts line.entry.moves) (Some (p, line.entry.threats.now))) result }
+        (1 + behind_line_move R.KIND (V.position view.old) (λ ts. line_tree R.KIND ts line.entry.moves)
+        (Some (p, line.entry.threats.now))) result }
     ensures same { V.position view.new ≡ V.position view.old }
 {
     match view.outcome(p) {

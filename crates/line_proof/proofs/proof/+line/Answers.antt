@@ -1,6 +1,5 @@
-use Rattle.std.proofs.Common.{rules, ◌≡◌, ℕ, suc, ◌+◌, Bool, true, false, sym, ap, subst, ◌∙◌, arith, IfOk, refl, List, Some}
-use Rattle.std.proofs.Common.{None}
-use Rattle.std.proofs.Common.{IfSome, sum_by}
+use Rattle.std.proofs.Common.{rules, ◌≡◌, ℕ, suc, ◌+◌, Bool, true, false, sym, ap, subst, ◌∙◌, arith, IfOk, OnOk, refl, List, Some}
+use Rattle.std.proofs.Common.{None, IfSome, sum_by}
 use Rattle.game_rules.proofs.Common.{Grid, points_of, outcome, after, goes_on_with, has_five, loses_or, if_goes_on}
 use Rattle.game_rules.specs.Games.{behind_replies}
 use Rattle.game_rules.specs.declared.Outcome.TheVariants.{GoesOn}
@@ -16,9 +15,9 @@ use Rattle.strategy_compiler.proofs.Growing.{grows-not, grows-then, writes-fails
 use Rattle.strategy_compiler.proofs.Growing.{writes-then-fails}
 use Rattle.strategy_compiler.proofs.Standing.{compiled-lower}
 use Rattle.strategy_graph.proofs.Rising.{replies-rising}
-use Rattle.line_proof.proofs.Gathering.{answered-more, answers-few, few-step, rest-step, lose-step, fails-step}
+use Rattle.line_proof.proofs.Gathering.{answered-more, answers-below, answers-few, few-step, rest-step, lose-step, fails-step}
 use Rattle.line_proof.proofs.Doubling.{hint-grown}
-use Rattle.line_proof.proofs.Steps.{no_moves-wins, quick-wins, quick-most, told-move, move-tree, five-refutes, on-ok}
+use Rattle.line_proof.proofs.Steps.{no_moves-wins, quick-wins, quick-most, told-move, move-tree, five-refutes, on-ok, writes-grown}
 use Rattle.line_proof.proofs.proof.+line.Goals as goal
 
 -- ---- the walk along the threats
@@ -100,6 +99,16 @@ prove_on-fork-requires-clause-rising g t c =
     (each_loses g.R.Rule.KIND d (line_wins g.R.Rule.KIND c.args.line.threats.now c.args.line.moves))) c.in-Some.is
     c.in_ok-answers_after.ensures.found in
     replies-rising d (λ q. goes_on_with (outcome g.R.Rule.KIND d q) true) c.in-Some.answers.replies.items found.1.all
+
+pub prove_on-fork-requires-clause-below : goal.prove_on-fork-requires-clause-below
+prove_on-fork-requires-clause-below g t c =
+    let d : Grid = after (g.V.Seen.position c.args.view.now) c.args.p in
+    let found : FindsAnswers g.R.Rule.KIND c.args.line.moves c.answers_after.new.compiler d
+    (each_loses g.R.Rule.KIND d (line_wins g.R.Rule.KIND c.args.line.threats.now c.args.line.moves)) (Some c.in-Some.answers) =
+    subst (FindsAnswers g.R.Rule.KIND c.args.line.moves c.answers_after.new.compiler d
+    (each_loses g.R.Rule.KIND d (line_wins g.R.Rule.KIND c.args.line.threats.now c.args.line.moves))) c.in-Some.is
+    c.in_ok-answers_after.ensures.found in
+    answers-below g.R.Rule.KIND c.args.line.moves c.answers_after.new.compiler d c.in-Some.answers.replies.items found.1.answers.wins
 
 pub prove_on-fork-requires-clause-few_moves : goal.prove_on-fork-requires-clause-few_moves
 prove_on-fork-requires-clause-few_moves g t c =
@@ -243,6 +252,30 @@ answer_each-returns-then-not-branch-clause-found g t c =
     sym c.loop-q.invariant.lose ∙ fails-step g.R.Rule.KIND (g.V.Seen.position c.args.view.now) v c.loop-q.invariant.same c.in-Some.q
     c.loop-q.q-iterator c.next.new.self c.in-Some.ensures.steps won stays
 
+pub answer_each-returns-in_err-answer_reply-clause-writes : goal.answer_each-returns-in_err-answer_reply-clause-writes
+answer_each-returns-in_err-answer_reply-clause-writes g t c =
+    let b : Grid = g.V.Seen.position c.args.view.now in
+    let v : Grid = g.V.Seen.position c.loop-q.view in
+    let left = c.loop-q.invariant.left in
+    let split = few-step g.R.Rule.KIND b v c.loop-q.invariant.same c.in-Some.q c.loop-q.q-iterator c.next.new.self c.in-Some.ensures.steps
+    (line_tree g.R.Rule.KIND c.args.line.threats.now c.args.line.moves) in
+    let before = writes-grown c.args.compiler.now c.loop-q.compiler _ c.args.line.moves c.loop-q.invariant.grows
+    c.loop-q.invariant.compiled in
+    writes-then-fails _ _ _ _ _ _ _ _ _ before c.in_err-answer_reply.ensures.writes (omega (arith, left, split)) (search rules)
+
+pub answer_each-returns-then-not-branch-clause-writes : goal.answer_each-returns-then-not-branch-clause-writes
+answer_each-returns-then-not-branch-clause-writes g t c =
+    let b : Grid = g.V.Seen.position c.args.view.now in
+    let v : Grid = g.V.Seen.position c.loop-q.view in
+    let left = c.loop-q.invariant.left in
+    let split = few-step g.R.Rule.KIND b v c.loop-q.invariant.same c.in-Some.q c.loop-q.q-iterator c.next.new.self c.in-Some.ensures.steps
+    (line_tree g.R.Rule.KIND c.args.line.threats.now c.args.line.moves) in
+    let before = writes-grown c.args.compiler.now c.loop-q.compiler _ c.args.line.moves c.loop-q.invariant.grows
+    c.loop-q.invariant.compiled in
+    writes-tells _ _ _ _ _ _ (writes-then _ _ _ _ _
+    (behind_replies g.R.Rule.KIND (line_tree g.R.Rule.KIND c.args.line.threats.now c.args.line.moves) b) _ _
+    before c.in_ok-answer_reply.ensures.writes (omega (arith, left, split))) (omega arith)
+
 -- ---- one reply
 
 pub answer_reply-returns-in-Refused-clause-writes : goal.answer_reply-returns-in-Refused-clause-writes
@@ -250,6 +283,27 @@ answer_reply-returns-in-Refused-clause-writes g t c = writes-nothing _ _ _ _ c.r
 
 pub answer_reply-returns-in-Wins-clause-writes : goal.answer_reply-returns-in-Wins-clause-writes
 answer_reply-returns-in-Wins-clause-writes g t c = writes-nothing _ _ _ _ c.requires.compiled refl
+
+pub answer_reply-returns-in-GoesOn-clause-answered : goal.answer_reply-returns-in-GoesOn-clause-answered
+answer_reply-returns-in-GoesOn-clause-answered g t c =
+    subst (λ (w : Grid). IfOk c.answer_on.result (IsAnswered g.R.Rule.KIND c.args.line.moves c.answer_on.new.compiler w c.args.q
+    (line_wins g.R.Rule.KIND c.args.line.threats.now c.args.line.moves) c.args.answers.now c.answer_on.new.answers))
+    c.in-GoesOn.ensures.same c.answer_on.ensures.answered
+
+pub answer_reply-returns-in-GoesOn-clause-hint : goal.answer_reply-returns-in-GoesOn-clause-hint
+answer_reply-returns-in-GoesOn-clause-hint g t c =
+    subst (λ (w : Grid). OnOk c.answer_on.result (IfSome c.answer_on.new.hints.double
+    (IsDouble w.width w.height c.answer_on.new.compiler))) c.in-GoesOn.ensures.same c.answer_on.ensures.hint
+
+pub answer_reply-returns-in-GoesOn-clause-writes : goal.answer_reply-returns-in-GoesOn-clause-writes
+answer_reply-returns-in-GoesOn-clause-writes g t c =
+    let b : Grid = g.V.Seen.position c.args.view.now in
+    let on : outcome g.R.Rule.KIND b c.args.q ≡ GoesOn = search rules in
+    let count : Grid → ℕ = λ w. line_tree g.R.Rule.KIND c.args.line.threats.now c.args.line.moves (after w c.args.q) in
+    subst (λ (k : ℕ). Writes c.args.compiler.now c.answer_on.new.compiler k c.answer_on.result)
+    (sym (ap (λ o. if_goes_on o (count b)) on))
+    (subst (λ (w : Grid). Writes c.args.compiler.now c.answer_on.new.compiler (count w) c.answer_on.result) c.in-GoesOn.ensures.same
+    c.answer_on.ensures.writes)
 
 pub answer_on-returns-in_err-prove_after-clause-writes : goal.answer_on-returns-in_err-prove_after-clause-writes
 answer_on-returns-in_err-prove_after-clause-writes g t c =
@@ -308,6 +362,11 @@ pub prove_after-returns-clause-told : goal.prove_after-returns-clause-told
 prove_after-returns-clause-told g t c =
     subst (λ (d : Grid). IfOk c.prove_reply-found.result (IsTold g.R.Rule.KIND c.args.line.moves d c.prove_reply-found.new.compiler
     (line_wins g.R.Rule.KIND c.args.line.threats.now c.args.line.moves d))) c.play.ensures.played c.prove_reply-found.ensures.told
+
+pub prove_after-returns-clause-hint : goal.prove_after-returns-clause-hint
+prove_after-returns-clause-hint g t c =
+    subst (λ (d : Grid). OnOk c.prove_reply-found.result (IfSome c.prove_reply-found.new.hints.double
+    (IsDouble d.width d.height c.prove_reply-found.new.compiler))) c.play.ensures.played c.prove_reply-found.ensures.hint
 
 pub prove_after-returns-clause-writes : goal.prove_after-returns-clause-writes
 prove_after-returns-clause-writes g t c =
