@@ -458,5 +458,36 @@ def players():
             expect(f"play.py: {name}", f"{status} {output}{errors}", re.compile(rf"1 play.py: .*{told}.*\n"))
 
 
+# The scripts that take a text, with the words before its file.
+TAKERS = {
+    "books.py": ["--list"], "deepen.py": [], "foul.py": [], "many.py": ["foul"], "page.py": [], "pictures.py": [], "play.py": [],
+    "position.py": [], "solutions.py": [], "tree.py": [],
+}
+
+
+def plain():
+    """That each script tells what it is, and says in a line what is wrong with a file, an output or the program."""
+    for script, words in TAKERS.items():
+        status, output, errors = run(script, ["--help"])
+        expect(f"{script}: --help", (status, output[:6], errors), (0, "usage:", ""))
+        status, output, errors = run(script, [*words, EXAMPLES])
+        said = re.compile(rf"1 ({re.escape(script)}: )?{re.escape(str(EXAMPLES))} cannot be read: Is a directory\n")
+        expect(f"{script}: a folder", f"{status} {output}{errors}", said)
+    for path in sorted((EXAMPLES.parent / "bench").iterdir()):
+        if os.access(path, os.X_OK) and path.is_file():
+            done = subprocess.run([path, "--help"], capture_output=True, timeout=SECONDS)
+            said = (done.returncode, done.stdout.decode().splitlines()[:1], done.stderr)
+            expect(f"bench/{path.name} --help", said, (0, [f"bench/{path.name} [PROGRAM [WORD ..]]"], b""))
+    table = EXAMPLES / "two-move-win.txt"
+    for name, output, said in [
+        ("a full output", "/dev/full", "tree.py: standard output cannot be written: No space left on device\n"),
+        ("a closed output", "&-", "tree.py: standard output is closed\n"),
+    ]:
+        done = subprocess.run(["bash", "-c", f"'{EXAMPLES}/tree.py' '{table}' >{output}"], capture_output=True, timeout=SECONDS)
+        expect(f"tree.py: {name}", (done.returncode, done.stderr.decode()), (1, said))
+    status, _, errors = run("foul.py", [], FOULS, env={**os.environ, "RENJU": "/no/renju"})
+    expect("foul.py: no program", (status, errors), (1, "foul.py: /no/renju cannot be started: No such file or directory\n"))
+
+
 if __name__ == "__main__":
-    sys.exit(tried(fouls_explained, pictures_of_fouls, kept, books, solutions, batches, deepened, pages, players))
+    sys.exit(tried(fouls_explained, pictures_of_fouls, kept, books, solutions, batches, deepened, pages, players, plain))

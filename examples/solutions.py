@@ -36,13 +36,19 @@ HABITS, PATIENCE = 4, 8
 
 @dataclass
 class Verdict:
-    """What is known of a first move: whether it wins, in how many moves and how, or the reply that holds or is undecided."""
+    """What is known of a first move: whether it wins, in how many moves and how, and by fours; or the reply that holds or is undecided."""
 
     state: str
     moves: int = 0
     by: str = ""
     reply: object = None
     is_least: bool = True
+    fours: int = 0
+
+    def words(self):
+        """In how many moves it wins, and how."""
+        fours = f", and by fours in {self.fours}" if self.fours > self.moves else ""
+        return f"in {counted(self.moves)}{'' if self.is_least else ' or fewer'}, by {self.by}{fours}"
 
 
 class Position:
@@ -116,12 +122,14 @@ class Position:
     def least(self, point, depth):
         """The verdict, in as few moves as there are."""
         best = self.verdict(point, depth)
+        fours = best.moves if best.by == "fours" else 0
         while best.state == WINS and best.moves > 1:
             shorter = self.verdict(point, best.moves - 1)
             if shorter.state != WINS:
                 best.is_least = shorter.state == FAILS
                 break
             best = shorter
+        best.fours = fours
         return best
 
 
@@ -157,8 +165,7 @@ def first_moves(own, given):
     said = f"{len(wins)} of {counted(len(moves), 'first move')} {'wins' if len(wins) == 1 else 'win'} within {counted(given.depth)}"
     print(f"{position.to_move()}\n{said}, by fours or threats with {given.nodes:,}")
     for number, point in enumerate(wins, 1):
-        it = verdicts[point]
-        print(f"{number}. {both(point, position)} in {counted(it.moves)}{'' if it.is_least else ' or fewer'}, by {it.by}")
+        print(f"{number}. {both(point, position)} {verdicts[point].words()}")
     print(f"undecided: {all_of(undecided, position)}")
     marks = [*((str(number), point) for number, point in enumerate(wins, 1)), *(("?", point) for point in undecided)]
     status = 4 if len(wins) > 1 else 5 if undecided else 0 if wins else 9

@@ -14,7 +14,8 @@ from collections import Counter
 
 sys.dont_write_bytecode = True
 
-from boards import named, saying, spelled, tables_in
+from boards import MOST_NODES, named, saying, spelled, tables_in
+from solving import ranged
 
 WIDTH = 120
 # Lines of later moves stand no further in, and say which move it is.
@@ -77,7 +78,7 @@ class Tree:
 def main():
     words = argparse.ArgumentParser(description=__doc__, formatter_class=argparse.RawDescriptionHelpFormatter)
     words.add_argument("--names", action="store_true", help="h8 for 7,7")
-    words.add_argument("--depth", type=int, default=0, metavar="N", help="stop after so many moves")
+    words.add_argument("--depth", type=ranged(1, MOST_NODES, "N"), default=0, metavar="N", help="stop after so many moves")
     words.add_argument("file", nargs="?", metavar="FILE", help="a table or a book, or - for standard input")
     words.add_argument("--entry", type=int, metavar="N", help="one entry of a book, counted from 1")
     given = words.parse_args()
