@@ -291,6 +291,9 @@ const visited = STATES.map(([problem, line]) => {
   visit();
   return { ...shown };
 });
+// One move back from the last of these it is the table's turn, and one on its answer is played again.
+const press = id => { document.getElementById(id).click(); return [document.getElementById("words").textContent, address(shown.count)]; };
+const stepped = [press("back"), press("on")];
 // A browser passes over addresses that change too often, so that they are left now.
 const told = visited.map(state => {
   const open = () => { Object.assign(shown, state, { line: state.line.slice() }); draw(); };
@@ -307,7 +310,7 @@ const told = visited.map(state => {
 });
 const judged = BOARDS.map(it => [...firstBoard(it).fouls().keys()]);
 document.body.innerHTML = "<pre id='told'></pre>";
-document.getElementById("told").textContent = JSON.stringify([told, judged]);
+document.getElementById("told").textContent = JSON.stringify([told, judged, stepped]);
 </script>
 </body>"""
 BROWSERS = ("chromium", "chromium-browser", "google-chrome")
@@ -389,7 +392,11 @@ def pages():
     if not found:
         expect("page.py: the page in a browser", found, "what it shows")
         return
-    told, judged = found
+    told, judged, stepped = found
+    line = wanted[-1][-1]
+    back = [f"Black plays {line[-2]}. Find the answer, or press ▶.", f"#2:{','.join(line[:-1])}"]
+    on = [f"White plays {line[-1]}. Black to move: click any reply, and it is answered.", f"#2:{','.join(line)}"]
+    expect("page.py: a move back and on", stepped, [back, on])
     expect("page.py: the fouls of drawn positions", judged, [at(it.fouls(), it) for it in drawn])
     for (table, position, node, line), shown in zip(wanted, told):
         clicked(table, position, node, line, shown)

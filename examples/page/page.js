@@ -191,7 +191,8 @@ function words(problem, game) {
   if (kind) return `${last} is ${kind === "overline" ? "an" : "a"} ${kind}: a foul. ${SIDES[game.end.winner]} wins.`;
   if (game.end) return `${last} makes five. ${SIDES[game.end.winner]} wins.`;
   const mover = SIDES[game.board.mover()], moves = `${problem.moves} move${problem.moves === 1 ? "" : "s"}`;
-  if (game.isAttack) return `${mover} to move and win in ${moves}. Find the first move, or press ▶.`;
+  if (game.isAttack && !last) return `${mover} to move and win in ${moves}. Find the first move, or press ▶.`;
+  if (game.isAttack) return `${SIDES[3 - game.board.mover()]} plays ${last}. Find the answer, or press ▶.`;
   return `${last ? `${SIDES[3 - game.board.mover()]} plays ${last}. ` : ""}${mover} to move: click any reply, and it is answered.`;
 }
 
