@@ -122,15 +122,16 @@ pub(crate) fn compare<R: Rule>(rt: &impl Abort, tables: &LineTables<R>) {
 pub(crate) fn undo<R: Rule, V: Seen<R>>(view: &mut V, p: Point) -> Option<bool> {
     let side = view.side().other();
     let mut board = view.board().copy().ok()?;
-    if !board.holds(side, p) {
-        return Some(false);
-    }
-    board.lift(p);
-    match Position::<R>::from_board(board) {
-        Ok(_) => {
-            view.undo(p);
-            Some(true)
+    if board.holds(side, p) {
+        board.lift(p);
+        match Position::<R>::from_board(board) {
+            Ok(_) => {
+                view.undo(p);
+                Some(true)
+            }
+            Err(_) => Some(false),
         }
-        Err(_) => Some(false),
+    } else {
+        Some(false)
     }
 }

@@ -56,7 +56,7 @@ fn a_book_is_read(rt: HostRuntime) {
 
 /// The text of the book that is read.
 fn written_again(alloc: Global, bytes: &[u8]) -> Option<Vec<u8>> {
-    let book = book_in(alloc, bytes).ok()?;
+    let book = read_book(alloc, bytes).ok()?;
     write_book(alloc, &book).ok()
 }
 
@@ -137,13 +137,13 @@ fn the_earliest_entry_that_is_not_sound_is_named(rt: HostRuntime) {
 fn checked(alloc: Global, bytes: &[u8], work: u64) -> Option<Result<u64, HoldError>>
     requires work_fits { work ≤ MAX_BOOK_WORK }
 {
-    let book = book_in(alloc, bytes).ok()?;
+    let book = read_book(alloc, bytes).ok()?;
     Some(check_book(alloc, &book, work))
 }
 
 /// How many roots of the book are held, or why one is not accepted with so much work.
 fn held(alloc: Global, bytes: &[u8], work: u64) -> Option<Result<u32, HoldError>> {
-    let book = book_in(alloc, bytes).ok()?;
+    let book = read_book(alloc, bytes).ok()?;
     Some(hold_book(alloc, book, work).map(|held| held.len()))
 }
 
