@@ -11,7 +11,17 @@ fn pair(proof: u32, disproof: u32) -> Numbers {
 /// A tree whose root has children with the numbers 1 and 3, and 2 and 1.
 fn two_children(alloc: Global) -> Option<ProofTree> {
     let mut tree = ProofTree::new(alloc).ok()?;
-    tree.expand(&[pair(1, 3), pair(2, 1)]).ok()?;
+    let children = [
+        Numbers {
+            proof: 1,
+            disproof: 3,
+        },
+        Numbers {
+            proof: 2,
+            disproof: 1,
+        },
+    ];
+    tree.expand(&children).ok()?;
     Some(tree)
 }
 

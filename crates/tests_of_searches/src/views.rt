@@ -132,15 +132,11 @@ fn add_sequence<R: Rule, V: Seen<R>>(alloc: Global, view: &mut V, text: &mut Str
     }
 }
 
-/// What the search of the game of threats with this tree answers, with its table.
-fn add_proof<R: Rule, V: Seen<R>>(
-    alloc: Global,
-    view: &mut V,
-    tree: &mut ProofTree,
-    text: &mut String,
-) -> Option<()> {
+/// What the search of the game of threats answers, with its table.
+fn add_proof<R: Rule, V: Seen<R>>(alloc: Global, view: &mut V, text: &mut String) -> Option<()> {
     let mut compiler = Compiler::new(alloc);
-    match proof_number::<R, V>(alloc, view, 4, 30, tree, &mut compiler).ok()? {
+    let mut tree = ProofTree::new(alloc).ok()?;
+    match proof_number::<R, V>(alloc, view, 4, 30, &mut tree, &mut compiler).ok()? {
         ProofAnswer::None => text.push_str(" no threats").ok(),
         ProofAnswer::Spent => text.push_str(" threats spent").ok(),
         ProofAnswer::Win(win) => add_win(compiler, win, text),
@@ -169,7 +165,7 @@ fn add_defences<R: Rule, V: Seen<R>>(alloc: Global, view: &mut V, text: &mut Str
 fn add_searches<R: Rule, V: Seen<R>>(alloc: Global, view: &mut V, text: &mut String) -> Option<()> {
     add_fours::<R, V>(alloc, view, 20, 300, &mut FourMemory::new(alloc), text)?;
     add_sequence::<R, V>(alloc, view, text)?;
-    add_proof::<R, V>(alloc, view, &mut ProofTree::new(alloc).ok()?, text)?;
+    add_proof::<R, V>(alloc, view, text)?;
     add_defences::<R, V>(alloc, view, text)
 }
 
