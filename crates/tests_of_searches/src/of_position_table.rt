@@ -71,11 +71,11 @@ fn the_longest_unused_entry_goes(rt: HostRuntime) {
     same(&rt, found(&mut table, &keys), [None, Some(10), None]);
 }
 
-/// Keeps two values of a key, and another in place of the first.
-fn keep_again(table: &mut WholeTable<u64>, key: PackedPosition) -> Option<()> {
-    table.keep(key, 1, 10).ok()?;
-    table.keep(key, 2, 20).ok()?;
-    table.keep(key, 1, 11).ok()?;
+/// Keeps two values of the first key, and another in place of the first value.
+fn keep_again(table: &mut WholeTable<u64>, keys: &[PackedPosition; 3]) -> Option<()> {
+    table.keep(keys[0], 1, 10).ok()?;
+    table.keep(keys[0], 2, 20).ok()?;
+    table.keep(keys[0], 1, 11).ok()?;
     Some(())
 }
 
@@ -83,9 +83,8 @@ fn keep_again(table: &mut WholeTable<u64>, key: PackedPosition) -> Option<()> {
 fn a_value_takes_the_place_of_the_one_before(rt: HostRuntime) {
     let keys = three_keys(rt.alloc()).expect(&rt, "keys");
     let mut table: WholeTable<u64> = WholeTable::new(rt.alloc(), 2).expect(&rt, "a table");
-    same(&rt, keep_again(&mut table, keys[0]), Some(()));
-    same(&rt, table.find(&keys[0], 2), Some(20));
-    same(&rt, table.find(&keys[0], 1), Some(11));
+    same(&rt, keep_again(&mut table, &keys), Some(()));
+    same(&rt, found(&mut table, &keys), [None, Some(11), Some(20)]);
 }
 
 /// Keeps a value of the board, and tells whether there was memory.

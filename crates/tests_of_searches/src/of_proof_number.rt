@@ -5,7 +5,7 @@ ghost use Rattle.proof_number.specs.declared.TheConstants.{MAX_DEPTH, MAX_BUDGET
 
 use crate::compared::same;
 use foul_judge::Position;
-use proof_number::{ProofAnswer, SearchError, proof_number};
+use proof_number::{ProofAnswer, proof_number};
 use proof_tree::{INFINITE, Numbers, ProofTree};
 use row_shapes::{Freestyle, Renju, Rule};
 use std::alloc::Global;
@@ -18,23 +18,11 @@ const CROSS: &str = "7,6 6,7 8,7 7,8";
 const CORNERS: &str = "0,0 14,0 0,14 14,14";
 
 /// What a search answers, in numbers: the moves of a win, 0 where there is none, and 100 where the budget is spent.
-fn moves_found<R: Rule>(
-    alloc: Global,
-    view: &mut Position<R>,
-    depth: u32,
-    budget: u64,
-    tree: &mut ProofTree,
-) -> Result<u32, SearchError>
-    requires some_depth { 1 ≤ depth }
-    requires depth_fits { depth ≤ MAX_DEPTH }
-    requires some_budget { 1 ≤ budget }
-    requires budget_fits { budget ≤ MAX_BUDGET }
-{
-    let mut compiler = Compiler::new(alloc);
-    match proof_number::<R, Position<R>>(alloc, view, depth, budget, tree, &mut compiler)? {
-        ProofAnswer::Win(win) => Ok(win.moves),
-        ProofAnswer::None => Ok(0),
-        ProofAnswer::Spent => Ok(100),
+fn moves_of(answer: &ProofAnswer) -> u32 {
+    match answer {
+        ProofAnswer::Win(win) => win.moves,
+        ProofAnswer::None => 0,
+        ProofAnswer::Spent => 100,
     }
 }
 
@@ -47,7 +35,34 @@ fn root_and_len(tree: &ProofTree) -> Option<(Numbers, u32)> {
     Some((tree.numbers(0), len))
 }
 
-/// What a search answers, the numbers of its root, and the count of the nodes of its tree.
+/// What a search of the position answers, the numbers of its root, and the count of the nodes of its tree.
+fn answered<R: Rule>(
+    alloc: Global,
+    view: &mut Position<R>,
+    depth: u32,
+    budget: u64,
+) -> Option<(u32, Numbers, u32)>
+    requires some_depth { 1 ≤ depth }
+    requires depth_fits { depth ≤ MAX_DEPTH }
+    requires some_budget { 1 ≤ budget }
+    requires budget_fits { budget ≤ MAX_BUDGET }
+{
+    let mut compiler = Compiler::new(alloc);
+    let mut tree = ProofTree::new(alloc).ok()?;
+    let answer = proof_number::<R, Position<R>>(
+        alloc,
+        view,
+        depth,
+        budget,
+        &mut tree,
+        &mut compiler,
+    );
+    let moves = moves_of(&answer.ok()?);
+    let (root, len) = root_and_len(&tree)?;
+    Some((moves, root, len))
+}
+
+/// The same of the position with these stones.
 fn searched<R: Rule>(
     alloc: Global,
     black: &str,
@@ -61,10 +76,7 @@ fn searched<R: Rule>(
     requires budget_fits { budget ≤ MAX_BUDGET }
 {
     let mut view = position_of::<R>(alloc, black, white)?;
-    let mut tree = ProofTree::new(alloc).ok()?;
-    let moves = moves_found(alloc, &mut view, depth, budget, &mut tree).ok()?;
-    let (root, len) = root_and_len(&tree)?;
-    Some((moves, root, len))
+    answered::<R>(alloc, &mut view, depth, budget)
 }
 
 /// The four stones are searched.
