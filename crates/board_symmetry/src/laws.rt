@@ -24,7 +24,7 @@ pub fn images_keep_wins()
 {}
 
 /// A node of the image of a table has its depth, and at the image of a board it is accepted and has the arrivals and games of
-/// the node at the board. A start does so too, and so a root of either kind.
+/// the node at the board. A start does so but for games, and so does a root of either kind.
 pub fn images_keep_tables()
     ensures nodes { ImagesKeepNodes }
     ensures starts { ImagesKeepStarts }

@@ -1,8 +1,9 @@
 //! The rules of five in a row: the plain types that every layer speaks of, and, in `specs/`, the definitions of
 //! boards, runs, fives, fours, threes, fouls, outcomes, lawful positions and won games.
 //!
-//! The crate computes nothing but the other side, the other way, and how two points stand to each other. What it offers to the layers above are these types, the words of its `specs/`, and the
-//! laws about those words: the main ones as contracts, all of them in its `proofs/Lib.antt`.
+//! The crate computes nothing but the other side, the other way, and how two points stand to each other. What it offers to the
+//! layers above are these types, the words of its `specs/`, and the laws about those words: the main ones as contracts, all of them
+//! in its `proofs/Lib.antt`.
 //!
 //! Sources: the RIF Rules of Renju for fours, straight fours, threes, overlines and the fouls of Black. Which
 //! double-threes stand is this program's own rule: an axis counts as a three where it has a three point at which Black

@@ -28,10 +28,10 @@ use std::alloc::Global;
 ///
 /// The status and the text that are due are those of `Status` and of the commands. Words without a form get the usage line
 /// and status 1, and leave the input unasked, as `drill` and `bind` do. `check`, `foul`, `fours`, `threats`, `solve`, `image`, `referee`,
-/// `defend` and `book` speak of an input only once it was read to its end; a brain answers each line before it reads the next. Only
-/// `brain FILE` and `referee FILE`, before the input, and `bind`
-/// ask the shelf, and no command changes it. A failing output gives status 8 in place of the status that was due, and the output then has the front of the text; want of memory
-/// gives 6 and a failing input 7, and then nothing is written, or by a brain that serves the answers to the lines before.
+/// `defend` and `book` speak of an input only once it was read to its end. Only `brain FILE` and `referee FILE`, before the input, and
+/// `bind` ask the shelf, and no command changes it. A failing output gives status 8 in place of the status that was due, and the
+/// output then has the front of the text; want of memory gives 6 and a failing input 7, and then nothing is written, or by a brain
+/// that serves the answers to the lines before.
 /// A status other than 7 says that the input counted no fault, one other than 8 that the output did not, and one that is
 /// neither 2 nor 8 that the shelf did not.
 pub fn run_renju<I: Source, O: Sink, F: Shelf>(

@@ -2,7 +2,7 @@
 //!
 //! A device is a trait with counts of its calls and of its faults, and where it can tell them its bytes. A call answers that the
 //! device failed only where the count of faults rose in the call, so code over a device cannot make up a failure, and what it says
-//! of the count of calls shows that it asks for nothing twice. The devices in memory tell their bytes and fail at stated calls;
+//! of the count of calls bounds how often it asks. The devices in memory tell their bytes and fail at stated calls;
 //! those over standard input, standard output and real files tell nothing of content and are the edge that is trusted.
 #![tactic(auto)]
 

@@ -3,6 +3,9 @@
 //! A stone that makes a winning run fills a window of its line, whatever the rule. So a line without one is passed over: its bits
 //! tell that at once, where walks from each of its points would take many steps. A line with one is looked at point by point, since
 //! a place off the board looks free, and a run may be too long to win.
+//!
+//! Four of five places in a row have two pairs of neighbours, one or three places apart: most lines show no such pairs in the bits of
+//! the side, and are passed over before the bits of the other side are read.
 #![tactic(auto)]
 
 ghost use Rattle.std.specs.Prelude.{◌≡◌, ◌↔◌, ◌<◌, ℕ, false, true, None, IsTrue};
