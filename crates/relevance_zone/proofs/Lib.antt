@@ -1,0 +1,8 @@
+-- The laws of zones. What is declared by `pub mod` the layers above may cite; the rest serves this crate alone.
+
+-- stones in windows: one more of either side; a run of five or more fills a window
+mod Counts
+-- further stones that a zone bears, a move later
+mod Bearing
+-- what has a zone is accepted
+pub mod Harm

@@ -1,0 +1,20 @@
+//! The laws of zones, each as the contract of a function that computes nothing.
+#![tactic(auto)]
+
+ghost use Rattle.relevance_zone.specs.Laws.{ZonesBear, ZonesAccept, ZonesWin};
+
+/// A node that has a zone at a board stays accepted under further stones of the defender that the zone bears. They may be as
+/// many as it bears, and the board may be one after a pass.
+pub fn zones_bear()
+    ensures accepted { ZonesBear }
+{}
+
+/// What is accepted by a zone at a lawful position is accepted there, though most replies were never played.
+pub fn zones_accept()
+    ensures accepted { ZonesAccept }
+{}
+
+/// So it wins within its depth.
+pub fn zones_win()
+    ensures wins { ZonesWin }
+{}
