@@ -4,5 +4,7 @@
 mod Counts
 -- further stones that a zone bears, a move later
 mod Bearing
+-- zones by the nodes that are named
+pub mod ByNode
 -- what has a zone is accepted
 pub mod Harm

@@ -1,15 +1,21 @@
 -- The laws of zones. They ask that the attacker has no fouls, since further stones of the defender make and unmake them: so they hold
 -- under freestyle and exact, and under renju where White attacks. A defender's foul ends the game in any case.
-use Rattle.std.specs.Prelude.{◌≡◌, ℕ, false, List}
+use Rattle.std.specs.Prelude.{◌≡◌, ◌↔◌, ℕ, false, List, slice_get}
 use Rattle.game_rules.specs.Grid.{Grid}
 use Rattle.game_rules.specs.Play.{IsPosition, mover, has_fouls}
 use Rattle.game_rules.specs.declared.RuleKind.{RuleKind}
 use Rattle.game_rules.specs.declared.Side.{Side}
+use Rattle.strategy_graph.specs.Tables.{NamesLower}
 use Rattle.strategy_graph.specs.Acceptance.{Accepted}
 use Rattle.strategy_graph.specs.Roots.{AcceptedRoot, RootWins, root_depth}
 use Rattle.strategy_graph.specs.declared.Node.{Node}
 use Rattle.strategy_graph.specs.declared.roots.Root.{Root}
-use Rattle.relevance_zone.specs.Zones.{Zone, Bears, HasZone, AcceptedRootByZone}
+use Rattle.relevance_zone.specs.Zones.{Zone, Bears, NodeHasZone, HasZone, AcceptedRootByZone}
+
+-- which zones a node has goes by those of the nodes that it names: the bound on the nodes that follow one another plays no part
+abbrev pub ZonesGoByNode : Type 0
+ZonesGoByNode = (t : List Node) → NamesLower t → (rule : RuleKind) (s : Side) (i : ℕ) (b : Grid) (z : Zone)
+    → HasZone rule t s i b z ↔ NodeHasZone rule s (slice_get t i) (HasZone rule t s) b z
 
 -- a node that has a zone at a board is accepted at each lawful position that has further stones of the defender which the zone
 -- bears, and where the attacker is to move

@@ -1,7 +1,13 @@
 //! The laws of zones, each as the contract of a function that computes nothing.
 #![tactic(auto)]
 
-ghost use Rattle.relevance_zone.specs.Laws.{ZonesBear, ZonesAccept, ZonesWin};
+ghost use Rattle.relevance_zone.specs.Laws.{ZonesGoByNode, ZonesBear, ZonesAccept, ZonesWin};
+
+/// Which zones a node has at a board goes by those of the nodes that it names: the bound on the nodes that follow one another, by
+/// which they are defined, plays no part.
+pub fn zones_go_by_node()
+    ensures steps { ZonesGoByNode }
+{}
 
 /// A node that has a zone at a board stays accepted under further stones of the defender that the zone bears. They may be as
 /// many as it bears, and the board may be one after a pass.

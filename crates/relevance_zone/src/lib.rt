@@ -15,4 +15,4 @@
 
 mod laws;
 
-pub use laws::{zones_accept, zones_bear, zones_win};
+pub use laws::{zones_accept, zones_bear, zones_go_by_node, zones_win};
