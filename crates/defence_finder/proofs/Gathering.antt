@@ -17,9 +17,9 @@ use Rattle.strategy_compiler.specs.declared.error.SearchError.{SearchError}
 use Rattle.strategy_compiler.proofs.Common.{GrowsBy, IsCompiled, Writes}
 use Rattle.strategy_compiler.proofs.Growing.{grows-more, grows-not, grows-then, writes-then-fails}
 use Rattle.strategy_compiler.proofs.Replies.{beaten-grown}
-use Rattle.strategy_compiler.proofs.Standing.{compiled-lower}
+use Rattle.strategy_compiler.proofs.Standing.{compiled-lower, growth_keeps-trees}
 use Rattle.defence_finder.specs.Defences.{is_defence, is_beaten, is_spent, defences_of, beaten_of, first_spent}
-use Rattle.defence_finder.specs.Answers.{AreBeaten, OnKnown, most_nodes, nodes_after, spent_at}
+use Rattle.defence_finder.specs.Answers.{AreBeaten, IsPlanned, OnKnown, most_nodes, nodes_after, spent_at}
 use Rattle.defence_finder.specs.Finding.{AreFound, IsAdded, IsSettled, IsToldAt, IsVerdict}
 use Rattle.defence_finder.specs.declared.finder.DefenceAnswer.{DefenceAnswer}
 use Rattle.defence_finder.specs.declared.finder.DefenceAnswer.TheVariants.{Known, Spent as SpentAt}
@@ -30,10 +30,23 @@ use Rattle.defence_finder.specs.declared.finder.Verdict.TheVariants.{NoReply, Ho
 -- ---- as the nodes grow
 
 module _ (rule : RuleKind) (n budget : ℕ) (b : Grid) (t u : List Node) (k : ℕ) (lower : NamesLower t) (grown : GrowsBy t u k) where
+  planned-grown : (rs : List Reply) → AllByRecursion (IsPlanned rule n b t) rs → AllByRecursion (IsPlanned rule n b u) rs
+  planned-grown [] h = tt
+  planned-grown (r ∷ rs) h = (
+    subst (λ (v : List Node). IsPlanned rule n b v r) (sym grown.is) (growth_keeps-trees t grown.added r.next _ h.0),
+    planned-grown rs h.1,
+  )
+
   pub found-grown : (good : List Point) (bad : List Reply) (left : List Point) → AreFound rule n budget b t good bad left
       → AreFound rule n budget b u good bad left
   found-grown good bad left h =
-      record { good_are = h.good_are; bad_are = h.bad_are; each = beaten-grown rule n b t u k lower grown bad h.each; enough = h.enough }
+      record {
+        good_are = h.good_are;
+        bad_are = h.bad_are;
+        each = beaten-grown rule n b t u k lower grown bad h.each;
+        planned = planned-grown bad h.planned;
+        enough = h.enough;
+      }
 
 -- ---- one move more
 
@@ -61,6 +74,7 @@ module _ (rule : RuleKind) (n budget : ℕ) (b : Grid) (t : List Node) (good : L
     good_are = good-is false false s;
     bad_are = bad-is false false s;
     each = h.each;
+    planned = h.planned;
     enough = enough-is false false s;
   }
 
@@ -70,12 +84,14 @@ module _ (rule : RuleKind) (n budget : ℕ) (b : Grid) (t : List Node) (good : L
     good_are = ap (λ (ps : List Point). ps ++ filter (is_defence rule n b) rest) is ∙ append_assoc good (q ∷ []) _ ∙ good-is true false s;
     bad_are = bad-is true false s;
     each = h.each;
+    planned = h.planned;
     enough = enough-is true false s;
   }
 
   pub found-bad : (more : List Reply) (i : ℕ) → more ≡ bad ++ (record { at = q; next = i }) ∷ [] → IsSettled rule n budget b q false true
-      → IsBeatenBy rule n b t (record { at = q; next = i }) → AreFound rule n budget b t good more rest
-  found-bad more i is s won =
+      → IsBeatenBy rule n b t (record { at = q; next = i }) → IsPlanned rule n b t (record { at = q; next = i })
+      → AreFound rule n budget b t good more rest
+  found-bad more i is s won plan =
       let r : Reply = record { at = q; next = i } in
       record {
         good_are = good-is false true s;
@@ -84,6 +100,8 @@ module _ (rule : RuleKind) (n budget : ℕ) (b : Grid) (t : List Node) (good : L
             ∙ append_assoc (map (λ r. r.at) bad) (q ∷ []) _ ∙ bad-is false true s;
         each = subst (λ (rs : List Reply). AllByRecursion (IsBeatenBy rule n b t) rs) (sym is)
             (push-all (IsBeatenBy rule n b t) bad r h.each won);
+        planned = subst (λ (rs : List Reply). AllByRecursion (IsPlanned rule n b t) rs) (sym is)
+            (push-all (IsPlanned rule n b t) bad r h.planned plan);
         enough = enough-is false true s;
       }
 
@@ -120,7 +138,7 @@ pub walk-first : (rule : RuleKind) (n budget : ℕ) (b : Grid) (t : List Node) �
     → IsWalk rule n budget b t t [] [] qs
 walk-first rule n budget b t compiled qs are = subst (IsWalk rule n budget b t t [] []) (sym are) (record {
   compiled = compiled;
-  found = record { good_are = refl; bad_are = refl; each = tt; enough = refl };
+  found = record { good_are = refl; bad_are = refl; each = tt; planned = tt; enough = refl };
   few = omega arith;
   grows = grows-not t t _ refl;
 })
@@ -193,7 +211,7 @@ walk-added rule n budget b v same a t u old new q qs rest steps walk grown compi
           (found-good rule n budget b u old.good old.bad q rest found-there new.good is.0 h)
       by_verdict (Beaten i) other h is =
           subst (λ (ps : List Point). AreFound rule n budget b u ps new.bad rest) (sym is.0)
-          (found-bad rule n budget b u old.good old.bad q rest found-there new.bad i is.1 h.0 h.1)
+          (found-bad rule n budget b u old.good old.bad q rest found-there new.bad i is.1 h.0 h.1 h.2)
       by_verdict Spent other h is = absurd (other refl)
 
 -- after the last move
@@ -207,7 +225,7 @@ pub all-told : (rule : RuleKind) (n budget : ℕ) (b : Grid) (t : List Node) (go
     → AreFound rule n budget b t good bad [] → IsToldAt rule n budget b t (Known good bad)
 all-told rule n budget b t good bad h = (
   sym (append-nil good) ∙ h.good_are,
-  record { points = sym (append-nil (map (λ r. r.at) bad)) ∙ h.bad_are; each = h.each },
+  record { points = sym (append-nil (map (λ r. r.at) bad)) ∙ h.bad_are; each = h.each; planned = h.planned },
   h.enough,
 )
 

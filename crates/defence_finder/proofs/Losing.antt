@@ -1,5 +1,6 @@
 -- Where no move holds the other side wins, whatever is played first, and so does the start that is made of the answers.
-use Rattle.std.proofs.Common.{◌≡◌, ℕ, suc, Bool, true, false, ◌&&◌, ◌||◌, not, cond, refl, sym, ap, ◌∙◌, arith, List, [], ◌∷◌, map, Some}
+use Rattle.std.proofs.Common.{◌≡◌, ℕ, suc, Bool, true, false, ◌&&◌, ◌||◌, not, cond, refl, sym, ap, subst, ◌∙◌, arith, List, [], ◌∷◌, map}
+use Rattle.std.proofs.Common.{Some}
 use Rattle.std.proofs.Common.{IsSome, Contains, All}
 use Rattle.std.specs.List.{find, list_any, list_all, AllByRecursion}
 use Rattle.std.specs.Option.{option_map}
@@ -20,12 +21,12 @@ use Rattle.strategy_graph.specs.declared.Reply.{Reply}
 use Rattle.strategy_graph.specs.declared.Node.{Node}
 use Rattle.strategy_graph.proofs.Answering.{next-all, replies-on}
 use Rattle.strategy_graph.proofs.Common.{Answers, listed_node, NamesOnBoard, RepliesOn, TableOnBoard}
-use Rattle.strategy_compiler.proofs.Common.{AnswersEach, AnswersWin, IsMadeOfAnswers, NamesPointsFrom, StaysOnBoard}
+use Rattle.strategy_compiler.proofs.Common.{AnswersBranches, AnswersEach, AnswersWin, IsMadeOfAnswers, NamesPointsFrom, StaysOnBoard}
 use Rattle.strategy_compiler.proofs.Forks.{IsAnswer, answer-by-win, answers-win, mapped-all}
 use Rattle.defence_finder.specs.Defences.{holds_or, is_defence, defences_of, is_beaten}
 use Rattle.strategy_compiler.specs.Replies.{IsBeatenBy}
-use Rattle.defence_finder.specs.Answers.{AreBeaten, IsLostStart}
-use Rattle.defence_finder.specs.Laws.{NoDefenceLoses, BeatenRepliesWin}
+use Rattle.defence_finder.specs.Answers.{AreBeaten, IsLostStart, IsPlanned, plans_after}
+use Rattle.defence_finder.specs.Laws.{NoDefenceLoses, BeatenRepliesArePlanned, BeatenRepliesWin}
 
 -- ---- lists of replies
 
@@ -131,3 +132,11 @@ no_defence-loses rule n b none q = won (outcome rule b q) (loses-each rule n b n
 
 pub beaten-replies-win : BeatenRepliesWin
 beaten-replies-win rule n b t bad u a none beaten made = lost-start rule n b none t bad beaten u a made
+
+pub beaten-replies-planned : BeatenRepliesArePlanned
+beaten-replies-planned rule n b t bad beaten =
+    subst (λ (qs : List Point). AnswersBranches t bad (plans_after rule n b qs)) beaten.points (stand bad beaten.planned) where
+      stand : (rs : List Reply) → AllByRecursion (IsPlanned rule n b t) rs
+          → AnswersBranches t rs (plans_after rule n b (map (λ r. r.at) rs))
+      stand [] h = tt
+      stand (r ∷ rs) h = (refl, h.0, stand rs h.1)

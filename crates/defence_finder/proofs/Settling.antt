@@ -1,5 +1,6 @@
 -- What is known of one move: by its outcome, by a five point that it leaves, or by a search after it.
-use Rattle.std.proofs.Common.{◌≡◌, ◌↔◌, inl, inr, ℕ, suc, ◌-◌, ◌<◌, ◌≤◌, Bool, true, false, ◌&&◌, not, refl, sym, ap, subst}
+use Rattle.std.proofs.Common.{◌≡◌, ◌↔◌, inl, inr, ℕ, zero, suc, unwrap_or, ◌-◌, ◌<◌, ◌≤◌, Bool, true, false, ◌&&◌, not, refl, sym, ap}
+use Rattle.std.proofs.Common.{subst}
 use Rattle.std.proofs.Common.{◌∙◌, arith, List, [], ◌∷◌, Some, Option, IfSome, find, nat_lt, slice_get}
 use Rattle.std.proofs.lemmas.Bool.{cases_lt, le-ltb}
 use borrow.Author.Tests.{lt-ltb}
@@ -18,14 +19,17 @@ use Rattle.game_rules.proofs.Points.{is_same_point-apart, is_same_point-same}
 use Rattle.strategy_graph.specs.declared.Node.{Node}
 use Rattle.strategy_compiler.specs.Replies.{IsBeatenBy}
 use Rattle.strategy_compiler.specs.declared.wins.WrittenWin.{WrittenWin}
-use Rattle.strategy_compiler.proofs.Common.{WinsAtOnce}
+use Rattle.strategy_compiler.proofs.Common.{Leaf, StandsFor, WinsAtOnce}
 use Rattle.strategy_compiler.proofs.Growing.{win-deep, win-within}
-use Rattle.four_search.specs.FourGame.{four_cost}
+use Rattle.four_search.specs.FourGame.{four_cost, least_moves}
 use Rattle.four_search.specs.Answers.{IsFourWin}
 use Rattle.four_search.specs.declared.answer.FourAnswer.{FourAnswer}
 use Rattle.four_search.specs.declared.answer.FourAnswer.TheVariants.{Win, Spent}
+use Rattle.four_search.specs.Plans.{four_plan}
 use Rattle.four_search.proofs.Costs.{five-cost}
+use Rattle.four_search.proofs.Planning.{plan-leaf}
 use Rattle.defence_finder.specs.Defences.{holds_or, is_spent}
+use Rattle.defence_finder.specs.Answers.{IsPlanned}
 use Rattle.defence_finder.specs.Finding.{IsSettled}
 
 module _ (rule : RuleKind) (n budget : ℕ) (b : Grid) (q : Point) where
@@ -85,6 +89,16 @@ module _ (rule : RuleKind) (n budget : ℕ) (b : Grid) (q : Point) (w : Point) (
       let cost = five-cost rule n (after b q) some has in
       settled-on rule n budget b q on true wins (omega (arith, cost, enough))
 
+  -- the plan of the win is the five point
+  pub five-planned : (t : List Node) (i : ℕ) → StandsFor t i (Leaf w) → IsPlanned rule n b t (record { at = q; next = i })
+  five-planned t i stands =
+      let one : least_moves rule n (after b q) ≡ Some 1 = first n some in
+      subst (StandsFor t i) (sym (plan-leaf rule 1 (after b q) w left (omega arith))
+      ∙ ap (λ (o : Option ℕ). four_plan rule (unwrap_or o 0) (after b q)) (sym one)) stands where
+        first : (k : ℕ) → 1 ≤ k → least_moves rule k (after b q) ≡ Some 1
+        first zero l = absurd (omega arith)
+        first (suc k) l = rw (five-wins rule (after b q) 0 has) refl
+
   pub five-beaten : (t : List Node) (i : ℕ) → WinsAtOnce w t i → IsBeatenBy rule n b t (record { at = q; next = i })
   five-beaten t i won =
       win-deep rule n (after b q) t _ (win-within rule 1 n (after b q) t _ some
@@ -103,9 +117,11 @@ four-enough budget cost a win is spent = elim (cases_lt budget cost) [
 pub four-verdict : (rule : RuleKind) (n budget : ℕ) (b : Grid) (q : Point) → outcome rule b q ≡ GoesOn → (d : Grid) → d ≡ after b q
     → (t : List Node) (win : WrittenWin) → IsFourWin rule n d t win → four_cost rule n d ≤ budget
     → IsSettled rule n budget b q false true × IsBeatenBy rule n b t (record { at = q; next = win.node })
+    × IsPlanned rule n b t (record { at = q; next = win.node })
 four-verdict rule n budget b q on d same t win won enough = (
   settled-on rule n budget b q on true wins (subst (λ (d : Grid). four_cost rule n d ≤ budget) same enough),
   win-deep rule n (after b q) t win there.written,
+  subst (λ (o : Option ℕ). StandsFor t win.node (four_plan rule (unwrap_or o 0) (after b q))) (sym there.least) there.stands,
 ) where
   there : IsFourWin rule n (after b q) t win
   there = subst (λ (d : Grid). IsFourWin rule n d t win) same won

@@ -16,7 +16,7 @@ use Rattle.defence_finder.specs.declared.finder.Found.{Found}
 use Rattle.defence_finder.specs.declared.finder.Question.{Question}
 use Rattle.defence_finder.specs.declared.finder.Verdict.{Verdict}
 use Rattle.defence_finder.specs.declared.finder.Verdict.TheVariants.{NoReply, Holds, Beaten, Spent}
-use Rattle.defence_finder.specs.Answers.{AreBeaten}
+use Rattle.defence_finder.specs.Answers.{AreBeaten, IsPlanned}
 use Rattle.defence_finder.specs.Defences.{is_defence, is_beaten, is_spent, defences_of, beaten_of, first_spent}
 
 -- the budget suffices after the move q, and whether it is a defence, and whether it is beaten, is so
@@ -30,6 +30,7 @@ abbrev pub IsVerdict : RuleKind → ℕ → ℕ → Grid → List Node → Point
 IsVerdict rule n budget b t q NoReply = IsSettled rule n budget b q false false
 IsVerdict rule n budget b t q Holds = IsSettled rule n budget b q true false
 IsVerdict rule n budget b t q (Beaten i) = IsSettled rule n budget b q false true × IsBeatenBy rule n b t (record { at = q; next = i })
+    × IsPlanned rule n b t (record { at = q; next = i })
 IsVerdict rule n budget b t q Spent = is_spent rule n budget b q ≡ true
 
 -- these are the defences and the beaten moves but for those among the points that are left, and so far the budget sufficed
@@ -38,6 +39,7 @@ pub record AreFound (rule : RuleKind) (n budget : ℕ) (b : Grid) (t : List Node
   pub good_are : good ++ filter (is_defence rule n b) left ≡ defences_of rule n b
   pub bad_are : map (λ r. r.at) bad ++ filter (is_beaten rule n b) left ≡ beaten_of rule n b
   pub each : AllByRecursion (IsBeatenBy rule n b t) bad
+  pub planned : AllByRecursion (IsPlanned rule n b t) bad
   pub enough : find (is_spent rule n budget b) left ≡ first_spent rule n budget b
 
 -- what is asked of each move at b, with the five points of the other side

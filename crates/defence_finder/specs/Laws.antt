@@ -7,9 +7,10 @@ use Rattle.game_rules.specs.declared.Point.{Point}
 use Rattle.strategy_graph.specs.declared.Reply.{Reply}
 use Rattle.strategy_graph.specs.declared.Node.{Node}
 use Rattle.strategy_graph.specs.Tables.{Answers}
+use Rattle.strategy_compiler.specs.Trees.{AnswersBranches}
 use Rattle.strategy_compiler.specs.Starts.{IsMadeOfAnswers}
-use Rattle.defence_finder.specs.Defences.{IsDefence, is_defence, defences_of, first_spent, SufficesAfterEach, IsShortAfter}
-use Rattle.defence_finder.specs.Answers.{AreBeaten, IsLostStart}
+use Rattle.defence_finder.specs.Defences.{IsDefence, is_defence, beaten_of, defences_of, first_spent, SufficesAfterEach, IsShortAfter}
+use Rattle.defence_finder.specs.Answers.{AreBeaten, IsLostStart, plans_after}
 
 -- the test of a defence answers as the fact
 abbrev pub DefencesAreTold : Type 0
@@ -30,3 +31,9 @@ abbrev pub BeatenRepliesWin : Type 0
 BeatenRepliesWin =
     (rule : RuleKind) (n : ℕ) (b : Grid) (t : List Node) (bad : List Reply) (u : List Node) (a : Answers) → defences_of rule n b ≡ []
     → AreBeaten rule n b t bad → IsMadeOfAnswers t bad u a → IsLostStart rule n b u a
+
+-- the answers to the beaten replies stand for the branches of their plans, of which a start is one and the same however it is compiled
+abbrev pub BeatenRepliesArePlanned : Type 0
+BeatenRepliesArePlanned =
+    (rule : RuleKind) (n : ℕ) (b : Grid) (t : List Node) (bad : List Reply) → AreBeaten rule n b t bad
+    → AnswersBranches t bad (plans_after rule n b (beaten_of rule n b))

@@ -12,12 +12,14 @@ use Rattle.strategy_graph.specs.declared.Node.{Node}
 use Rattle.strategy_graph.specs.declared.Reply.{Reply}
 use Rattle.strategy_graph.specs.declared.roots.Root.TheVariants.{Defend}
 use Rattle.strategy_graph.specs.Tables.{Answers, start_depth}
-use Rattle.strategy_compiler.specs.Starts.{IsMadeOfAnswers}
-use Rattle.position_files.specs.Tables.{IsTextOfTable}
+use Rattle.strategy_compiler.specs.Starts.{IsMadeOfAnswers, IsStartOfBranches}
+use Rattle.strategy_compiler.specs.Trees.{AnswersBranches, Branches}
+use Rattle.strategy_compiler.proofs.Unique.{one-start}
+use Rattle.position_files.specs.Tables.{IsTextOfTable, table_text}
 use Rattle.defence_finder.specs.Defences.{defences_of, first_spent, IsShortAfter}
 use Rattle.defence_finder.specs.Answers.{AreBeaten, IsLostStart, nodes_after, most_nodes}
 use Rattle.defence_finder.proofs.Telling.{spent-told}
-use Rattle.defence_finder.proofs.Losing.{beaten-replies-win, no_defence-loses}
+use Rattle.defence_finder.proofs.Losing.{beaten-replies-planned, beaten-replies-win, no_defence-loses}
 use Rattle.position_files.specs.declared.PositionFile.{PositionFile}
 use Rattle.renju_io.specs.Told.{Takes}
 use Rattle.command_base.specs.declared.answer.Answer.{Answer}
@@ -29,7 +31,7 @@ use Rattle.command_base.specs.Told.{IsTold, IsYielded}
 use Rattle.command_base.specs.Positions.{SaysOfPosition}
 use Rattle.command_base.specs.Searches.{ShowsOfPosition}
 use Rattle.position_commands.specs.Defends.{DefenceSays, IsEnoughAfterEach, IsJudgedDefence, IsLostText, ListsDefences, SpeaksOfDefence}
-use Rattle.position_commands.specs.Defends.{WritesStart, defend_command, first_spent_at}
+use Rattle.position_commands.specs.Defends.{WritesStart, defend_command, first_spent_at, plans_at, LostTextIsOne}
 use Rattle.command_base.proofs.PositionLaws.{file_at, shows-of-position}
 
 -- ---- the budget
@@ -65,12 +67,16 @@ module _ (limit : ℕ) (kind : RuleKind) (b : Grid) (t : List Node) (bad given :
   pub lost-made : IsLostStart kind limit b u a
   lost-made = beaten-replies-win kind limit b t bad u a none beaten (subst (λ (rs : List Reply). IsMadeOfAnswers t rs u a) same made)
 
-  pub lost-text : length u ≤ most_nodes limit b → (moves : ℕ) → moves ≡ start_depth u a → (text : List ℕ)
+  pub lost-text : ((bs : Branches) → AnswersBranches t given bs → IsStartOfBranches bs u a) → length u ≤ most_nodes limit b → (moves : ℕ)
+      → moves ≡ start_depth u a → (text : List ℕ)
       → IsTextOfTable (record { kind = kind; board = b; table = u; root = Defend a; moves = moves }) text
       → IsLostText limit (file_at kind b) text
-  lost-text few moves deep text written = record {
+  lost-text of_branches few moves deep text written = record {
     table = u;
     start = a;
+    plans = of_branches (plans_at limit (file_at kind b))
+        (subst (λ (rs : List Reply). AnswersBranches t rs (plans_at limit (file_at kind b)))
+        (sym same) (beaten-replies-planned kind limit b t bad beaten));
     accepted = lost-made.accepted;
     within = lost-made.within;
     different = made.different;
@@ -78,6 +84,13 @@ module _ (limit : ℕ) (kind : RuleKind) (b : Grid) (t : List Node) (bad given :
     few = few;
     written = subst (λ (m : ℕ). IsTextOfTable (record { kind = kind; board = b; table = u; root = Defend a; moves = m }) text) deep written;
   }
+
+-- there is one such text
+pub lost-text-one : LostTextIsOne
+lost-text-one limit file text other this that =
+    let same = one-start (plans_at limit file) this.table that.table this.start that.start this.plans that.plans in
+    let spell : List Node → Answers → List ℕ = λ t a. table_text file.kind file.board t (Defend a) (start_depth t a) in
+    this.written.spelled ∙ (λ i. spell (same.0 i) (same.1 i)) ∙ sym that.written.spelled
 
 -- where no move holds, the text of that start is what is said
 pub lost-says : {E : Type 0} (limit nodes : ℕ) (rule : RuleKind) (p : Grid) (r : Result Answer E) (b : Grid) (t : List Node)

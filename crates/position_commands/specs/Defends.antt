@@ -8,9 +8,11 @@ use Rattle.strategy_graph.specs.declared.Node.{Node}
 use Rattle.strategy_graph.specs.declared.roots.Root.TheVariants.{Defend}
 use Rattle.strategy_graph.specs.Tables.{Answers, named, start_depth}
 use Rattle.strategy_graph.specs.Acceptance.{AcceptedStart}
+use Rattle.strategy_compiler.specs.Trees.{Branches}
 use Rattle.strategy_compiler.specs.Walks.{AreDifferent, ReachedFrom}
-use Rattle.defence_finder.specs.Defences.{defences_of, first_spent, SufficesAfterEach, IsShortAfter}
-use Rattle.defence_finder.specs.Answers.{most_nodes}
+use Rattle.strategy_compiler.specs.Starts.{IsStartOfBranches}
+use Rattle.defence_finder.specs.Defences.{beaten_of, defences_of, first_spent, SufficesAfterEach, IsShortAfter}
+use Rattle.defence_finder.specs.Answers.{most_nodes, plans_after}
 use Rattle.defence_finder.specs.Lines.{defences_text}
 use Rattle.text_lines.specs.Lines.{ended}
 use Rattle.text_lines.specs.Spellings.{point_text}
@@ -31,6 +33,10 @@ use Rattle.position_commands.specs.Fours.{AreLimits}
 abbrev pub defences_at : ℕ → PositionFile → List Point
 defences_at limit file = defences_of file.kind limit file.board
 
+-- a branch for each move that goes on and does not hold, with the plan of the fewest win by fours after it
+abbrev pub plans_at : ℕ → PositionFile → Branches
+plans_at limit file = plans_after file.kind limit file.board (beaten_of file.kind limit file.board)
+
 -- the first move of the side to move after which the budget is not enough for a search for continuous fours, if there is one
 abbrev pub first_spent_at : ℕ → ℕ → PositionFile → Option Point
 first_spent_at limit nodes file = first_spent file.kind limit nodes file.board
@@ -48,17 +54,24 @@ abbrev pub start_at : PositionFile → List Node → Answers → TableFile
 start_at file table start =
     record { kind = file.kind; board = file.board; table = table; root = Defend start; moves = start_depth table start }
 
--- The text is that of a table at the position whose start is accepted there, is no deeper than the limit, and reaches each node; no
--- two nodes are equal, and there are at most two for each empty point and each move of the limit.
+-- The text is that of the one table of the plans: a branch for each move that goes on, with the plan of the fewest win by continuous
+-- fours after it. Its start is accepted at the position, is no deeper than the limit, and reaches each node; no two nodes are equal,
+-- and there are at most two for each empty point and each move of the limit.
 pub record IsLostText (limit : ℕ) (file : PositionFile) (text : List ℕ) : Type 0 where
   pub table : List Node
   pub start : Answers
+  pub plans : IsStartOfBranches (plans_at limit file) table start
   pub accepted : AcceptedStart file.kind table start file.board
   pub within : start_depth table start ≤ limit
   pub different : AreDifferent table
   pub reached : (k : ℕ) → k < length table → ReachedFrom table (named start) k
   pub few : length table ≤ most_nodes limit file.board
   pub written : IsTextOfTable (start_at file table start) text
+
+-- a position and a limit have one such text
+abbrev pub LostTextIsOne : Type 0
+LostTextIsOne = (limit : ℕ) (file : PositionFile) (text other : List ℕ) → IsLostText limit file text → IsLostText limit file other
+    → text ≡ other
 
 -- the budget is enough after each move, and some move holds: those that hold are listed
 pub record IsDefended (limit nodes : ℕ) (file : PositionFile) (status : Status) (text : List ℕ) : Type 0 where

@@ -9,7 +9,7 @@ ghost use Rattle.game_rules.specs.Play.{IsPosition};
 ghost use Rattle.defence_finder.specs.Defences.{defences_of};
 ghost use Rattle.defence_finder.specs.Answers.{AreBeaten, most_nodes};
 ghost use Rattle.defence_finder.specs.Lines.{defences_text};
-ghost use Rattle.position_commands.specs.Defends.{DefenceSays, IsLostText, spent_after_line};
+ghost use Rattle.position_commands.specs.Defends.{DefenceSays, IsLostText, LostTextIsOne, spent_after_line};
 
 use command_base::{Answer, AtPosition, Status};
 use defence_finder::{DefenceAnswer, defences, write_defences};
@@ -116,3 +116,8 @@ fn spent_after(alloc: Global, at: Point) -> Result<Answer, AllocError>
     text.push_str("\n")?;
     Ok(Answer::told(Status::Spent, text))
 }
+
+/// Where no move holds, the text that is written is a function of the position and the depth.
+pub fn lost_text_is_one()
+    ensures one { LostTextIsOne }
+{}

@@ -8,7 +8,7 @@ mod fouls;
 mod fours;
 mod threats;
 
-pub use defend::Defend;
+pub use defend::{Defend, lost_text_is_one};
 pub use fouls::ListFouls;
 pub use fours::{Fours, table_text, win_text};
 pub use threats::FindSequence;

@@ -177,11 +177,10 @@ others-given a o (r ∷ rs) h =
     at_kept true k = ap (λ (ps : List Point). r.at ∷ ps) k
     at_kept false k = k
 
-answers-briefly : (attack : Point) (rs : List Reply) → AnsweredAsGiven (answers_of (answering_node attack rs)) rs
-    → AnswersBriefly (answers_of (answering_node attack rs)) (map (λ r. r.at) rs)
-answers-briefly attack [] h = (refl, refl)
-answers-briefly attack (r ∷ rs) h =
-    let a : Answers = answers_of (answering_node attack (r ∷ rs)) in
+answers-briefly : (rs : List Reply) → AnsweredAsGiven (brief_answers rs) rs → AnswersBriefly (brief_answers rs) (map (λ r. r.at) rs)
+answers-briefly [] h = (refl, refl)
+answers-briefly (r ∷ rs) h =
+    let a : Answers = brief_answers (r ∷ rs) in
     let o : Option ℕ = commonest_next (r ∷ rs) in
     record {
       rest_is_commonest = rest_node-of o ∙ ap commonest (sym (answers_to-given a (r ∷ rs) h));
@@ -199,21 +198,25 @@ stands-all t u a (r ∷ rs) (Branch q s bs) keep g h =
     let given : answer a q ≡ Some r.next = subst (λ (p : Point). answer a p ≡ Some r.next) h.0 g.0 in
     (subst (λ (o : Option ℕ). IsSomeAnd o (λ j. StandsFor u j s)) (sym given) (keep r.next s h.1), stands-all t u a rs bs keep g.1 h.2)
 
--- where each given node stands for the tree of a branch, the node put in stands for the tree with this attack and these branches
+-- where each given node stands for the tree of a branch, the answers in brief stand for the branches in each list that keeps the trees
+pub brief-branches : (t u : List Node) (rs : List Reply) → is_rising rs ≡ true
+    → ((j : ℕ) (s : Tree) → StandsFor t j s → StandsFor u j s) → (bs : Branches) → AnswersBranches t rs bs
+    → AnswersBriefly (brief_answers rs) (replies_of bs) × StandsForAll u (brief_answers rs) bs
+brief-branches t u rs h keep bs given =
+    let given_as = brief-as_given rs h in (
+      subst (AnswersBriefly (brief_answers rs)) (replies-branches t rs bs given) (answers-briefly rs given_as),
+      stands-all t u (brief_answers rs) rs bs keep given_as given,
+    )
+
+-- and the node put in stands for the tree with this attack and these branches
 pub stands-answering : (old new : List Node) (i : ℕ) (attack : Point) (rs : List Reply) → is_rising rs ≡ true
     → PutsIn old (answering_node attack rs) new → slice_get new i ≡ Some (answering_node attack rs) → (bs : Branches)
     → AnswersBranches old rs bs → StandsFor new i (Fork attack bs)
 unfolding StandsFor
 stands-answering old new i attack rs h put at bs given =
-    let given_as : AnsweredAsGiven (answers_of (answering_node attack rs)) rs = brief-as_given rs h in
     let P : Node → Type 0 = λ n. (n.attack ≡ attack) × AnswersBriefly (answers_of n) (replies_of bs) × StandsForAll new (answers_of n) bs in
-    subst (λ (o : Option Node). AtNode o P) (sym at) (
-      refl,
-      subst (AnswersBriefly (answers_of (answering_node attack rs))) (replies-branches old rs bs given)
-          (answers-briefly attack rs given_as),
-      stands-all old new (answers_of (answering_node attack rs)) rs bs (λ j s k. stands-put_in old (answering_node attack rs) new put j s k)
-          given_as given,
-    )
+    let all = brief-branches old new rs h (λ j s k. stands-put_in old (answering_node attack rs) new put j s k) bs given in
+    subst (λ (o : Option Node). AtNode o P) (sym at) (refl, all.0, all.1)
 
 pub stands-winning : (t : List Node) (i : ℕ) (attack : Point) → slice_get t i ≡ Some (winning_node attack) → StandsFor t i (Leaf attack)
 unfolding StandsFor

@@ -5,11 +5,13 @@ pub use Rattle.strategy_compiler.specs.Growth.{GrowsBy, Writes}
 pub use Rattle.strategy_compiler.specs.Nodes.{IsCompiled, NamesOnly, PutsIn, answering_node, answers_beside, brief_answers, commonest_next}
 pub use Rattle.strategy_compiler.specs.Nodes.{rest_of, winning_node}
 pub use Rattle.strategy_compiler.specs.Orders.{ArePlaces, Flags, IsBetween, IsMadeFrom, IsMadeOf, IsOrder, unset}
-pub use Rattle.strategy_compiler.specs.Starts.{AnswersEach, IsMadeOfAnswers, answers_alone, start_order}
+pub use Rattle.strategy_compiler.specs.Starts.{AnswersEach, BranchesHaveOneStart, IsMadeOfAnswers, IsStartOfBranches, answers_alone}
+pub use Rattle.strategy_compiler.specs.Starts.{start_order}
 pub use Rattle.strategy_compiler.specs.Trees.{AnswersBranches, AnswersBriefly, Branch, Branches, Fork, GrowthKeepsTrees, IsBrief, Leaf}
 pub use Rattle.strategy_compiler.specs.Trees.{NoBranch, Tree, answers_to, commonest, replies_of, times}
 unfoldable pub use Rattle.strategy_compiler.specs.Trees.{StandsFor, StandsForAll}
 pub use Rattle.strategy_compiler.specs.Walks.{AreDifferent, GrowthKeepsReach, IsNumberedByWalk, IsTableOf, Itself, NamesPointsFrom}
+pub use Rattle.strategy_compiler.specs.Walks.{TreeHasOneTable}
 pub use Rattle.strategy_compiler.specs.Walks.{NamesPointsReached, ReachedFrom, Reaches, Renumbers, Through, completed, completed_from}
 pub use Rattle.strategy_compiler.specs.Walks.{is_in_list, last, place_in, visits, visits_at}
 unfoldable pub use Rattle.strategy_compiler.specs.Walks.{completed_after, completed_within}

@@ -211,7 +211,7 @@ module _ (f : ℕ → ℕ) (passes : ℕ → Bool) (one : IsOneToOne f passes) w
           (λ n. (n.attack ≡ q) × AnswersBriefly (answers_of n) (replies_of bs) × StandsForAll u (answers_of n) bs) p
           (λ n all k. (k.0, brief-renumbered (answers_of n) all (replies_of bs) k.1, stands_all-copied (answers_of n) bs all k.2)) h
 
-      stands_all-copied : (a : Answers) (bs : Branches) → list_all passes (named a) ≡ true → StandsForAll t a bs
+      pub stands_all-copied : (a : Answers) (bs : Branches) → list_all passes (named a) ≡ true → StandsForAll t a bs
           → StandsForAll u (renumbered_answers f a) bs
       stands_all-copied a NoBranch all h = tt
       stands_all-copied a (Branch q s bs) all h = (

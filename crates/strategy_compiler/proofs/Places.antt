@@ -10,8 +10,8 @@ use Rattle.std.proofs.lemmas.Option.{slice_get_within, slice_get_read, slice_get
 use Rattle.std.proofs.lemmas.Bool.Decides.{Decides-eqb}
 use borrow.Author.Tests.{ltb-true, ltb-false}
 use Rattle.std.proofs.lemmas.List.FromFn.{length-range_with_len, get_or-range_with_len}
+use Rattle.game_rules.specs.declared.Point.{Point}
 use Rattle.strategy_graph.specs.declared.Node.{Node}
-use Rattle.strategy_graph.specs.declared.TheConstants.{MAX_NODES}
 use Rattle.strategy_graph.specs.declared.Reply.{Reply}
 use Rattle.strategy_graph.proofs.Common.{answers_of, named, names_below, IsNode, IsTable, renumbered_node, Answers, NamesLower, SaysSame}
 use Rattle.strategy_graph.proofs.Common.{StartSaysSame, renumbered_answers}
@@ -23,8 +23,9 @@ use Rattle.strategy_graph.proofs.Copies.{Copies}
 use Rattle.strategy_compiler.proofs.Common.{is_in_list, place_in, Renumbers, ArePlaces, IsOrder, Tree, StandsFor, AreDifferent}
 use Rattle.strategy_compiler.proofs.Common.{IsNumberedByWalk, IsTableOf, NamesPointsFrom, NamesPointsReached, ReachedFrom, Reaches}
 use Rattle.strategy_compiler.proofs.Common.{completed, completed_after, completed_from, last, visits_at, IsMadeFrom, IsMadeOf}
+use Rattle.strategy_compiler.proofs.Common.{AnswersBriefly, Branches, StandsForAll}
 use Rattle.strategy_compiler.proofs.Walking.{among-at, walked-step, walks-itself, visited-above, within-enough, contains-map}
-use Rattle.strategy_compiler.proofs.Copying.{fold-copied, within-copied, reaches-copied, stands-copied}
+use Rattle.strategy_compiler.proofs.Copying.{brief-renumbered, fold-copied, within-copied, reaches-copied, stands-copied, stands_all-copied}
 use Rattle.strategy_compiler.proofs.Standing.{completed-reached}
 
 -- ---- places
@@ -224,7 +225,7 @@ module _ (order : List ℕ) where
     by_test true k = same_Some j i (sym (among-place order j k) ∙ ap (slice_get order) e ∙ among-place order i h)
     by_test false k = let past = place-absent order j k in let low = place-within i h in absurd (omega (arith, past, low, e))
 
-  places-apart : IsOneToOne (place_in order) (λ i. is_in_list i order)
+  pub places-apart : IsOneToOne (place_in order) (λ i. is_in_list i order)
   places-apart = record { apart = λ j i h. by_test j i h (j == i) refl } where
     by_test : (j i : ℕ) → is_in_list i order ≡ true → (b : Bool) → (j == i) ≡ b → (place_in order j == place_in order i) ≡ (j == i)
     by_test j i h true e = let same : j ≡ i = (Decides-eqb j i).0 e in
@@ -298,10 +299,24 @@ module _ (t : List Node) (roots order : List ℕ) (u : List Node) (table : IsTab
         trees = λ tree h. stands-copied (place_in order) (λ i. is_in_list i order) (places-apart order) t u copies i tree among h;
       }
 
+  named-among_roots : (a : Answers) → ((j : ℕ) → Contains (named a) j → Contains roots j)
+      → list_all (λ i. is_in_list i order) (named a) ≡ true
+  named-among_roots a named_by = all_by (λ i. is_in_list i order) (named a) (λ j c. root-among j (named_by j c))
+
   pub made-start : (a : Answers) → ((j : ℕ) → Contains (named a) j → Contains roots j)
       → StartSaysSame t a u (renumbered_answers (place_in order) a)
   made-start a named_by = copies-same-start (place_in order) (λ i. is_in_list i order) t u copies lower (IsTable-lower u made-table) a
-      (all_by (λ i. is_in_list i order) (named a) (λ j c. root-among j (named_by j c)))
+      (named-among_roots a named_by)
+
+  pub made-branches : (a : Answers) (bs : Branches) → ((j : ℕ) → Contains (named a) j → Contains roots j) → StandsForAll t a bs
+      → StandsForAll u (renumbered_answers (place_in order) a) bs
+  made-branches a bs named_by = stands_all-copied (place_in order) (λ i. is_in_list i order) (places-apart order) t u copies a bs
+      (named-among_roots a named_by)
+
+  pub made-brief : (a : Answers) (qs : List Point) → ((j : ℕ) → Contains (named a) j → Contains roots j) → AnswersBriefly a qs
+      → AnswersBriefly (renumbered_answers (place_in order) a) qs
+  made-brief a qs named_by = brief-renumbered (place_in order) (λ i. is_in_list i order) (places-apart order) a
+      (named-among_roots a named_by) qs
 
   -- ---- they are numbered as walks complete them
 
@@ -389,6 +404,8 @@ made-from t roots order u table different is_order walked re = subst (λ (o : Li
   different = made-different t roots order u table different is_order walked (from-renumbers t order u re);
   each_root = made-root t roots order u table different is_order walked (from-renumbers t order u re);
   each_start = made-start t roots order u table different is_order walked (from-renumbers t order u re);
+  branches = made-branches t roots order u table different is_order walked (from-renumbers t order u re);
+  brief = made-brief t roots order u table different is_order walked (from-renumbers t order u re);
   reached = made-reached t roots order u table different is_order walked (from-renumbers t order u re);
   numbered = made-numbered t roots order u table different is_order walked (from-renumbers t order u re);
   points = made-points t roots order u table different is_order walked (from-renumbers t order u re);

@@ -21,16 +21,17 @@ use Rattle.strategy_graph.proofs.Common.{Answers, answer, listed_node, named, na
 use Rattle.strategy_graph.proofs.Common.{NamesLower, renumbered_answers, renumbered_reply, Accepted, AcceptedStart}
 use Rattle.strategy_graph.proofs.Common.{arrivals_at, arrivals, start_arrivals, SaysSame, StartSaysSame}
 use Rattle.strategy_graph.proofs.Answering.{answer-named}
-use Rattle.strategy_graph.proofs.Copies.{iff_by, answer-renumbered, named-renumbered}
-use Rattle.strategy_graph.proofs.Renumbering.{renumbered_replies-agree, renumbered_rest-agree}
+use Rattle.strategy_graph.proofs.Copies.{iff_by, answer-renumbered, is_winning-renumbered, named-renumbered}
+use Rattle.strategy_graph.proofs.Renumbering.{renumbered_replies-agree, renumbered_rest-agree, rising-renumbered}
 use Rattle.strategy_graph.proofs.Rising.{AnsweredAsGiven, listed-given, all-next}
 use Rattle.strategy_graph.proofs.Greatest.{greatest-same}
 use Rattle.strategy_compiler.proofs.Common.{is_in_list, completed_from, place_in, visits, ArePlaces, IsMadeFrom, brief_answers}
 use Rattle.strategy_compiler.proofs.Common.{answers_beside, commonest_next, rest_of, answers_alone, AnswersEach, start_order}
-use Rattle.strategy_compiler.proofs.Common.{IsMadeOfAnswers}
+use Rattle.strategy_compiler.proofs.Common.{AnswersBranches, Branches, IsMadeOfAnswers, IsStartOfBranches, replies_of}
 use Rattle.strategy_compiler.proofs.Walking.{visited-named, named-visited, all-contains, contains-map, visits-below, walks-itself}
-use Rattle.strategy_compiler.proofs.Places.{all_by, among-place}
-use Rattle.strategy_compiler.proofs.Briefs.{brief-named, brief-as_given, points-kept}
+use Rattle.strategy_compiler.proofs.Places.{all_by, among-place, places-apart}
+use Rattle.strategy_compiler.proofs.Copying.{visits-renumbered}
+use Rattle.strategy_compiler.proofs.Briefs.{brief-named, brief-as_given, brief-branches, brief-not_winning, brief-rising, points-kept}
 use borrow.Author.Tests.{ltb-true, lt-ltb}
 
 -- ---- numbers in lists
@@ -196,6 +197,28 @@ module _ (answers : List Reply) (rising : is_rising answers ≡ true) where
           (mapped-inside (visits (brief_answers answers)) (named (brief_answers answers)) (λ j d. visited-named (brief_answers answers) j d)
           i c)
 
+    -- it is that of the branches for which the answers stand
+    pub made-of-branches : (a : Answers) → a ≡ renumbered_answers (place_in (start_order t answers)) (brief_answers answers)
+        → (bs : Branches) → AnswersBranches t answers bs → IsStartOfBranches bs u a
+    made-of-branches a is bs given =
+        let f : ℕ → ℕ = place_in (start_order t answers) in
+        let brief = brief-branches t t answers rising (λ j s h. h) bs given in
+        subst (IsStartOfBranches bs u) (sym is) (record {
+          table = made.table;
+          start = record {
+            not_winning = is_winning-renumbered f (brief_answers answers).rest ∙ brief-not_winning answers;
+            rising = rising-renumbered f (brief_answers answers).replies ∙ brief-rising answers rising;
+          };
+          below = (made-of-answers _ refl).below;
+          brief = made.brief (brief_answers answers) (replies_of bs) named-root brief.0;
+          stands = made.branches (brief_answers answers) bs named-root brief.1;
+          different = made.different;
+          numbered =
+              ap (completed_from u) (visits-renumbered f (λ i. is_in_list i (start_order t answers)) (places-apart (start_order t answers))
+              (brief_answers answers))
+              ∙ made.numbered;
+        })
+
 -- ---- the same, as the code reads it
 
 pub brief-is : (answers : List Reply) (o : Option ℕ) (rs : List Reply) (rest : Rest) → o ≡ commonest_next answers
@@ -237,10 +260,11 @@ places-agree t lower answers places are =
 pub start-made : (t : List Node) → NamesLower t → (answers : List Reply) → is_rising answers ≡ true
     → (a : Answers) (roots places : List ℕ) (u : List Node) (start : Answers) → brief_answers answers ≡ a → roots ≡ visits a
     → IsMadeFrom t roots (completed_from t roots) u → ArePlaces (completed_from t roots) places
-    → start ≡ renumbered_answers (λ j. slice_index places j) a → IsMadeOfAnswers t answers u start
+    → start ≡ renumbered_answers (λ j. slice_index places j) a
+    → IsMadeOfAnswers t answers u start × ((bs : Branches) → AnswersBranches t answers bs → IsStartOfBranches bs u start)
 start-made t lower answers rising a roots places u start is visited made are starts =
     let here : roots ≡ visits (brief_answers answers) = visited ∙ ap visits (sym is) in
     let made_here = subst (λ (js : List ℕ). IsMadeFrom t js (completed_from t js) u) here made in
     let are_here : ArePlaces (start_order t answers) places = subst (λ (js : List ℕ). ArePlaces (completed_from t js) places) here are in
-    made-of-answers answers rising t u made_here start
-    (starts ∙ ap (renumbered_answers (λ j. slice_index places j)) (sym is) ∙ places-agree t lower answers places are_here)
+    let said = starts ∙ ap (renumbered_answers (λ j. slice_index places j)) (sym is) ∙ places-agree t lower answers places are_here in
+    (made-of-answers answers rising t u made_here start said, made-of-branches answers rising t u made_here start said)

@@ -1,4 +1,5 @@
--- A tree has one table: nodes that stand for a same tree in two tables are walked over alike, and are the same.
+-- A tree has one table, and branches have one start: nodes that stand for a same tree in two tables are walked over alike, and are the
+-- same.
 use Rattle.std.proofs.Common.{◌≡◌, ℕ, zero, suc, ◌+◌, ◌<◌, ◌≤◌, Bool, true, false, cond, not, ◌&&◌, ◌||◌, ◌==◌, List, [], ◌∷◌, ◌++◌, filter}
 use Rattle.std.specs.Prelude.{IsSomeAnd}
 use Rattle.std.proofs.Common.{length, get_or, refl, sym, ap, subst, ◌∙◌, arith, Option, Some, None, nat_le, nat_eq, slice_get, fold}
@@ -13,7 +14,7 @@ use Rattle.game_rules.proofs.PointLists.{filter-inside}
 use Rattle.strategy_graph.specs.declared.Node.{Node}
 use Rattle.strategy_graph.specs.declared.Rest.{Rest}
 use Rattle.strategy_graph.specs.declared.Rest.TheVariants.{To, Nothing}
-use Rattle.strategy_graph.proofs.Common.{Answers, answers_of, answer, names_below, rest_node, rest_nodes, is_winning, IsTable}
+use Rattle.strategy_graph.proofs.Common.{Answers, answers_of, answer, names_below, rest_node, rest_nodes, is_rising, is_winning, IsTable}
 use Rattle.std.proofs.lemmas.List.FromFn.{length-range_with_len, get_or-range_with_len}
 use Rattle.strategy_graph.proofs.Filling.{IsTable-lower}
 use Rattle.strategy_compiler.proofs.Walking.{within-enough}
@@ -25,8 +26,9 @@ use Rattle.strategy_graph.proofs.Pairs.{node-right, node-left, node-itself, bare
 use Rattle.strategy_graph.proofs.Naming.{ext-slice_get}
 use Rattle.strategy_compiler.proofs.Briefs.{commonest-there}
 use Rattle.strategy_compiler.proofs.Common.{Tree, Branches, Leaf, Fork, NoBranch, Branch, StandsFor, StandsForAll, IsBrief, replies_of}
-use Rattle.strategy_compiler.proofs.Common.{answers_to, commonest, times, AreDifferent, IsTableOf, completed_within, is_in_list, last}
-use Rattle.strategy_compiler.proofs.Common.{visits, visits_at}
+use Rattle.strategy_compiler.proofs.Common.{answers_to, commonest, times, AreDifferent, TreeHasOneTable, completed, completed_after}
+use Rattle.strategy_compiler.proofs.Common.{completed_from, completed_within, is_in_list, last, visits, visits_at, AnswersBriefly}
+use Rattle.strategy_compiler.proofs.Common.{BranchesHaveOneStart, IsStartOfBranches}
 
 -- ---- lists that are related place by place
 
@@ -120,7 +122,7 @@ module _ (u v : List Node) (tu : IsTable u) (tv : IsTable v) where
     by_answer None t e = t
     by_answer (Some x) t e = commonest-there x (answers_to a qs) e
 
-  module _ (i j : ℕ) (n m : Node) (one : TellsApart (AlikeBelow i)) (at : slice_get u i ≡ Some n) (at' : slice_get v j ≡ Some m) where
+  module _ (i : ℕ) (n m : Node) (one : TellsApart (AlikeBelow i)) (up : is_rising n.replies ≡ true) (up' : is_rising m.replies ≡ true) where
     fork-pair : (q : Point) (qs : List Point) → n.attack ≡ m.attack → IsBrief (answers_of n) (q ∷ qs) → IsBrief (answers_of m) (q ∷ qs)
         → AnswerPairs (AlikeBelow i) (answers_of n) (answers_of m) (q ∷ qs) → NodePair (AlikeBelow i) n m
     fork-pair q qs attack brief brief' h =
@@ -145,7 +147,7 @@ module _ (u v : List Node) (tu : IsTable u) (tv : IsTable v) where
               listed-pairs (AlikeBelow i) a b (q ∷ qs) n.replies m.replies h points
               (λ p c. filter-inside (λ p. not (option_eq nat_eq (answer a p) (rest_node a.rest))) (q ∷ qs) p
               (subst (λ (ps : List Point). Contains ps p) brief.others_are_listed c))
-              (answered-as-listed a ((tu.nodes i n at).rising)) (answered-as-listed b ((tv.nodes j m at').rising));
+              (answered-as-listed a up) (answered-as-listed b up');
         } where
           by_rest : (o p : Option ℕ) → rest_node n.rest ≡ o → rest_node m.rest ≡ p → OptionPair (AlikeBelow i) o p
               → (x : ℕ) × (y : ℕ) × AlikeBelow i x y × (n.rest ≡ To x) × (m.rest ≡ To y)
@@ -153,6 +155,7 @@ module _ (u v : List Node) (tu : IsTable u) (tv : IsTable v) where
               (first-there (AlikeBelow i) (answers_of n) (answers_of m) q qs h (sym brief.rest_is_commonest ∙ e))
           by_rest _ _ e f (Both x y g) = (x, y, g, rest-to n.rest x e, rest-to m.rest y f)
 
+  module _ (i j : ℕ) (n m : Node) (one : TellsApart (AlikeBelow i)) (at : slice_get u i ≡ Some n) (at' : slice_get v j ≡ Some m) where
     pair-by : (s : Tree) → StandsFor u i s → StandsFor v j s → NodePair (AlikeBelow i) n m
     unfolding StandsFor
     pair-by (Leaf p) h k =
@@ -170,7 +173,7 @@ module _ (u v : List Node) (tu : IsTable u) (tv : IsTable v) where
         (λ n. (n.attack ≡ p) × IsBrief (answers_of n) (q ∷ replies_of bs) × StandsForAll u (answers_of n) (Branch q s bs)) at h in
         let there = AtNode-some (slice_get v j) m
         (λ n. (n.attack ≡ p) × IsBrief (answers_of n) (q ∷ replies_of bs) × StandsForAll v (answers_of n) (Branch q s bs)) at' k in
-        fork-pair q (replies_of bs) (here.0 ∙ sym there.0) here.1 there.1
+        fork-pair i n m one ((tu.nodes i n at).rising) ((tv.nodes j m at').rising) q (replies_of bs) (here.0 ∙ sym there.0) here.1 there.1
         (answers-from i (answers_of n) (answers_of m) (Branch q s bs) ((tu.nodes i n at).below) here.2 there.2)
 
   node-at : (i : ℕ) (s : Tree) (t : List Node) → StandsFor t i s → (n : Node) × (slice_get t i ≡ Some n)
@@ -284,62 +287,108 @@ module _ (u v : List Node) (tu : IsTable u) (tv : IsTable v) where
           by_test false true s q = cc
           by_test false false s q = q
 
-    pub range-at : (n k : ℕ) → k < n → get_or (range_with_len 0 n) k 0 ≡ k
+    after-alike : (d e : List ℕ) (i j : ℕ) → Alike u v i j → Pairs (Alike u v) d e
+        → Pairs (Alike u v) (completed_after u d i) (completed_after v e j)
+    unfolding completed_after
+    after-alike d e i j h p =
+        let k : ℕ = suc (i + j) in
+        subst (λ (js : List ℕ). Pairs (Alike u v) js (completed_after v e j))
+        (within-enough u (IsTable-lower u tu) k (suc i) i d (omega arith) (omega arith))
+        (subst (Pairs (Alike u v) (completed_within k u d i))
+        (within-enough v (IsTable-lower v tv) k (suc j) j e (omega arith) (omega arith)) (within-alike k d e i j h p))
+
+    range-at : (n k : ℕ) → k < n → get_or (range_with_len 0 n) k 0 ≡ k
     range-at n k l = get_or-range_with_len 0 n k 0 l ∙ zero_plus k where
       zero_plus : (k : ℕ) → 0 + k ≡ k
       zero_plus k = omega arith
 
+    -- ---- where nodes of the same numbers are alike, the tables are one
+
+    module _ (numbers : Pairs (Alike u v) (range_with_len 0 (length u)) (range_with_len 0 (length v))) where
+      same-length : length u ≡ length v
+      same-length =
+          sym (length-range_with_len 0 (length u))
+          ∙ pairs-length (Alike u v) (range_with_len 0 (length u)) (range_with_len 0 (length v)) numbers
+          ∙ length-range_with_len 0 (length v)
+
+      number-alike : (k : ℕ) → k < length u → Alike u v k k
+      number-alike k l =
+          let long = length-range_with_len 0 (length u) in
+          let both = same-length in
+          let pair = pairs-at (Alike u v) (range_with_len 0 (length u)) (range_with_len 0 (length v)) k numbers (omega (arith, long, l)) in
+          subst (λ (j : ℕ). Alike u v j k) (range-at (length u) k l)
+          (subst (Alike u v (get_or (range_with_len 0 (length u)) k 0)) (range-at (length v) k (omega (arith, both, l))) pair)
+
+      same-number : (x z : ℕ) → x < length u → Alike u v x z → x ≡ z
+      same-number x z low h =
+          (Decides-eqb x z).0 (sym (alike-one.apart x x x z (number-alike x low) h) ∙ (Decides-eqb x x).1 refl)
+
+      -- nodes that name related nodes of the tables are one
+      pair-same : (k : ℕ) → k ≤ length u → (n m : Node) → NodePair (AlikeBelow k) n m → n ≡ m
+      pair-same k l n m pair =
+          node-right (λ x y. x ≡ y) (AlikeBelow k)
+          (λ x y z e r. sym e ∙ same-number x z (lt_of x k (length u) r.1 l) r.0) n n m (node-itself n) pair where
+            lt_of : (a b c : ℕ) → a < b → b ≤ c → a < c
+            lt_of a b c h k = omega arith
+
+      node-same : (k : ℕ) → k < length u → slice_get u k ≡ slice_get v k
+      node-same k l =
+          let h = number-alike k l in
+          let n = node-at k h.tree u h.left in
+          let m = node-at k h.tree v h.right in
+          n.1 ∙ ap Some (pair-same k (omega arith) n.0 m.0 (pair-at k k n.0 m.0 n.1 m.1 h)) ∙ sym m.1
+
+      numbered-same : u ≡ v
+      numbered-same = ext-slice_get u v same-length node-same
+
+    -- ---- starts that answer the replies of the same branches
+
+    module _ (bs : Branches) (a b : Answers) (hu : IsStartOfBranches bs u a) (hv : IsStartOfBranches bs v b) where
+      -- the answers as those of a node
+      abbrev node_of : Answers → Node
+      node_of c = record { attack = record { x = 0; y = 0 }; replies = c.replies; rest = c.rest }
+
+      start-pair : NodePair (AlikeBelow (length u)) (node_of a) (node_of b)
+      start-pair = by_branches bs hu.brief hv.brief hu.stands hv.stands where
+        by_branches : (bs : Branches) → AnswersBriefly a (replies_of bs) → AnswersBriefly b (replies_of bs) → StandsForAll u a bs
+            → StandsForAll v b bs → NodePair (AlikeBelow (length u)) (node_of a) (node_of b)
+        by_branches NoBranch h k x y =
+            bare-pair (AlikeBelow (length u)) (node_of a) (node_of b) refl (h.0 ∙ sym k.0) (ap rest_nodes k.0) h.1 k.1
+        by_branches (Branch q s bs) h k x y =
+            fork-pair (length u) (node_of a) (node_of b) (one-all (length u)) hu.start.rising hv.start.rising q (replies_of bs) refl h k
+            (answers-from (length u) a b (Branch q s bs) hu.below x y)
+
+      starts-alike : Pairs (Alike u v) (visits a) (visits b)
+      starts-alike =
+          pairs-append (Alike u v) _ _ _ _ (pairs-weaker (AlikeBelow (length u)) (Alike u v) (λ x y r. r.0) _ _ start-pair.rests)
+          (pairs-weaker (AlikeBelow (length u)) (Alike u v) (λ x y r. r.0) _ _ start-pair.nexts)
+
+      start-numbers : Pairs (Alike u v) (range_with_len 0 (length u)) (range_with_len 0 (length v))
+      start-numbers =
+          subst (λ (js : List ℕ). Pairs (Alike u v) js (range_with_len 0 (length v))) hu.numbered
+          (subst (Pairs (Alike u v) (completed_from u (visits a))) hv.numbered
+          (fold-pairs (Alike u v) (completed_after u) (completed_after v) (λ d e x y r p. after-alike d e x y r p) (visits a) (visits b) []
+          []
+          starts-alike Ends))
+
+      one-pair : (u ≡ v) × (a ≡ b)
+      one-pair = (
+        numbered-same start-numbers,
+        ap answers_of (pair-same start-numbers (length u) (omega arith) (node_of a) (node_of b) start-pair),
+      )
+
 -- ---- the table of a tree is one
 
-module _ (tree : Tree) (u v : List Node) (hu : IsTableOf tree u) (hv : IsTableOf tree v) where
-  root-alike : Alike u v (last u) (last v)
-  root-alike = record { tree = tree; left = hu.stands; right = hv.stands }
+pub one-table : TreeHasOneTable
+unfolding completed_after
+one-table tree u v hu hv =
+    let alike : Alike u v (last u) (last v) = record { tree = tree; left = hu.stands; right = hv.stands } in
+    numbered-same u v hu.table hv.table hu.different hv.different
+    (subst (λ (js : List ℕ). Pairs (Alike u v) js (range_with_len 0 (length v))) hu.numbered
+    (subst (Pairs (Alike u v) (completed u (last u))) hv.numbered
+    (after-alike u v hu.table hv.table hu.different hv.different [] [] (last u) (last v) alike Ends)))
 
-  numbers-alike : Pairs (Alike u v) (range_with_len 0 (length u)) (range_with_len 0 (length v))
-  numbers-alike =
-      let k : ℕ = suc (last u + last v) in
-      let left : completed_within k u [] (last u) ≡ range_with_len 0 (length u) =
-      within-enough u (IsTable-lower u hu.table) k (suc (last u)) (last u) [] (omega arith) (omega arith) ∙ hu.numbered in
-      let right : completed_within k v [] (last v) ≡ range_with_len 0 (length v) =
-      within-enough v (IsTable-lower v hv.table) k (suc (last v)) (last v) [] (omega arith) (omega arith) ∙ hv.numbered in
-      subst (λ (js : List ℕ). Pairs (Alike u v) js (range_with_len 0 (length v))) left
-      (subst (Pairs (Alike u v) (completed_within k u [] (last u))) right
-      (within-alike u v hu.table hv.table hu.different hv.different k [] [] (last u) (last v) root-alike Ends))
+-- ---- and so are the table and the start of branches
 
-  same-length : length u ≡ length v
-  same-length =
-      sym (length-range_with_len 0 (length u)) ∙ pairs-length (Alike u v) (range_with_len 0 (length u)) (range_with_len 0 (length v))
-      numbers-alike ∙ length-range_with_len 0 (length v)
-
-  number-alike : (k : ℕ) → k < length u → Alike u v k k
-  number-alike k l =
-      let long = length-range_with_len 0 (length u) in
-      let both = same-length in
-      let pair = pairs-at (Alike u v) (range_with_len 0 (length u)) (range_with_len 0 (length v)) k numbers-alike
-      (omega (arith, long, l)) in
-      subst (λ (j : ℕ). Alike u v j k) (range-at u v hu.table hv.table hu.different hv.different (length u) k l)
-      (subst (Alike u v (get_or (range_with_len 0 (length u)) k 0))
-      (range-at u v hu.table hv.table hu.different hv.different (length v) k (omega (arith, both, l))) pair)
-
-  node-same : (k : ℕ) → k < length u → slice_get u k ≡ slice_get v k
-  node-same k l =
-      let h = number-alike k l in
-      let n = node-at u v hu.table hv.table k h.tree u h.left in
-      let m = node-at u v hu.table hv.table k h.tree v h.right in
-      let pair = pair-at u v hu.table hv.table hu.different hv.different k k n.0 m.0 n.1 m.1 h in
-      let one = alike-one u v hu.table hv.table hu.different hv.different in
-      let itself : NodePair (λ x y. x ≡ y) n.0 n.0 = node-itself n.0 in
-      let same : n.0 ≡ m.0 =
-      node-right (λ x y. x ≡ y) (AlikeBelow u v hu.table hv.table k)
-      (λ x y z e r. sym e ∙ same-number x z (lt_trans x k (length u) r.1 l) r.0) n.0 n.0 m.0 itself pair in
-      n.1 ∙ ap Some same ∙ sym m.1 where
-        lt_trans : (a b c : ℕ) → a < b → b < c → a < c
-        lt_trans a b c h k = omega arith
-
-        same-number : (x z : ℕ) → x < length u → Alike u v x z → x ≡ z
-        same-number x z low h =
-            let one = alike-one u v hu.table hv.table hu.different hv.different in
-            (Decides-eqb x z).0 (sym (one.apart x x x z (number-alike x low) h) ∙ (Decides-eqb x x).1 refl)
-
-  pub one-table : u ≡ v
-  one-table = ext-slice_get u v same-length node-same
+pub one-start : BranchesHaveOneStart
+one-start bs u v a b hu hv = one-pair u v hu.table hv.table hu.different hv.different bs a b hu hv

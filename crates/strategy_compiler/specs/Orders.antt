@@ -2,11 +2,12 @@
 use Rattle.std.specs.Prelude.{◌≡◌, ℕ, ◌+◌, ◌<◌, ◌≤◌, if◌then◌else◌, List, map, length, take, Bool, true, false, All, Contains, Some}
 use Rattle.std.specs.Prelude.{slice_get, slice_index, slice_index_or}
 use Rattle.std.specs.List.{sum_by, range_with_len}
+use Rattle.game_rules.specs.declared.Point.{Point}
 use Rattle.strategy_graph.specs.declared.Node.{Node}
 use Rattle.strategy_graph.specs.Tables.{Answers, answers_of, named, IsTable}
 use Rattle.strategy_graph.specs.Renumbered.{renumbered_answers}
 use Rattle.strategy_graph.specs.Laws.{SaysSame, StartSaysSame}
-use Rattle.strategy_compiler.specs.Trees.{Tree, StandsFor}
+use Rattle.strategy_compiler.specs.Trees.{AnswersBriefly, Branches, Tree, StandsFor, StandsForAll}
 use Rattle.strategy_compiler.specs.Walks.{AreDifferent, NamesPointsFrom, ReachedFrom, Renumbers, completed_from, is_in_list, place_in}
 
 -- an order of nodes of a table: each comes once, and comes after all that it names
@@ -43,7 +44,8 @@ pub record IsMadeOf (t : List Node) (i : ℕ) (u : List Node) (j : ℕ) : Type 0
   pub trees : (tree : Tree) → StandsFor t i tree → StandsFor u j tree
 
 -- Table u is made of the nodes that the roots reach in t, in the order in which walks from the roots complete them. Each root
--- is at its place in this order, and a start that names roots alone says the same with their places.
+-- is at its place in this order, and a start that names roots alone says the same with their places, stands for the same branches,
+-- and answers as briefly.
 pub record IsMadeFrom (t : List Node) (roots order : List ℕ) (u : List Node) : Type 0 where
   pub table : IsTable u
   pub nodes : Renumbers t order u
@@ -52,6 +54,10 @@ pub record IsMadeFrom (t : List Node) (roots order : List ℕ) (u : List Node) :
   pub each_root : (i : ℕ) → Contains roots i → IsMadeOf t i u (place_in order i)
   pub each_start : (a : Answers) → ((j : ℕ) → Contains (named a) j → Contains roots j)
       → StartSaysSame t a u (renumbered_answers (place_in order) a)
+  pub branches : (a : Answers) (bs : Branches) → ((j : ℕ) → Contains (named a) j → Contains roots j) → StandsForAll t a bs
+      → StandsForAll u (renumbered_answers (place_in order) a) bs
+  pub brief : (a : Answers) (qs : List Point) → ((j : ℕ) → Contains (named a) j → Contains roots j) → AnswersBriefly a qs
+      → AnswersBriefly (renumbered_answers (place_in order) a) qs
   pub reached : (k : ℕ) → k < length u → ReachedFrom u (map (place_in order) roots) k
   pub numbered : completed_from u (map (place_in order) roots) ≡ range_with_len 0 (length u)
   pub points : All (NamesPointsFrom t roots) u

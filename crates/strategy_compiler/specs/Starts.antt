@@ -1,5 +1,6 @@
 -- Starts that a compiler makes of answers to the first move of the opponent.
 use Rattle.std.specs.Prelude.{◌≡◌, ◌↔◌, ℕ, ◌<◌, true, List, map, length, All, Contains, IsSome, IsSomeAnd}
+use Rattle.std.specs.List.{range_with_len}
 use Rattle.game_rules.specs.Grid.{Grid}
 use Rattle.game_rules.specs.Play.{outcome}
 use Rattle.game_rules.specs.declared.RuleKind.{RuleKind}
@@ -8,11 +9,12 @@ use Rattle.game_rules.specs.declared.Point.{Point}
 use Rattle.strategy_graph.specs.declared.Reply.{Reply}
 use Rattle.strategy_graph.specs.declared.Rest.TheVariants.{Nothing}
 use Rattle.strategy_graph.specs.declared.Node.{Node}
-use Rattle.strategy_graph.specs.Tables.{Answers, answer, listed_node, named, names_below, start_depth}
+use Rattle.strategy_graph.specs.Tables.{Answers, answer, listed_node, named, names_below, start_depth, IsTable, IsStart}
 use Rattle.strategy_graph.specs.Renumbered.{renumbered_answers}
 use Rattle.strategy_graph.specs.Acceptance.{AcceptedStart}
 use Rattle.strategy_graph.specs.Arrivals.{start_arrivals}
 use Rattle.strategy_graph.specs.Laws.{SaysSame}
+use Rattle.strategy_compiler.specs.Trees.{Branches, AnswersBriefly, StandsForAll, replies_of}
 use Rattle.strategy_compiler.specs.Walks.{AreDifferent, NamesPointsFrom, ReachedFrom, Renumbers, completed_from, place_in, visits}
 use Rattle.strategy_compiler.specs.Nodes.{brief_answers}
 
@@ -47,3 +49,21 @@ pub record IsMadeOfAnswers (t : List Node) (answers : List Reply) (u : List Node
       → AcceptedStart rule u a b ↔ AcceptedStart rule t (answers_alone answers) b
   pub count : (rule : RuleKind) (b : Grid) → AnswersEach rule b answers
       → start_arrivals rule u a b ≡ start_arrivals rule t (answers_alone answers) b
+
+-- The table and the start of these branches: the answer of the start to the reply of each is a node that stands for its tree, and it
+-- answers these replies briefly. No two nodes are equal, and the nodes are all those that the start reaches, numbered as walks from
+-- those that it names complete them: from that of the rest first, then from those listed.
+pub record IsStartOfBranches (branches : Branches) (t : List Node) (a : Answers) : Type 0 where
+  pub table : IsTable t
+  pub start : IsStart a
+  pub below : names_below a (length t) ≡ true
+  pub brief : AnswersBriefly a (replies_of branches)
+  pub stands : StandsForAll t a branches
+  pub different : AreDifferent t
+  pub numbered : completed_from t (visits a) ≡ range_with_len 0 (length t)
+
+-- branches have one table and one start
+abbrev pub BranchesHaveOneStart : Type 0
+BranchesHaveOneStart =
+    (branches : Branches) (t u : List Node) (a b : Answers) → IsStartOfBranches branches t a → IsStartOfBranches branches u b
+    → (t ≡ u) × (a ≡ b)

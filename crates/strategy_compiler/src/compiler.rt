@@ -14,7 +14,7 @@ ghost use Rattle.strategy_graph.specs.Leads.{AtNode};
 ghost use Rattle.strategy_graph.specs.Laws.{SaysSame};
 ghost use Rattle.strategy_compiler.specs.Trees.{Tree, Branches, Leaf, Fork, StandsFor, AnswersBranches};
 ghost use Rattle.strategy_compiler.specs.Walks.{AreDifferent, IsNumberedByWalk, IsTableOf, NamesPointsReached, Reaches, Renumbers, completed, last};
-ghost use Rattle.strategy_compiler.specs.Starts.{IsMadeOfAnswers};
+ghost use Rattle.strategy_compiler.specs.Starts.{IsMadeOfAnswers, IsStartOfBranches};
 ghost use Rattle.strategy_compiler.specs.Wins.{IsWinTable, IsWrittenWin};
 ghost use Rattle.strategy_compiler.specs.Forks.{WinsAtOnce, WinsByAnswers};
 ghost use Rattle.strategy_compiler.specs.Nodes.{IsCompiled, NamesOnly, PutsIn, answering_node, winning_node};
@@ -201,11 +201,14 @@ impl Compiler {
     /// The answers rise strictly in reading order, and each names a node of the compiler. The rest is chosen as by `node`: it
     /// answers the most of the replies, and only the answers that differ are listed; without answers the table is empty,
     /// and the rest is `Nothing`. The nodes are numbered as by `finish`, from the node of the rest first and then from those
-    /// listed, in order, and are no more than the compiler has. After an `Err` the compiler is gone.
+    /// listed, in order, and are no more than the compiler has. Branches that the answers stand for have this table and this start.
+    /// After an `Err` the compiler is gone.
     pub fn finish_start(self, answers: &[Reply]) -> Result<(Table, Start), AllocError>
         requires rising { is_rising answers.now ≡ true }
         requires below { All (λ r. r.next < length self) answers.now }
         ensures made { IfOk result (λ made. IsMadeOfAnswers self answers.now made.0 made.1) }
+        ensures branches { IfOk result (λ made. (branches : Branches) → AnswersBranches self answers.now branches
+            → IsStartOfBranches branches made.0 made.1) }
         ensures few { IfOk result (λ made. length made.0 ≤ length self) }
     {
         start_from(*self.nodes.allocator(), self.nodes.as_slice(), answers)

@@ -5,6 +5,7 @@
 
 ghost use Rattle.strategy_compiler.specs.Trees.{GrowthKeepsTrees};
 ghost use Rattle.strategy_compiler.specs.Walks.{GrowthKeepsReach, TreeHasOneTable};
+ghost use Rattle.strategy_compiler.specs.Starts.{BranchesHaveOneStart};
 ghost use Rattle.strategy_compiler.specs.Wins.{GrowthKeepsWins};
 ghost use Rattle.strategy_compiler.specs.Unfolded.{DifferentNodesAreApart};
 
@@ -26,6 +27,11 @@ pub fn growth_keeps_wins()
 /// The table of a tree is one and the same, however it was compiled.
 pub fn tree_has_one_table()
     ensures one { TreeHasOneTable }
+{}
+
+/// The table and the start of some branches are one and the same, however they were compiled.
+pub fn branches_have_one_start()
+    ensures one { BranchesHaveOneStart }
 {}
 
 /// No two nodes of a compiler are the same, even by what the nodes that they name say.

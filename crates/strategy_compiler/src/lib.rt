@@ -23,8 +23,8 @@ mod wins;
 pub use compiler::{CompileError, Compiler};
 pub use error::SearchError;
 pub use laws::{
-    different_nodes_are_apart, growth_keeps_reach, growth_keeps_trees, growth_keeps_wins,
-    tree_has_one_table,
+    branches_have_one_start, different_nodes_are_apart, growth_keeps_reach, growth_keeps_trees,
+    growth_keeps_wins, tree_has_one_table,
 };
 pub use renumbering::renumbered;
 pub use starts::renumbered_start;

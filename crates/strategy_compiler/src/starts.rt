@@ -5,9 +5,10 @@
 ghost use Rattle.std.specs.Prelude.{◌≡◌, ◌<◌, ◌≤◌, true, false, length, slice_index, All, IfOk};
 ghost use Rattle.strategy_graph.specs.Tables.{is_rising, is_winning, names_below};
 ghost use Rattle.strategy_graph.specs.Renumbered.{renumbered_answers};
+ghost use Rattle.strategy_compiler.specs.Trees.{Branches, AnswersBranches};
 ghost use Rattle.strategy_compiler.specs.Walks.{visits};
 ghost use Rattle.strategy_compiler.specs.Nodes.{IsCompiled};
-ghost use Rattle.strategy_compiler.specs.Starts.{IsMadeOfAnswers};
+ghost use Rattle.strategy_compiler.specs.Starts.{IsMadeOfAnswers, IsStartOfBranches};
 
 use crate::renumbering::{Made, made_from, renumbered_replies, renumbered_rest};
 use crate::rests::{answers_beside, commonest_next, rest_of};
@@ -58,6 +59,8 @@ pub(crate) fn start_from(
     requires rising { is_rising answers.now ≡ true }
     requires below { All (λ r. r.next < length nodes.now) answers.now }
     ensures made { IfOk result (λ made. IsMadeOfAnswers nodes.now answers.now made.0 made.1) }
+    ensures branches { IfOk result (λ made. (branches : Branches) → AnswersBranches nodes.now answers.now branches
+        → IsStartOfBranches branches made.0 made.1) }
     ensures few { IfOk result (λ made. length made.0 ≤ length nodes.now) }
 {
     let commonest = commonest_next(answers);

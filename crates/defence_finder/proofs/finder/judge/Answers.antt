@@ -4,7 +4,7 @@ use Rattle.game_rules.specs.declared.Outcome.TheVariants.{GoesOn}
 use Rattle.strategy_compiler.proofs.Common.{Writes}
 use Rattle.strategy_compiler.proofs.Growing.{writes-fails, writes-tells}
 use Rattle.defence_finder.specs.Answers.{nodes_after}
-use Rattle.defence_finder.proofs.Settling.{five-settled, five-beaten}
+use Rattle.defence_finder.proofs.Settling.{five-settled, five-beaten, five-planned}
 use Rattle.defence_finder.proofs.Gathering.{nodes-on}
 use Rattle.defence_finder.proofs.finder.judge.Goals as goal
 
@@ -37,6 +37,9 @@ returns-in_ok-leaf-in-Some-clause-verdict g c =
       five-beaten rule question.depth question.budget b c.args.q c.in-Some.five c.requires.asked.some_depth c.requires.asked.some_budget on
           left
           c.leaf.new.self c.in_ok-leaf-in-Some.field-0 c.in_ok-leaf-in-Some.ensures.wins,
+      five-planned rule question.depth question.budget b c.args.q c.in-Some.five c.requires.asked.some_depth c.requires.asked.some_budget on
+          left
+          c.leaf.new.self c.in_ok-leaf-in-Some.field-0 c.in_ok-leaf-in-Some.ensures.stands,
     )
 
 pub returns-in-None-clause-writes : goal.returns-in-None-clause-writes

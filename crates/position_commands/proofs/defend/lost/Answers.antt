@@ -31,6 +31,7 @@ pub returns-clause-text : goal.returns-clause-text
 returns-clause-text c = λ limit none beaten short.
     rw c.written.ensures.answer (lost-text limit c.args.kind c.args.board.now c.args.compiler c.args.bad.now c.as_slice.result.now
     c.as_slice.ensures.items none beaten
-    c.in_ok-table.table c.in_ok-table.start c.in_ok-table.ensures.made (let few = c.in_ok-table.ensures.few in omega (arith, few, short))
+    c.in_ok-table.table c.in_ok-table.start c.in_ok-table.ensures.made c.in_ok-table.ensures.branches
+    (let few = c.in_ok-table.ensures.few in omega (arith, few, short))
     c.in_ok-moves.moves c.in_ok-moves.ensures.depth _
     c.in_ok-bytes.ensures.written)

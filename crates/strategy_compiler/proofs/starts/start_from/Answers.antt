@@ -34,14 +34,10 @@ pub returns : goal.returns
 returns c =
     let is = brief-is c.args.answers.now c.commonest_next-commonest.result c.in_ok-listed.listed c.rest_of-rest.result
     c.commonest_next-commonest.ensures.commonest c.in_ok-listed.ensures.others c.rest_of-rest.ensures.rest in
-    record {
-      made =
-          start-made c.args.nodes.now (IsTable-lower c.args.nodes.now c.requires.compiled.table) c.args.answers.now c.requires.rising
-          (record { replies = c.in_ok-listed.listed; rest = c.rest_of-rest.result }) c.as_slice.result.now c.as_slice-2.result.now
-          c.in_ok-table.field-0.table c.in_ok-start.start is
-          (c.as_slice.ensures.value ∙ c.in_ok-roots.ensures.visits) c.in_ok-table.ensures.made
-          (subst (ArePlaces (completed_from c.args.nodes.now c.as_slice.result.now)) (sym c.as_slice-2.ensures.value)
-          c.in_ok-table.ensures.places)
-          c.in_ok-start.ensures.start;
-      few = c.in_ok-table.ensures.made.few;
-    }
+    let both = start-made c.args.nodes.now (IsTable-lower c.args.nodes.now c.requires.compiled.table) c.args.answers.now c.requires.rising
+    (record { replies = c.in_ok-listed.listed; rest = c.rest_of-rest.result }) c.as_slice.result.now c.as_slice-2.result.now
+    c.in_ok-table.field-0.table c.in_ok-start.start is (c.as_slice.ensures.value ∙ c.in_ok-roots.ensures.visits) c.in_ok-table.ensures.made
+    (subst (ArePlaces (completed_from c.args.nodes.now c.as_slice.result.now)) (sym c.as_slice-2.ensures.value)
+    c.in_ok-table.ensures.places)
+    c.in_ok-start.ensures.start in
+    record { made = both.0; branches = both.1; few = c.in_ok-table.ensures.made.few }
