@@ -1,15 +1,15 @@
 //! Texts of positions and of tables, written line by line.
 //!
-//! A text grows by one piece after another, and each function says by which bytes. The nodes come in the order of the
-//! table.
-#![tactic(auto)]
+//! A text grows by one piece after another, and each function says by which bytes; without memory what the text was before still
+//! stands at its front. The nodes come in the order of the table.
+#![tactic(auto, using(text_lines::proofs::Kept::kept_same, text_lines::proofs::Kept::kept_after))]
 
-ghost use Rattle.std.specs.Prelude.{◌≡◌, [], ◌∷◌, ◌++◌, map, IfOk, string_bytes, codes};
+ghost use Rattle.std.specs.Prelude.{◌≡◌, [], ◌∷◌, ◌++◌, map, IfOk, OnErr, string_bytes, codes};
 ghost use Rattle.std.specs.List.{AllByRecursion};
 ghost use Rattle.std.specs.Fmt.{decimal};
 ghost use Rattle.game_rules.specs.Grid.{IsBoard};
 ghost use Rattle.strategy_graph.specs.Tables.{IsTable, TableOnBoard};
-ghost use Rattle.text_lines.specs.Lines.{ended, text_of};
+ghost use Rattle.text_lines.specs.Lines.{Extends, ended, text_of};
 ghost use Rattle.position_files.specs.Positions.{IsTextOfPosition, board_lines};
 ghost use Rattle.position_files.specs.Tables.{IsTextOfTable, RootFits, answers_text, node_line, nodes_lines, replies_text, reply_text, rest_text, start_line, table_text as table_text_lem};
 
@@ -34,6 +34,7 @@ pub fn write_position(alloc: Global, kind: RuleKind, board: &Board) -> Result<Ve
 fn push_reply(text: &mut String, reply: Reply) -> Result<(), AllocError>
     ensures reply { IfOk result (λ _. string_bytes text.new ≡ string_bytes text.old
         ++ (codes " " ++ reply_text reply)) }
+    ensures kept { OnErr result (Extends (string_bytes text.old) (string_bytes text.new)) }
 {
     push_spaced_point(text, reply.at)?;
     text.push('>')?;
@@ -45,6 +46,7 @@ fn push_reply(text: &mut String, reply: Reply) -> Result<(), AllocError>
 fn push_replies(text: &mut String, replies: &[Reply]) -> Result<(), AllocError>
     ensures replies { IfOk result (λ _. string_bytes text.new ≡ string_bytes text.old
         ++ replies_text replies.now) }
+    ensures kept { OnErr result (Extends (string_bytes text.old) (string_bytes text.new)) }
 {
     for reply in replies {
         push_reply(text, *reply)?;
@@ -56,6 +58,7 @@ fn push_replies(text: &mut String, replies: &[Reply]) -> Result<(), AllocError>
 fn push_rest(text: &mut String, rest: Rest) -> Result<(), AllocError>
     ensures rest { IfOk result (λ _. string_bytes text.new ≡ string_bytes text.old
         ++ rest_text rest) }
+    ensures kept { OnErr result (Extends (string_bytes text.old) (string_bytes text.new)) }
 {
     match rest {
         Rest::Wins => text.push_str("wins")?,
@@ -72,6 +75,7 @@ fn push_rest(text: &mut String, rest: Rest) -> Result<(), AllocError>
 fn push_answers(text: &mut String, replies: &Replies, rest: Rest) -> Result<(), AllocError>
     ensures answers { IfOk result (λ _. string_bytes text.new ≡ string_bytes text.old
         ++ answers_text (record { replies = replies.now; rest = rest })) }
+    ensures kept { OnErr result (Extends (string_bytes text.old) (string_bytes text.new)) }
 {
     push_rest(text, rest)?;
     push_replies(text, replies.as_slice())?;
@@ -82,6 +86,7 @@ fn push_answers(text: &mut String, replies: &Replies, rest: Rest) -> Result<(), 
 fn push_node(text: &mut String, node: &Node) -> Result<(), AllocError>
     ensures line { IfOk result (λ _. string_bytes text.new ≡ string_bytes text.old
         ++ ended (node_line node.now)) }
+    ensures kept { OnErr result (Extends (string_bytes text.old) (string_bytes text.new)) }
 {
     push_point(text, node.attack)?;
     text.push(' ')?;
@@ -94,6 +99,7 @@ fn push_node(text: &mut String, node: &Node) -> Result<(), AllocError>
 pub fn push_start(text: &mut String, start: &Start) -> Result<(), AllocError>
     ensures line { IfOk result (λ _. string_bytes text.new ≡ string_bytes text.old
         ++ ended (start_line start.now)) }
+    ensures kept { OnErr result (Extends (string_bytes text.old) (string_bytes text.new)) }
 {
     text.push_str("start ")?;
     push_answers(text, start.replies(), start.rest())?;
@@ -102,10 +108,11 @@ pub fn push_start(text: &mut String, start: &Start) -> Result<(), AllocError>
 }
 
 /// Adds the lines of the nodes of a table to a text, in the order of the table. `Err` says that memory ran out.
-#[tactic(auto, using(crate::proofs::Growth::node_grown, crate::proofs::Growth::nodes_grown))]
+#[tactic(auto, using(crate::proofs::Growth::node_grown, crate::proofs::Growth::nodes_grown, text_lines::proofs::Kept::kept_after))]
 pub fn push_nodes(text: &mut String, table: &Table) -> Result<(), AllocError>
     ensures nodes { IfOk result (λ _. string_bytes text.new ≡ string_bytes text.old
         ++ text_of (map node_line table.now)) }
+    ensures kept { OnErr result (Extends (string_bytes text.old) (string_bytes text.new)) }
 {
     for i in 0..table.len() {
         push_node(text, table.node(i))?;

@@ -2,11 +2,11 @@
 //!
 //! A text grows by one piece after another, and each function says by which bytes. The stones are found in one pass over
 //! the points of the board.
-#![tactic(auto)]
+#![tactic(auto, using(text_lines::proofs::Kept::kept_same, text_lines::proofs::Kept::kept_after))]
 
-ghost use Rattle.std.specs.Prelude.{◌≡◌, ◌∷◌, ◌++◌, IfOk, codes, string_bytes};
+ghost use Rattle.std.specs.Prelude.{◌≡◌, ◌∷◌, ◌++◌, IfOk, OnErr, codes, string_bytes};
 ghost use Rattle.game_rules.specs.Grid.{IsBoard};
-ghost use Rattle.text_lines.specs.Lines.{ended, text_of};
+ghost use Rattle.text_lines.specs.Lines.{Extends, ended, text_of};
 ghost use Rattle.text_lines.specs.Spellings.{points_text};
 ghost use Rattle.position_files.specs.Positions.{board_lines, rule_word as rule_word_lem, size_text, stones};
 
@@ -30,6 +30,7 @@ fn rule_word(kind: RuleKind) -> &'static str
 fn push_rule(text: &mut String, kind: RuleKind) -> Result<(), AllocError>
     ensures line { IfOk result (λ _. string_bytes text.new ≡ string_bytes text.old
         ++ ended (codes "rule " ++ rule_word_lem kind)) }
+    ensures kept { OnErr result (Extends (string_bytes text.old) (string_bytes text.new)) }
 {
     text.push_str("rule ")?;
     push_line(text, rule_word(kind))?;
@@ -40,6 +41,7 @@ fn push_rule(text: &mut String, kind: RuleKind) -> Result<(), AllocError>
 fn push_sides(text: &mut String, width: u8, height: u8) -> Result<(), AllocError>
     ensures sides { IfOk result (λ _. string_bytes text.new ≡ string_bytes text.old
         ++ (codes "size " ++ size_text width height)) }
+    ensures kept { OnErr result (Extends (string_bytes text.old) (string_bytes text.new)) }
 {
     text.push_str("size ")?;
     push_number(text, u32::from(width))?;
@@ -55,6 +57,7 @@ fn push_size(text: &mut String, board: &Board) -> Result<(), AllocError>
     ensures line { IfOk result (λ _. string_bytes text.new ≡ string_bytes text.old
         ++ ended (codes "size " ++ size_text board.now.width board.now.height)) }
     ensures board { IsBoard board.now }
+    ensures kept { OnErr result (Extends (string_bytes text.old) (string_bytes text.new)) }
 {
     push_sides(text, board.width(), board.height())?;
     text.push_str("\n")?;
@@ -62,10 +65,11 @@ fn push_size(text: &mut String, board: &Board) -> Result<(), AllocError>
 }
 
 /// Adds the points at which stones of the side stand to a text, in reading order, each after a space.
-#[tactic(auto, unfolding(crate::specs::Positions::stones))]
+#[tactic(auto, unfolding(crate::specs::Positions::stones), using(text_lines::proofs::Kept::kept_on, text_lines::proofs::Kept::kept_more))]
 fn push_stones(text: &mut String, board: &Board, side: Side) -> Result<(), AllocError>
     ensures stones { IfOk result (λ _. string_bytes text.new ≡ string_bytes text.old
         ++ points_text (stones board.now side)) }
+    ensures kept { OnErr result (Extends (string_bytes text.old) (string_bytes text.new)) }
 {
     for p in board.points() {
         if board.holds(side, p) {
@@ -84,6 +88,7 @@ fn push_stones_line(
 ) -> Result<(), AllocError>
     ensures line { IfOk result (λ _. string_bytes text.new ≡ string_bytes text.old
         ++ ended (word.now ++ points_text (stones board.now side))) }
+    ensures kept { OnErr result (Extends (string_bytes text.old) (string_bytes text.new)) }
 {
     text.push_str(word)?;
     push_stones(text, board, side)?;
@@ -93,11 +98,12 @@ fn push_stones_line(
 
 /// Adds the lines of a head to a text: the rule, the size, and the stones of Black and of White. `Err` says that memory ran
 /// out.
-#[tactic(auto, using(crate::proofs::Growth::head_grown))]
+#[tactic(auto, using(crate::proofs::Growth::head_grown, text_lines::proofs::Kept::kept_after))]
 pub fn push_head(text: &mut String, kind: RuleKind, board: &Board) -> Result<(), AllocError>
     ensures lines { IfOk result (λ _. string_bytes text.new ≡ string_bytes text.old
         ++ text_of (board_lines kind board.now)) }
     ensures board { IfOk result (λ _. IsBoard board.now) }
+    ensures kept { OnErr result (Extends (string_bytes text.old) (string_bytes text.new)) }
 {
     push_rule(text, kind)?;
     push_size(text, board)?;

@@ -14,5 +14,6 @@ pub mod TextLaws
 -- where bytes leave lines of a kind; the first bad line of a text
 pub mod Leaving
 pub mod Badness
--- texts that grow
+-- texts that grow, and their pieces
+pub mod Kept
 mod Pieces

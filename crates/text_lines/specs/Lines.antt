@@ -32,6 +32,11 @@ pub record FirstBad (IsText : List ℕ → Type 0) (bytes : List ℕ) (n : ℕ) 
 abbrev pub BeginsWith : (List (List ℕ) → Type 0) → List ℕ → Type 0
 BeginsWith IsLines bytes = (ls : List (List ℕ)) × (rest : List ℕ) × IsLines ls × (bytes ≡ text_of ls ++ rest)
 
+-- the text begins with what it was before
+pub record Extends (old new : List ℕ) : Type 0 where
+  pub more : List ℕ
+  pub is : new ≡ old ++ more
+
 -- The bytes begin with this text, which is so many bytes long.
 pub record IsFront (text bytes : List ℕ) (taken : ℕ) : Type 0 where
   pub within : taken ≤ length bytes
