@@ -1,6 +1,6 @@
 -- Double points that are kept to settle replies by: each stays what it is after a stone of the other side beside it. The replies to a
 -- double point that wins.
-use Rattle.std.proofs.Common.{◌≡◌, ◌≤◌, Bool, true, false, ◌&&◌, not, refl, sym, ap, ◌∙◌, arith, List, All, Option, Some, None, is_none}
+use Rattle.std.proofs.Common.{◌≡◌, ◌≤◌, true, false, ◌&&◌, not, refl, sym, ap, ◌∙◌, arith, List, All, Option, Some, None, is_none}
 use Rattle.std.proofs.Common.{nat_eq}
 use Rattle.std.proofs.lemmas.Bool.{not-true}
 use Rattle.game_rules.specs.declared.RuleKind.{RuleKind}

@@ -17,7 +17,8 @@ mod NearDoubles
 mod AroundBits
 -- points where Black neither wins nor fouls, also after a stone of White
 mod QuietLaws
--- double points that are kept to settle replies by
+-- double points that are kept to settle replies by, and that they are the first ones
 mod KeptDoubles
+mod FirstDoubles
 -- wins that are written, and positions that are settled
 mod WrittenLaws

@@ -27,7 +27,8 @@ use Rattle.threat_game.specs.declared.replies.Children.{Children}
 use Rattle.threat_game.specs.declared.replies.Judged.{Judged}
 use Rattle.threat_game.specs.declared.replies.Judged.TheVariants.{Five, DoublePoint as DoubleWins, Last, Open}
 use Rattle.threat_game.proofs.Common.{LeavesBoth, IsBeside, has_reply, IsJudged, IsChild, EscapesBy, HasEscape, AreChildren, AreJudged}
-use Rattle.threat_game.proofs.Common.{kept_children, moves_for, one_if, has_reply_at, has_reply_beside, counted_for, replies_at}
+use Rattle.threat_game.proofs.Common.{kept_children, moves_for, one_if, has_reply_at, has_reply_beside, counted_for, is_open, replies_at}
+use Rattle.threat_game.specs.Replies.{StopsDoubles}
 use Rattle.threat_game.proofs.TreeLaws.{children-few}
 use Rattle.threat_game.proofs.Kept.{kept-some, kept-sum}
 
@@ -188,11 +189,12 @@ are-children rule moves c lawful reply judged are children kept counted =
 module _ (rule : RuleKind) (moves : ℕ) (c : Grid) (q : Point) (on : outcome rule c q ≡ GoesOn) where
   -- a child, where what is judged of the position after it is true
   pub child-is : (d : Grid) (judged : Judged) (k : ℕ) → d ≡ after c q → IsJudged rule d judged → moves_for judged ≤ k → k ≤ moves
-      → IsChild rule moves c (record { at = q; judged = judged })
-  child-is d judged k played is enough l = record {
+      → (is_open judged ≡ true → StopsDoubles rule c q) → IsChild rule moves c (record { at = q; judged = judged })
+  child-is d judged k played is enough l stopped = record {
     on = on;
     judged = subst (λ (e : Grid). IsJudged rule e judged) played is;
     enough = omega (arith, enough, l);
+    stopped = stopped;
   }
 
   -- an escape, where after it there is no win within the moves that are left

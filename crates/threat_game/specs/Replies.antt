@@ -1,15 +1,18 @@
 -- The replies to a move of the attacker, and what is known at once of the positions after them.
-use Rattle.std.specs.Prelude.{◌≡◌, ℕ, ◌+◌, ◌<◌, ◌≤◌, nat_eq, Bool, false, true, ◌&&◌, not, if◌then◌else◌, List, ◌∷◌, map, length, All}
-use Rattle.std.specs.Prelude.{Option, Some, None}
+use Rattle.std.specs.Prelude.{◌≡◌, ℕ, ◌+◌, ◌<◌, ◌≤◌, nat_eq, Bool, false, true, ◌&&◌, not, if◌then◌else◌, List, [], ◌∷◌, map, length, All}
+use Rattle.std.specs.Prelude.{Option, Some, None, Contains, take}
 use Rattle.std.specs.List.{list_any, filter, find, sum_by}
-use Rattle.game_rules.specs.Grid.{Grid, points_of}
+use Rattle.game_rules.specs.Grid.{Grid, points_of, put}
 use Rattle.game_rules.specs.Shapes.{five, is_same_point}
-use Rattle.game_rules.specs.Play.{outcome, mover, after, goes_on}
-use Rattle.game_rules.specs.Games.{WinsByThreats, has_five, behind_replies}
+use Rattle.game_rules.specs.Play.{outcome, mover, after, goes_on, other}
+use Rattle.game_rules.specs.Games.{WinsByThreats, has_five, five_points, is_double_point, behind_replies}
 use Rattle.game_rules.specs.declared.RuleKind.{RuleKind}
+use Rattle.game_rules.specs.declared.Side.{Side}
 use Rattle.game_rules.specs.declared.Outcome.TheVariants.{GoesOn}
 use Rattle.game_rules.specs.declared.Point.{Point}
 use Rattle.threat_game.specs.declared.doubles.DoublePoint.{DoublePoint}
+use Rattle.threat_game.specs.declared.doubles.Kept.{Kept}
+use Rattle.threat_game.specs.declared.doubles.TheConstants.{MOST_KEPT}
 use Rattle.threat_game.specs.declared.replies.Judged.{Judged}
 use Rattle.threat_game.specs.declared.replies.Judged.TheVariants.{Five, DoublePoint as DoubleWins, Last, Open}
 use Rattle.threat_game.specs.declared.replies.Judgement.{Judgement}
@@ -17,7 +20,7 @@ use Rattle.threat_game.specs.declared.replies.Judgement.TheVariants.{NoReply, Es
 use Rattle.threat_game.specs.declared.replies.Child.{Child}
 use Rattle.threat_game.specs.declared.replies.Children.{Children}
 use Rattle.threat_game.specs.ThreatGame.{threat_tree}
-use Rattle.threat_game.specs.Attacks.{is_last_move, IsDoubleWin}
+use Rattle.threat_game.specs.Attacks.{is_last_move, IsDoubleWin, IsKept}
 
 -- whether the reply w goes on
 abbrev pub has_reply_at : RuleKind → Grid → Point → Bool
@@ -76,11 +79,47 @@ nodes_for (DoubleWins d nodes) = 1 + nodes
 nodes_for (Last p) = 1
 nodes_for Open = 0
 
--- what is judged after a reply at c is true, and so many moves are enough for it
+-- whether a stone on q leaves the double point and its two five points empty
+abbrev pub is_beside : DoublePoint → Point → Bool
+is_beside d q = not (is_same_point d.at q) && not (is_same_point d.first q) && not (is_same_point d.second q)
+
+-- a stone on q leaves the double point and its two five points empty
+abbrev pub IsBeside : DoublePoint → Point → Type 0
+IsBeside d q = is_beside d q ≡ true
+
+-- one of the first double points of the side in reading order, of so many at most, with the first two five points that its stone leaves
+pub record IsFirstDouble (rule : RuleKind) (b : Grid) (s : Side) (d : DoublePoint) : Type 0 where
+  pub listed : Contains (take MOST_KEPT (filter (is_double_point rule b s) (points_of b))) d.at
+  pub fives : take 2 (five_points rule (put b s d.at) s) ≡ d.first ∷ d.second ∷ []
+
+-- the double point at p, if it is one, is kept as one to settle replies by, with the first two five points that its stone leaves
+pub record IsKeptAt (rule : RuleKind) (b : Grid) (s : Side) (p : Point) (kept : Kept) : Type 0 where
+  pub at : kept.double.at ≡ p
+  pub double : is_double_point rule b s p ≡ true
+  pub is : IsKept rule b s kept
+  pub fives : take 2 (five_points rule (put b s p) s) ≡ kept.double.first ∷ kept.double.second ∷ []
+
+-- these double points of the side are kept to settle replies by: the first ones are all among them, if the side has no five point
+pub record AreKept (rule : RuleKind) (b : Grid) (s : Side) (doubles : List Kept) : Type 0 where
+  pub each : All (IsKept rule b s) doubles
+  pub all : has_five rule b s ≡ false → (d : DoublePoint) → IsFirstDouble rule b s d → Contains (map (λ kept. kept.double) doubles) d
+
+-- at b, after the reply q, none of the double points that it leaves empty with its two five points goes on
+pub record AreStopped (rule : RuleKind) (b : Grid) (q : Point) (doubles : List Kept) : Type 0 where
+  pub each : All (λ kept. IsBeside kept.double q → ¬ (outcome rule b kept.double.at ≡ GoesOn)) doubles
+
+-- The reply q, where the attacker has no five point before it and the other side none after it, stops each of the attacker's first
+-- double points: it takes the point or one of its two five points, or a stone there no longer goes on.
+pub record StopsDoubles (rule : RuleKind) (c : Grid) (q : Point) : Type 0 where
+  pub stops : has_five rule c (other (mover c)) ≡ false → has_five rule (after c q) (mover c) ≡ false
+      → (d : DoublePoint) → IsFirstDouble rule c (other (mover c)) d → IsBeside d q → ¬ (outcome rule (after c q) d.at ≡ GoesOn)
+
+-- what is judged after a reply at c is true, and so many moves are enough for it; it is open only where it stops the double points
 pub record IsChild (rule : RuleKind) (moves : ℕ) (c : Grid) (child : Child) : Type 0 where
   pub on : outcome rule c child.at ≡ GoesOn
   pub judged : IsJudged rule (after c child.at) child.judged
   pub enough : moves_for child.judged ≤ moves
+  pub stopped : is_open child.judged ≡ true → StopsDoubles rule c child.at
 
 -- there is no win by threats within so many moves after this reply, which goes on
 pub record EscapesBy (rule : RuleKind) (moves : ℕ) (c : Grid) (q : Point) : Type 0 where
@@ -162,11 +201,3 @@ pub record HasEscape (rule : RuleKind) (moves : ℕ) (c : Grid) : Type 0 where
 abbrev pub AreReplies : RuleKind → ℕ → Grid → Option Children → Type 0
 AreReplies rule moves c None = HasEscape rule moves c
 AreReplies rule moves c (Some children) = AreChildren rule moves c children
-
--- whether a stone on q leaves the double point and its two five points empty
-abbrev pub is_beside : DoublePoint → Point → Bool
-is_beside d q = not (is_same_point d.at q) && not (is_same_point d.first q) && not (is_same_point d.second q)
-
--- a stone on q leaves the double point and its two five points empty
-abbrev pub IsBeside : DoublePoint → Point → Type 0
-IsBeside d q = is_beside d q ≡ true

@@ -4,16 +4,16 @@
 //! reply took the first.
 #![tactic(auto)]
 
-ghost use Rattle.std.specs.Prelude.{◌≡◌, ◌≤◌, ◌+◌, ◌&&◌, not, ℕ, false, All, IfOk, IfSome, IfNone, IsTrue};
-ghost use Rattle.game_rules.specs.Grid.{Grid, is_empty, points_of};
+ghost use Rattle.std.specs.Prelude.{◌≡◌, ◌≤◌, ◌+◌, ◌∷◌, [], ◌&&◌, not, ℕ, false, take, IfOk, IfSome, IfNone, IsTrue};
+ghost use Rattle.game_rules.specs.Grid.{Grid, is_empty, points_of, put};
 ghost use Rattle.game_rules.specs.Shapes.{is_same_point};
 ghost use Rattle.game_rules.specs.Play.{IsPosition, outcome as outcome_lem, mover, after, goes_on as goes_on_lem};
 ghost use Rattle.game_rules.specs.declared.Outcome.{Outcome};
-ghost use Rattle.game_rules.specs.Games.{has_five as has_five_lem};
+ghost use Rattle.game_rules.specs.Games.{five_points, has_five as has_five_lem, is_double_point};
 ghost use Rattle.strategy_compiler.specs.Growth.{Writes};
-ghost use Rattle.threat_game.specs.Attacks.{LeavesBoth, IsDoubleWin, IsKept};
+ghost use Rattle.threat_game.specs.Attacks.{LeavesBoth, IsDoubleWin};
 ghost use Rattle.threat_game.specs.NearDoubles.{makes_two};
-ghost use Rattle.threat_game.specs.Replies.{answer_nodes, has_reply_at, has_reply_beside, replies_at};
+ghost use Rattle.threat_game.specs.Replies.{answer_nodes, has_reply_at, has_reply_beside, replies_at, AreKept, IsKeptAt};
 ghost use Rattle.threat_game.specs.Wins.{IsThreatWin};
 
 use crate::attacks::{each_goes_on, goes_on, goes_on_where};
@@ -36,8 +36,8 @@ pub struct DoublePoint {
     pub second: Point,
 }
 
-/// The double point at an empty point whose stone leaves two five points or more: there is none only where it doesn't. The board is as
-/// before.
+/// The double point at an empty point whose stone leaves two five points or more, with the first two of them: there is none only where
+/// it doesn't. The board is as before.
 pub fn double_at<R: Rule>(
     alloc: Global,
     board: &mut Board,
@@ -47,6 +47,8 @@ pub fn double_at<R: Rule>(
     requires empty { IsTrue (is_empty board.old at) }
     ensures both { IfOk result (λ found. IfSome found (LeavesBoth R.KIND board.old side)) }
     ensures here { IfOk result (λ found. IfSome found (λ d. d.at ≡ at)) }
+    ensures fives { IfOk result (λ found. IfSome found (λ d. take 2 (five_points R.KIND (put board.old side at) side)
+        ≡ d.first ∷ d.second ∷ [])) }
     ensures told { IfOk result (λ found. IfNone found (makes_two R.KIND board.old side at ≡ false)) }
     ensures same { board.new ≡ board.old }
 {
@@ -78,19 +80,41 @@ pub(crate) fn first_doubles<R: Rule>(
     side: Side,
 ) -> Result<Vec<Kept>, AllocError>
     requires none { has_five_lem R.KIND board.old side ≡ false }
-    ensures each { IfOk result (λ found. All (IsKept R.KIND board.old side) found.items) }
+    ensures kept { IfOk result (λ found. AreKept R.KIND board.old side found.items) }
     ensures same { board.new ≡ board.old }
 {
     let mut found = Vec::new(alloc);
     for p in board.points() {
-        if found.len() < MOST_KEPT && is_new_double_point::<R>(board, side, p) {
-            let sure = stays_free::<R>(board, side, p);
-            if let Some(double) = double_at::<R>(alloc, board, side, p)? {
-                found.push(Kept { double, sure })?;
-            }
+        if found.len() >= MOST_KEPT {
+            return Ok(found);
+        }
+        if let Some(kept) = kept_at::<R>(alloc, board, side, p)? {
+            found.push(kept)?;
         }
     }
     Ok(found)
+}
+
+/// The point as a double point of the side, which has no five point, if it is one. The board is as before.
+fn kept_at<R: Rule>(
+    alloc: Global,
+    board: &mut Board,
+    side: Side,
+    p: Point,
+) -> Result<Option<Kept>, AllocError>
+    requires none { has_five_lem R.KIND board.old side ≡ false }
+    ensures kept { IfOk result (λ found. IfSome found (IsKeptAt R.KIND board.old side p)) }
+    ensures other { IfOk result (λ found. IfNone found (is_double_point R.KIND board.old side p ≡ false)) }
+    ensures same { board.new ≡ board.old }
+{
+    if !is_new_double_point::<R>(board, side, p) {
+        return Ok(None);
+    }
+    let sure = stays_free::<R>(board, side, p);
+    match double_at::<R>(alloc, board, side, p)? {
+        Some(double) => Ok(Some(Kept { double, sure })),
+        None => Ok(None),
+    }
 }
 
 /// Which replies go on: the one on the first five point of a double point, and some other.

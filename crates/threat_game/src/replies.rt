@@ -18,7 +18,7 @@ ghost use Rattle.strategy_graph.specs.declared.TheConstants.{MAX_NODES};
 ghost use Rattle.strategy_compiler.specs.Growth.{GrowsBy};
 ghost use Rattle.threat_game.specs.FreeMoves.{EachGoesOn};
 ghost use Rattle.threat_game.specs.Attacks.{has_reply, is_last_move, IsKept, IsStillKept};
-ghost use Rattle.threat_game.specs.Replies.{AreReplies, AreJudged, HasEscape, IfEscape, IsChild, IsJudged, IsJudgement, IsBeside, is_beside as is_beside_lem, moves_for, is_open as is_open_lem, is_standing as is_standing_lem, is_same_double as is_same_double_lem, stands_for as stands_for_lem, is_met as is_met_lem, put_first, kept_children, counted_for, nodes_for};
+ghost use Rattle.threat_game.specs.Replies.{AreKept, AreReplies, AreStopped, AreJudged, HasEscape, IfEscape, IsChild, IsJudged, IsJudgement, IsBeside, is_beside as is_beside_lem, moves_for, is_open as is_open_lem, is_standing as is_standing_lem, is_same_double as is_same_double_lem, stands_for as stands_for_lem, is_met as is_met_lem, put_first, kept_children, counted_for, nodes_for};
 ghost use Rattle.threat_game.specs.Wins.{IsThreatWin};
 
 use crate::attacks::{each_goes_on, fives_by, goes_on_where};
@@ -210,7 +210,7 @@ fn doubles_for<R: Rule>(
     fives: usize,
 ) -> Result<Vec<Kept>, AllocError>
     requires fives { fives ≡ length (five_points_lem R.KIND board.old side) }
-    ensures each { IfOk result (λ found. All (IsKept R.KIND board.old side) found.items) }
+    ensures kept { IfOk result (λ found. AreKept R.KIND board.old side found.items) }
     ensures same { board.new ≡ board.old }
 {
     if fives == 0 {
@@ -245,7 +245,7 @@ fn each_reply<R: Rule, V: Seen<R>>(
     requires reply { has_reply R.KIND (V.position view.old) ≡ true }
     requires copy { board.old ≡ V.position view.old }
     requires fives { fives.now ≡ five_points_lem R.KIND (V.position view.old) (other (mover (V.position view.old))) }
-    requires doubles { All (IsKept R.KIND (V.position view.old) (other (mover (V.position view.old)))) doubles.now }
+    requires doubles { AreKept R.KIND (V.position view.old) (other (mover (V.position view.old))) doubles.now }
     ensures escape { IfOk result (λ found. IfNone found (HasEscape R.KIND moves (V.position view.old))) }
     ensures early { IfOk result (λ found. IfNone found (moves ≤ 2)) }
     ensures judged { IfOk result (λ found. IfSome found (λ all. AreJudged R.KIND moves (V.position view.old) all.items)) }
@@ -294,7 +294,7 @@ fn judge<R: Rule, V: Seen<R>>(
     requires no_five { has_five_lem R.KIND (V.position view.old) (mover (V.position view.old)) ≡ false }
     requires copy { board.old ≡ V.position view.old }
     requires fives { known.fives.now ≡ five_points_lem R.KIND (V.position view.old) (other (mover (V.position view.old))) }
-    requires doubles { All (IsKept R.KIND (V.position view.old) (other (mover (V.position view.old)))) known.doubles.now }
+    requires doubles { AreKept R.KIND (V.position view.old) (other (mover (V.position view.old))) known.doubles.now }
     ensures judgement { IfOk result (IsJudgement R.KIND moves (V.position view.old) q) }
     ensures early { IfOk result (λ judgement. IfEscape judgement (moves ≤ 2)) }
     ensures same { V.position view.new ≡ V.position view.old }
@@ -323,7 +323,7 @@ fn judge_quiet<R: Rule, V: Seen<R>>(
     requires on { outcome_lem R.KIND (V.position view.old) q ≡ Outcome.GoesOn }
     requires none { has_five_lem R.KIND (after (V.position view.old) q) (mover (after (V.position view.old) q)) ≡ false }
     requires copy { board.old ≡ V.position view.old }
-    requires doubles { All (IsKept R.KIND (V.position view.old) (other (mover (V.position view.old)))) doubles.now }
+    requires doubles { AreKept R.KIND (V.position view.old) (other (mover (V.position view.old))) doubles.now }
     ensures judgement { IfOk result (IsJudgement R.KIND moves (V.position view.old) q) }
     ensures early { IfOk result (λ judgement. IfEscape judgement (moves ≤ 2)) }
     ensures same { V.position view.new ≡ V.position view.old }
@@ -388,6 +388,8 @@ fn judge_double<R: Rule, V: Seen<R>>(view: &mut V, q: Point, doubles: &[Kept]) -
     requires doubles { All (IsKept R.KIND (V.position view.old) (other (mover (V.position view.old)))) doubles.now }
     ensures judged { IsJudged R.KIND (after (V.position view.old) q) result }
     ensures enough { moves_for result ≤ 2 }
+    ensures stops { is_open_lem result ≡ true → has_five_lem R.KIND (after (V.position view.old) q) (mover (V.position view.old)) ≡ false
+        → AreStopped R.KIND (after (V.position view.old) q) q doubles.now }
     ensures same { V.position view.new ≡ V.position view.old }
 {
     let near = near_stones(view.board(), view.side(), q);
@@ -408,6 +410,7 @@ fn still_double<R: Rule, V: Seen<R>>(view: &mut V, q: Point, doubles: &[Kept]) -
     requires doubles { All (λ kept. IsBeside kept.double q → IsStillKept R.KIND (V.position view.old) kept) doubles.now }
     ensures judged { IsJudged R.KIND (V.position view.old) result }
     ensures enough { moves_for result ≤ 2 }
+    ensures stops { is_open_lem result ≡ true → AreStopped R.KIND (V.position view.old) q doubles.now }
     ensures same { V.position view.new ≡ V.position view.old }
 {
     for kept in doubles {

@@ -1,8 +1,8 @@
-use Rattle.std.proofs.Common.{◌≡◌, ap, sym, subst, refl, ◌∙◌, arith, All, IfOk}
+use Rattle.std.proofs.Common.{◌≡◌, true, false, ap, sym, subst, refl, ◌∙◌, arith, IfOk}
 use Rattle.game_rules.proofs.Common.{Grid, has_five, outcome, mover, other, after}
 use Rattle.game_rules.specs.declared.Outcome.TheVariants.{GoesOn}
 use Rattle.game_rules.proofs.Outcomes.{goes_on-is}
-use Rattle.threat_game.specs.Attacks.{IsKept}
+use Rattle.threat_game.specs.Replies.{AreKept}
 use Rattle.threat_game.proofs.Common.{IsJudgement}
 use Rattle.threat_game.specs.declared.replies.Judged.TheVariants.{Five}
 use Rattle.threat_game.proofs.ReplyLaws.{first-beside, none-beside, child-is}
@@ -16,7 +16,7 @@ returns-in-Some-clause-judgement g c =
     child-is g.R.Rule.KIND c.args.moves b c.args.q on (after b c.args.q) (Five c.in-Some.five) 1 refl
     (first-beside g.R.Rule.KIND b c.args.q c.requires.lawful on c.args.known.fives.now c.in-Some.five c.requires.fives
     c.in-Some.ensures.beside)
-    (omega arith) c.requires.some_moves
+    (omega arith) c.requires.some_moves (λ (e : false ≡ true). cc)
 
 pub judge_quiet-requires-clause-no_five : goal.judge_quiet-requires-clause-no_five
 judge_quiet-requires-clause-no_five g c = ap (λ (b : Grid). has_five g.R.Rule.KIND b (mover b)) c.goes_on_where.ensures.same
@@ -38,7 +38,7 @@ judge_quiet-requires-clause-none g c =
 
 pub judge_quiet-requires-clause-doubles : goal.judge_quiet-requires-clause-doubles
 judge_quiet-requires-clause-doubles g c =
-    subst (λ (b : Grid). All (IsKept g.R.Rule.KIND b (other (mover b))) c.args.known.doubles.now) (sym c.goes_on_where.ensures.same)
+    subst (λ (b : Grid). AreKept g.R.Rule.KIND b (other (mover b)) c.args.known.doubles.now) (sym c.goes_on_where.ensures.same)
     c.requires.doubles
 
 pub judge_quiet-requires-clause-copy : goal.judge_quiet-requires-clause-copy

@@ -5,9 +5,10 @@ use Rattle.game_rules.specs.declared.Side.{Side}
 use Rattle.game_rules.proofs.Boards.{is_empty-on}
 use Rattle.threat_game.specs.NearDoubles.{AreNearStones}
 use Rattle.game_rules.proofs.Positions.{GoesOn-empty, mover-other}
-use Rattle.row_shapes.proofs.FiveLaws.{has_five-none}
+use Rattle.row_shapes.proofs.FiveLaws.{has_five-none, none-short}
 use Rattle.game_rules.proofs.Undo.{stone_back, lift_back, unwon_back}
 use Rattle.threat_game.specs.Attacks.{IsStillKept}
+use Rattle.threat_game.specs.Replies.{AreStopped}
 use Rattle.threat_game.proofs.Common.{IsBeside, IsJudged}
 use Rattle.threat_game.proofs.KeptDoubles.{all-still}
 use Rattle.threat_game.proofs.replies.judge_double.Goals as goal
@@ -65,3 +66,17 @@ pub returns-in-None-clause-same : goal.returns-in-None-clause-same
 returns-in-None-clause-same g c =
     c.undo.ensures.undone ∙ lift_back g.R.Rule.KIND (g.V.Seen.position c.args.view.now) _ c.args.q c.play.ensures.lawful c.requires.on
     (c.still_double-found.ensures.same ∙ c.play.ensures.played)
+
+pub returns-in-None-clause-stops : goal.returns-in-None-clause-stops
+returns-in-None-clause-stops g c = λ open_is safe.
+    subst (λ (b : Grid). AreStopped g.R.Rule.KIND b c.args.q c.args.doubles.now) c.play.ensures.played
+    (c.still_double-found.ensures.stops open_is)
+
+-- a reply that leaves its side a five point stops nothing
+pub returns-in_default-clause-judged : goal.returns-in_default-clause-judged
+returns-in_default-clause-judged g c = c.requires.none
+
+pub returns-in_default-clause-stops : goal.returns-in_default-clause-stops
+returns-in_default-clause-stops g c = λ open_is safe.
+    absurd (c.in_default.not-None (c.fives_by.ensures.made
+    ∙ none-short g.R.Rule.KIND (after (g.V.Seen.position c.args.view.now) c.args.q) (mover (g.V.Seen.position c.args.view.now)) safe))

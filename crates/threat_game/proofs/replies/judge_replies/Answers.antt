@@ -1,11 +1,11 @@
-use Rattle.std.proofs.Common.{◌≡◌, ap, sym, subst, ◌∙◌, arith, length, List, All, IfSome, sum_by}
+use Rattle.std.proofs.Common.{◌≡◌, ap, sym, subst, ◌∙◌, arith, length, List, IfSome, sum_by}
 use Rattle.threat_game.specs.declared.replies.Child.{Child}
 use Rattle.threat_game.proofs.Common.{AreJudged, counted_for, kept_children}
 use Rattle.threat_game.proofs.ReplyLaws.{are-children, judged-short}
 use Rattle.game_rules.proofs.Common.{Grid, five_points, mover, other}
 use Rattle.game_rules.specs.declared.Side.{Side}
 use Rattle.threat_game.specs.declared.doubles.Kept.{Kept}
-use Rattle.threat_game.specs.Attacks.{IsKept}
+use Rattle.threat_game.specs.Replies.{AreKept}
 use Rattle.threat_game.proofs.replies.judge_replies.Goals as goal
 
 pub doubles_for-requires : goal.doubles_for-requires
@@ -24,10 +24,10 @@ pub each_reply-requires-clause-doubles : goal.each_reply-requires-clause-doubles
 each_reply-requires-clause-doubles g c =
     let b : Grid = g.V.Seen.position c.args.view.now in
     let same : c.other-attacker.result ≡ other (mover b) = c.other-attacker.ensures.other ∙ ap other c.side.ensures.side in
-    subst (λ (ds : List Kept). All (IsKept g.R.Rule.KIND b (other (mover b))) ds) (sym c.as_slice.ensures.value)
-    (subst (λ (s : Side). All (IsKept g.R.Rule.KIND b s) c.in_ok-doubles.doubles.items) same
-    (subst (λ (w : Grid). All (IsKept g.R.Rule.KIND w c.other-attacker.result) c.in_ok-doubles.doubles.items) c.requires.copy
-    c.in_ok-doubles.ensures.each))
+    subst (λ (ds : List Kept). AreKept g.R.Rule.KIND b (other (mover b)) ds) (sym c.as_slice.ensures.value)
+    (subst (λ (s : Side). AreKept g.R.Rule.KIND b s c.in_ok-doubles.doubles.items) same
+    (subst (λ (w : Grid). AreKept g.R.Rule.KIND w c.other-attacker.result c.in_ok-doubles.doubles.items) c.requires.copy
+    c.in_ok-doubles.ensures.kept))
 
 pub children_of-requires-clause-short : goal.children_of-requires-clause-short
 children_of-requires-clause-short g c =
