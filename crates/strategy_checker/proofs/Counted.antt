@@ -1,10 +1,9 @@
 -- The replies that are counted and not walked: the points of a board, taken apart into those that are listed, one more, and
 -- the others, and what each of the others is.
 use Rattle.std.proofs.Common.{◌≡◌, ℕ, zero, suc, ◌+◌, ◌*◌, ◌<◌, ◌≤◌, Bool, true, false, cond, ◌&&◌, ◌||◌, not, List, [], ◌∷◌, length}
-use Rattle.std.proofs.Common.{drop, refl, sym, ap, subst, ◌∙◌, arith, nat_eq, eq-eqb, drop-cons}
+use Rattle.std.proofs.Common.{drop, refl, sym, ap, subst, ◌∙◌, arith, nat_eq, eq-eqb, drop-cons, rules}
 use Rattle.std.specs.Prelude.{Some, None}
-use Rattle.std.specs.List.{All, count_by, sum_by, list_any, list_all, find, flat_map, range_with_len}
-use Rattle.std.specs.Option.{option_map, option_or}
+use Rattle.std.specs.List.{All, count_by, sum_by, list_any, list_all, flat_map, range_with_len}
 use Rattle.std.proofs.lemmas.Bool.{lt-ltb}
 use Rattle.std.proofs.lemmas.List.{drop_all}
 use Rattle.std.proofs.lemmas.List.Sums.{sum_by-cons, sum_by-append}
@@ -45,12 +44,7 @@ sum_by-same f g xs e = λ i. sum_by (λ x. e x i) xs
 
 sum_by-both : {X : Type 0} (f g : X → ℕ) (xs : List X) → sum_by (λ x. f x + g x) xs ≡ sum_by f xs + sum_by g xs
 sum_by-both f g [] = refl
-sum_by-both f g (x ∷ xs) =
-    let all = sum_by-cons (λ x. f x + g x) x xs in
-    let fs = sum_by-cons f x xs in
-    let gs = sum_by-cons g x xs in
-    let rest = sum_by-both f g xs in
-    omega (arith, all, fs, gs, rest)
+sum_by-both f g (x ∷ xs) = search (rules, sum_by-cons, sum_by-both f g xs)
 
 -- ---- one point
 
@@ -98,15 +92,7 @@ module _ (width : ℕ) (e : Point) (f : Point → ℕ) where
 
   one-missing : (ps : List Point) → list_any (is_same_point e) ps ≡ false → sum_by (only_at e f) ps ≡ 0
   one-missing [] h = refl
-  one-missing (p ∷ ps) h = by_test (is_same_point e p) refl h (one-missing ps) where
-    by_test : (r : Bool) → is_same_point e p ≡ r → (r || list_any (is_same_point e) ps) ≡ false
-        → (list_any (is_same_point e) ps ≡ false → sum_by (only_at e f) ps ≡ 0) → sum_by (only_at e f) (p ∷ ps) ≡ 0
-    by_test true s k later = cc
-    by_test false s k later =
-        let all = sum_by-cons (only_at e f) p ps in
-        let here = only_at-else e f p s in
-        let rest = later k in
-        omega (arith, all, here, rest)
+  one-missing (p ∷ ps) h = search (rules, only_at, sum_by-cons, only_at-else, one-missing ps)
 
 -- a sum over the points of a board of what is 0 but at one point
 pub sum-only : (b : Grid) (e : Point) (f : Point → ℕ) → (is_on b e ≡ false → f e ≡ 0) → sum_by (only_at e f) (points_of b) ≡ f e
@@ -133,8 +119,7 @@ only_listed rs f q = cond (is_listed rs q) (f q) 0
 first-unlisted : (p : Point) (rs : List Reply) → list_all (λ s. precedes p s.at) rs ≡ true → is_listed rs p ≡ false
 first-unlisted p [] h = refl
 first-unlisted p (s ∷ rs) h =
-    let here : is_same_point s.at p ≡ false = precedes-differs_back p s.at (and_left (precedes p s.at) _ h) in
-    ap (λ r. r || list_any (λ (r : Reply). is_same_point r.at p) rs) here ∙ first-unlisted p rs (and_right (precedes p s.at) _ h)
+    search (rules, precedes-differs_back, and_left, and_right, first-unlisted p rs (and_right (precedes p s.at) _ h))
 
 -- a sum over the points of a board of what is 0 but where listed
 pub sum-listed : (b : Grid) (f : Point → ℕ) → ((e : Point) → is_on b e ≡ false → f e ≡ 0) → (rs : List Reply) → is_rising rs ≡ true
@@ -224,10 +209,7 @@ module _ (b : Grid) (ok : IsBoard b) where
 
   row-empties : (y x n : ℕ) → y < b.height → x + n ≤ b.width
       → sum_by empty (row_from y x n) + cells_from (y * b.width + x + n) ≡ cells_from (y * b.width + x)
-  row-empties y x zero h l =
-      let e : y * b.width + x + 0 ≡ y * b.width + x = omega arith in
-      let same = ap cells_from e in
-      omega (arith, same)
+  row-empties y x zero h l = search rules
   row-empties y x (suc n) h l =
       let p : Point = record { x = x; y = y } in
       let all = sum_by-cons empty p (row_from y (x + 1) n) in
@@ -241,21 +223,8 @@ module _ (b : Grid) (ok : IsBoard b) where
 
   rows-empties : (y n : ℕ) → y + n ≤ b.height
       → sum_by empty (flat_map (λ z. row_from z 0 b.width) (range_with_len y n)) + cells_from ((y + n) * b.width) ≡ cells_from (y * b.width)
-  rows-empties y zero h =
-      let e : (y + 0) * b.width ≡ y * b.width = ap (λ (z : ℕ). z * b.width) (omega arith) in
-      let same = ap cells_from e in
-      omega (arith, same)
-  rows-empties y (suc n) h =
-      let all = sum_by-append empty (row_from y 0 b.width) (flat_map (λ z. row_from z 0 b.width) (range_with_len (y + 1) n)) in
-      let row = row-empties y 0 b.width (omega (arith, h)) (omega arith) in
-      let rest = rows-empties (y + 1) n (omega (arith, h)) in
-      let e : (y + 1 + n) * b.width ≡ (y + suc n) * b.width = ap (λ (z : ℕ). z * b.width) (omega arith) in
-      let f : y * b.width + 0 + b.width ≡ (y + 1) * b.width = omega arith in
-      let g : y * b.width + 0 ≡ y * b.width = omega arith in
-      let last = ap cells_from e in
-      let next = ap cells_from f in
-      let this = ap cells_from g in
-      omega (arith, all, row, rest, last, next, this)
+  rows-empties y zero h = search rules
+  rows-empties y (suc n) h = search (rules, sum_by-append, row-empties, rows-empties (y + 1) n (omega (arith, h)))
 
   -- as many points are empty as cells
   pub count-empty : count_by (is_empty b) (points_of b) ≡ empties_of b
@@ -296,31 +265,21 @@ count-others b ok rs rising w free =
 
 pub going-empty : (rule : RuleKind) (b : Grid) → has_five rule b (mover b) ≡ false → has_fouls rule (mover b) ≡ false → 1 < empties_of b
     → (q : Point) → goes_on (outcome rule b q) ≡ is_empty b q
-going-empty rule b free calm more q = by_test (is_empty b q) refl where
-  by_test : (r : Bool) → is_empty b q ≡ r → goes_on (outcome rule b q) ≡ is_empty b q
-  by_test true e = ap goes_on (sym (outcome-more rule b q e free calm (empties_of b) refl (λ one. omega (arith, one, more)))) ∙ sym e
-  by_test false e = ap goes_on (taken_refused rule b q e) ∙ sym e
+going-empty rule b free calm more q = search (rules, outcome-more, taken_refused)
 
 -- where a side without fouls has no five point, the replies that go on are the empty points
 pub count-going : (rule : RuleKind) (b : Grid) (rs : List Reply) (w : Point) → has_five rule b (mover b) ≡ false
     → has_fouls rule (mover b) ≡ false → 1 < empties_of b
     → count_by (λ q. is_empty b q && not (is_apart rs w q)) (points_of b) ≡ count_by
     (λ q. goes_on (outcome rule b q) && not (is_apart rs w q)) (points_of b)
-count-going rule b rs w free calm more =
-    let going : (q : Point) → is_empty b q ≡ goes_on (outcome rule b q) = λ q. sym (going-empty rule b free calm more q) in
-    λ i. count_by (λ q. going q i && not (is_apart rs w q)) (points_of b)
+count-going rule b rs w free calm more = search (rules, going-empty)
 
 nat_eq-itself : (n : ℕ) → nat_eq n n ≡ true
 nat_eq-itself n = eq-eqb n n refl
 
 unlisted-none : (rs : List Reply) (q : Point) → is_listed rs q ≡ false → listed_node rs q ≡ None
 unlisted-none [] q h = refl
-unlisted-none (r ∷ rs) q h = by_test (is_same_point r.at q) refl h (unlisted-none rs q) where
-  by_test : (s : Bool) → is_same_point r.at q ≡ s → (s || list_any (λ (x : Reply). is_same_point x.at q) rs) ≡ false
-      → (is_listed rs q ≡ false → listed_node rs q ≡ None)
-      → option_map (λ (x : Reply). x.next) (cond s (Some r) (find (λ (x : Reply). is_same_point x.at q) rs)) ≡ None
-  by_test true e k rest = cc
-  by_test false e k rest = rest k
+unlisted-none (r ∷ rs) q h = search (rules, unlisted-none rs q)
 
 listed-all : (P : Point → Type 0) (rs : List Reply) (q : Point) → All (λ r. P r.at) rs → is_listed rs q ≡ true → P q
 listed-all P [] q all h = cc
@@ -383,8 +342,7 @@ module _ (rule : RuleKind) (t : List Node) (b : Grid) (rs : List Reply) (rest : 
       (rw (nat_eq-itself s.node, or_right (is_listed rs q) (is_same_point s.attack q) h) refl)
 
   answered : (q : Point) → is_apart rs s.attack q ≡ false → answer a q ≡ Some s.node
-  answered q h = ap (λ o. option_or o (rest_node rest)) (unlisted-none rs q (or_none (is_listed rs q) (is_same_point s.attack q) h))
-      ∙ to
+  answered q h = search (rules, unlisted-none, or_none)
 
   arrivals-other : (q : Point) → is_apart rs s.attack q ≡ false → (u : Outcome) → outcome rule b q ≡ u
       → arrivals_at rule a (arrivals rule t) b q ≡ cond (goes_on u && true) 1 0
@@ -396,11 +354,7 @@ module _ (rule : RuleKind) (t : List Node) (b : Grid) (rs : List Reply) (rest : 
 
   arrivals-each : (q : Point) (r : Bool) → is_apart rs s.attack q ≡ r
       → cond r 0 (arrivals_at rule a (arrivals rule t) b q) ≡ cond (goes_on (outcome rule b q) && not r) 1 0
-  arrivals-each q true h = by_test (goes_on (outcome rule b q)) where
-    by_test : (g : Bool) → zero ≡ cond (g && false) 1 zero
-    by_test true = refl
-    by_test false = refl
-  arrivals-each q false h = arrivals-other q h (outcome rule b q) refl
+  arrivals-each q x1 h = search (rules, arrivals-other)
 
   -- the arrivals behind all replies: one for each other reply that goes on, and those behind the replies that are apart
   pub arrivals-most : is_rising rs ≡ true

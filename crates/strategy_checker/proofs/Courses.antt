@@ -1,6 +1,6 @@
 -- The courses over replies: what they owe is what all replies owe.
 use Rattle.std.proofs.Common.{◌≡◌, ℕ, zero, suc, ◌+◌, ◌<◌, Bool, true, false, cond, List, [], ◌∷◌, ◌++◌, map, refl, sym, ap, subst, ◌∙◌}
-use Rattle.std.proofs.Common.{arith}
+use Rattle.std.proofs.Common.{arith, rules}
 use Rattle.std.proofs.Common.{inl, inr}
 use Rattle.std.specs.Prelude.{Some, slice_get}
 use Rattle.std.specs.List.{All, sum_by, list_all, find}
@@ -39,11 +39,7 @@ all-at p (s ∷ rs) (suc i) r all at = all-at p rs i r (and_right (p s) _ all) a
 -- of rising replies each is listed with its node
 pub listed-here : (rs : List Reply) (i : ℕ) (r : Reply) → is_rising rs ≡ true → slice_get rs i ≡ Some r → listed_node rs r.at ≡ Some r.next
 listed-here [] i r rising at = cc
-listed-here (s ∷ rs) zero r rising at =
-    let same : s ≡ r = cc in
-    subst (λ (x : Reply). listed_node (s ∷ rs) x.at ≡ Some x.next) same
-    (ap (λ (b : Bool). option_map (λ (x : Reply). x.next) (cond b (Some s) (find (λ (x : Reply). is_same_point x.at s.at) rs)))
-    (is_same_point-itself s.at))
+listed-here (s ∷ rs) zero r rising at = search (rules, is_same_point-itself)
 listed-here (s ∷ rs) (suc i) r rising at =
     let after : precedes s.at r.at ≡ true = all-at (λ x. precedes s.at x.at) rs i r (and_left _ (is_rising rs) rising) at in
     ap (λ (b : Bool). option_map (λ (x : Reply). x.next) (cond b (Some s) (find (λ (x : Reply). is_same_point x.at r.at) rs)))
@@ -54,11 +50,7 @@ listed-here (s ∷ rs) (suc i) r rising at =
 
 sum-at : (f : Point → ℕ) (rs : List Reply) → sum_by f (map (λ r. r.at) rs) ≡ sum_by (λ r. f r.at) rs
 sum-at f [] = refl
-sum-at f (r ∷ rs) =
-    let left = sum_by-cons f r.at (map (λ (x : Reply). x.at) rs) in
-    let right = sum_by-cons (λ (x : Reply). f x.at) r rs in
-    let rest = sum-at f rs in
-    omega (arith, left, right, rest)
+sum-at f (r ∷ rs) = search (rules, sum_by-cons, sum-at f rs)
 
 all-apart : (P : Point → Type 0) (rs : List Reply) (ys : List Point) → All P (map (λ r. r.at) rs ++ ys)
     → All (λ r. P r.at) rs × All P ys
@@ -93,14 +85,9 @@ module _ (rule : RuleKind) (t : List Node) (b : Grid) (rs : List Reply) (rest : 
       }
 
   module _ (s : Sure) (lawful : IsPosition rule b) (is : IsSure rule t b s) (to : rest_node rest ≡ Some s.node) where
-    last-of : List Point
-    last-of = cond (is_listed rs s.attack) [] (s.attack ∷ [])
-
     owed-last : (r : Bool) → is_listed rs s.attack ≡ r
         → owed rule t a b (cond r [] (s.attack ∷ [])) ≡ cond r 0 (arrivals_at rule a (arrivals rule t) b s.attack)
-    owed-last true h = refl
-    owed-last false h = let one = sum_by-cons (arrivals_at rule a (arrivals rule t) b) s.attack [] in
-        let none : sum_by (arrivals_at rule a (arrivals rule t) b) [] ≡ 0 = refl in omega (arith, one, none)
+    owed-last x0 h = search (rules, sum_by-cons)
 
     met-last : (r : Bool) → is_listed rs s.attack ≡ r → AreMet rule t a b (cond r [] (s.attack ∷ []))
         → is_listed rs s.attack ≡ false → Meets rule a (Accepted rule t) b s.attack
@@ -112,12 +99,7 @@ module _ (rule : RuleKind) (t : List Node) (b : Grid) (rs : List Reply) (rest : 
         → (arrivals_after rule a (arrivals rule t) b ≡ others + (sum_by (λ r. arrivals_at rule a (arrivals rule t) b r.at) rs
         + cond (is_listed rs s.attack) 0 (arrivals_at rule a (arrivals rule t) b s.attack)))
         → owed rule t a b (points_of b) ≡ others + owed rule t a b (apart_points rs s.attack)
-    apart-arrivals others all =
-        let split = sum_by-append (arrivals_at rule a (arrivals rule t) b) (map (λ (r : Reply). r.at) rs)
-        (cond (is_listed rs s.attack) [] (s.attack ∷ [])) in
-        let these = sum-at (arrivals_at rule a (arrivals rule t) b) rs in
-        let last = owed-last (is_listed rs s.attack) refl in
-        omega (arith, all, split, these, last)
+    apart-arrivals others all = search (rules, sum_by-append, is_listed, sum-at, owed-last)
 
     pub apart-met : has_five rule b (mover b) ≡ false → 1 < empties_of b → AreMet rule t a b (apart_points rs s.attack)
         → AreMet rule t a b (points_of b)

@@ -1,5 +1,5 @@
 -- Held tables: a root that is added, and what each root that is held says.
-use Rattle.std.proofs.Common.{◌≡◌, ◌<◌, List, [], ◌∷◌, ◌++◌, length, arith}
+use Rattle.std.proofs.Common.{◌≡◌, ◌<◌, List, [], ◌∷◌, ◌++◌, length, rules}
 use Rattle.std.proofs.lemmas.List.{length_push}
 use Rattle.std.proofs.lemmas.List.Elements.{All-push}
 use Rattle.strategy_graph.specs.declared.Node.{Node}
@@ -9,7 +9,4 @@ use Rattle.strategy_checker.specs.HeldRoots.{IsHeldRoot, IsHeld}
 
 pub IsHeld-push : (t : List Node) (rs : List HeldRoot) (r : HeldRoot) → IsHeld (record { table = t; roots = rs }) → length rs < MAX_ROOTS
     → IsHeldRoot t r → IsHeld (record { table = t; roots = rs ++ r ∷ [] })
-IsHeld-push t rs r held room this = record {
-  roots = All-push (IsHeldRoot t) rs r held.roots this;
-  few = let more = length_push rs r in omega (arith, more);
-}
+IsHeld-push t rs r held room this = search (rules, All-push, length_push)

@@ -1,5 +1,5 @@
 -- What a walk owes at a position: one reply met after another, and the stops on the way.
-use Rattle.std.proofs.Common.{◌≡◌, ℕ, ◌+◌, ◌<◌, List, [], ◌∷◌, reverse, refl, ap, ◌∙◌, arith}
+use Rattle.std.proofs.Common.{◌≡◌, ℕ, ◌+◌, ◌<◌, List, [], ◌∷◌, reverse, refl, ap, ◌∙◌, arith, rules}
 use Rattle.std.specs.Prelude.{Ok, Err}
 use Rattle.std.proofs.lemmas.List.Elements.{All-cons, All-nil}
 use Rattle.std.proofs.lemmas.List.Sums.{sum_by-cons}
@@ -27,49 +27,37 @@ module _ (rule : RuleKind) (t : List Node) (a : Answers) (b : Grid) where
       → Owes rule t a b (AreMet rule t a b qs) (owed rule t a b qs) qs now.left now
   owes-all qs now ready = record { counted = refl; met = λ m. m; ready = ready }
 
-  module _ (A : Type 0) (n : ℕ) (ps : List Point) (start : ℕ) where
-    module _ (q : Point) (qs : List Point) (first : ps ≡ q ∷ qs) (now next : Walk) (owes : Owes rule t a b A n ps start now) where
-      split : owed rule t a b ps ≡ arrivals_at rule a (arrivals rule t) b q + owed rule t a b qs
-      split = ap (owed rule t a b) first ∙ owed-cons q qs
+module _ {rule : RuleKind} {t : List Node} {a : Answers} {b : Grid} {A : Type 0} {n : ℕ} {ps : List Point} {start : ℕ} {now : Walk}
+    (owes : Owes rule t a b A n ps start now) where
+  module _ {q : Point} {qs : List Point} (first : ps ≡ q ∷ qs) where
+    split : owed rule t a b ps ≡ arrivals_at rule a (arrivals rule t) b q + owed rule t a b qs
+    split = ap (owed rule t a b) first ∙ owed-cons rule t a b q qs
 
-      -- the next reply is met
-      pub owes-on : WalkedReply rule t a b q now next (Ok tt) → Owes rule t a b A n qs start next
-      owes-on walked =
-          let before = owes.counted in
-          let counted = walked.1.counted in
-          record {
-            counted = omega (arith, before, split, counted);
-            met = λ later. owes.met (rw first (All-cons (Meets rule a (Accepted rule t) b) q qs walked.0 later));
-            ready = record { lawful = owes.ready.lawful; no_line = walked.1.no_line; memo = walked.1.memo };
-          }
+    -- the next reply is met
+    pub owes-on : {next : Walk} → WalkedReply rule t a b q now next (Ok tt) → Owes rule t a b A n qs start next
+    owes-on walked = record {
+      counted = omega (arith, owes.counted, split, walked.1.counted);
+      met = λ later. owes.met (rw first (All-cons (Meets rule a (Accepted rule t) b) q qs walked.0 later));
+      ready = record { lawful = owes.ready.lawful; no_line = walked.1.no_line; memo = walked.1.memo };
+    }
 
-      -- the walk stops at it
-      pub owes-stops : (stop : Stop) → WalkedReply rule t a b q now next (Err stop)
-          → Stopped (λ why. LeadsStart rule t a b (reverse next.line) why) (start < n) stop
-      owes-stops (Fault why) h = h
-      owes-stops Spent h = let before = owes.counted in omega (arith, before, split, h)
-      owes-stops Memory h = tt
+    -- the walk stops at it
+    pub owes-stops : (next : Walk) (stop : Stop) → WalkedReply rule t a b q now next (Err stop)
+        → Stopped (λ why. LeadsStart rule t a b (reverse next.line) why) (start < n) stop
+    owes-stops next (Fault why) h = h
+    owes-stops next Spent h = omega (arith, owes.counted, split, h)
+    owes-stops next Memory h = tt
 
-    -- some of them are asked
-    pub owes-then : (qs : List Point) (mid now : Walk) → Owes rule t a b A n ps start mid
-        → Owes rule t a b (AreMet rule t a b ps) (owed rule t a b ps) qs mid.left now → Owes rule t a b A n qs start now
-    owes-then qs mid now owes then =
-        let before = owes.counted in
-        let after = then.counted in
-        record { counted = omega (arith, before, after); met = λ later. owes.met (then.met later); ready = then.ready }
+  -- some of them are asked
+  pub owes-then : {qs : List Point} {late : Walk} → Owes rule t a b (AreMet rule t a b ps) (owed rule t a b ps) qs now.left late
+      → Owes rule t a b A n qs start late
+  owes-then then = grind arith
 
-    -- a stop among them
-    pub owes-short : (L : Why → Type 0) (mid : Walk) → Owes rule t a b A n ps start mid
-        → (stop : Stop) → Stopped L (mid.left < owed rule t a b ps) stop → Stopped L (start < n) stop
-    owes-short L mid owes (Fault why) h = h
-    owes-short L mid owes Spent h = let before = owes.counted in omega (arith, before, h)
-    owes-short L mid owes Memory h = tt
+  -- a stop among them
+  pub owes-short : (L : Why → Type 0) (stop : Stop) → Stopped L (now.left < owed rule t a b ps) stop → Stopped L (start < n) stop
+  owes-short x0 x1 h = grind arith
 
-  -- at the end all are met
-  pub owes-done : (A : Type 0) (n : ℕ) (L : List Point → Why → Type 0) (old now : Walk) → Owes rule t a b A n [] old.left now
-      → Walked rule t A n L old now (Ok tt)
-  owes-done A n L old now owes =
-      let counted = owes.counted in (
-        owes.met (All-nil (Meets rule a (Accepted rule t) b)),
-        record { counted = omega (arith, counted); no_line = owes.ready.no_line; memo = owes.ready.memo },
-      )
+-- at the end all are met
+pub owes-done : {rule : RuleKind} {t : List Node} {a : Answers} {b : Grid} {A : Type 0} {n : ℕ} {now : Walk} (L : List Point → Why → Type 0)
+    (old : Walk) → Owes rule t a b A n [] old.left now → Walked rule t A n L old now (Ok tt)
+owes-done L old owes = search (rules, All-nil)

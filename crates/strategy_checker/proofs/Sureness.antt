@@ -1,15 +1,15 @@
 -- A node that is sure wins after each reply that goes on elsewhere: its attack stays a five point.
-use Rattle.std.proofs.Common.{◌≡◌, ℕ, ◌<◌, Bool, true, false, cond, refl, sym, ap, subst, ◌∙◌, arith, List, nat_eq}
+use Rattle.std.proofs.Common.{◌≡◌, ℕ, ◌<◌, Bool, true, false, refl, sym, ap, subst, ◌∙◌, arith, List, nat_eq, rules}
 use Rattle.std.specs.Prelude.{Option, Some, None, IfSome, slice_get}
 use Rattle.std.specs.Option.{option_map}
 use Rattle.std.proofs.lemmas.Bool.Decides.{nat_tests}
 use Rattle.std.proofs.lemmas.Bool.{not-true}
-use Rattle.game_rules.specs.Grid.{Grid, is_empty, holds, lift, empties_of}
+use Rattle.game_rules.specs.Grid.{Grid, holds, lift, empties_of}
 use Rattle.game_rules.specs.Games.{five_points, has_five}
 use Rattle.game_rules.specs.Shapes.{five}
 use Rattle.game_rules.specs.Play.{IsPosition, outcome, mover, other, after, has_fouls}
 use Rattle.game_rules.specs.declared.RuleKind.{RuleKind}
-use Rattle.game_rules.specs.declared.Outcome.TheVariants.{Refused, Wins, GoesOn}
+use Rattle.game_rules.specs.declared.Outcome.TheVariants.{Wins, GoesOn}
 use Rattle.game_rules.specs.declared.Side.{Side}
 use Rattle.game_rules.specs.declared.Point.{Point}
 use Rattle.game_rules.proofs.Boards.{and_left, and_right, Apart}
@@ -80,23 +80,12 @@ none-left rule b p lawful on fives told h =
 pub had_none : (rule : RuleKind) (b : Grid) (q : Point) → IsPosition rule b → outcome rule b q ≡ GoesOn → (free : Bool)
     → (free ≡ true → has_five rule b (mover b) ≡ false)
     → (c : Grid) → c ≡ after b q → AreFives rule c (fives_after free q)
-had_none rule b q lawful on false none c there = tt
-had_none rule b q lawful on true none c there =
-    let back : lift c q ≡ b = ap (λ (w : Grid). lift w q) there ∙ lift-after rule b q lawful on in
-    record {
-      lawful = subst (IsPosition rule) (sym back) lawful;
-      on = ap (λ (w : Grid). outcome rule w q) back ∙ on;
-      back = ap (λ (w : Grid). after w q) back ∙ sym there;
-      none = ap (λ (w : Grid). has_five rule w (mover w)) back ∙ none refl;
-    }
+had_none rule b q lawful on x5 none c there = search (rules, lift-after)
 
 -- where the side to move has no five point and no fouls, each reply on an empty point goes on, unless that is the last
 pub quick-going : (rule : RuleKind) (b : Grid) → has_five rule b (mover b) ≡ false → has_fouls rule (mover b) ≡ false → 1 < empties_of b
     → (p : Point) → IsQuick rule b p
-quick-going rule b free calm more p = by_test (is_empty b p) refl where
-  by_test : (r : Bool) → is_empty b p ≡ r → outcome rule b p ≡ cond r GoesOn Refused
-  by_test true e = sym (outcome-more rule b p e free calm (empties_of b) refl (λ one. omega (arith, one, more)))
-  by_test false e = taken_refused rule b p e
+quick-going rule b free calm more p = search (rules, outcome-more, taken_refused)
 
 -- the five points that the last stone made
 module _ (rule : RuleKind) (b : Grid) (q : Point) (had : HadNone rule b q) where
@@ -105,10 +94,4 @@ module _ (rule : RuleKind) (b : Grid) (q : Point) (had : HadNone rule b q) where
 
   pub made-fives : (f : FivePoints) (u : Grid) → u ≡ lift b q → f ≡ in_short (five_points rule (after u q) (mover u))
       → f ≡ in_short (five_points rule b (other (mover b)))
-  made-fives f u undone made =
-      let mine : mover (lift b q) ≡ other (mover b) = sym (mover-other rule (lift b q) q had.lawful had.on)
-      ∙ ap (λ (w : Grid). other (mover w)) had.back in
-      made
-      ∙ ap (λ (w : Grid). in_short (five_points rule (after w q) (mover w))) undone
-      ∙ ap (λ (w : Grid). in_short (five_points rule w (mover (lift b q)))) had.back
-      ∙ ap (λ (s : Side). in_short (five_points rule b s)) mine
+  made-fives f u undone made = search (rules, mover-other)

@@ -1,25 +1,23 @@
 -- A move played and taken back, arrivals that are taken, and faults.
-use Rattle.std.proofs.Common.{◌≡◌, ℕ, zero, suc, ◌+◌, ◌≤◌, false, drop, List, [], ◌∷◌, ◌++◌, refl, sym, ap, subst, ◌∙◌, arith}
+use Rattle.std.proofs.Common.{rules}
+use Rattle.std.proofs.Common.{◌≡◌, ℕ, zero, suc, ◌+◌, ◌≤◌, false, drop, List, [], ◌∷◌, ◌++◌, sym, ap, ◌∙◌, arith}
 use Rattle.std.specs.Prelude.{Some, slice_get, Result, Ok, Err}
-use Rattle.game_rules.specs.Grid.{Grid, is_empty, empties_of}
-use Rattle.game_rules.specs.Play.{IsPosition, outcome, after, mover}
+use Rattle.game_rules.specs.Grid.{Grid, is_empty}
+use Rattle.game_rules.specs.Play.{IsPosition, outcome, after}
 use Rattle.game_rules.specs.declared.RuleKind.{RuleKind}
 use Rattle.game_rules.specs.declared.Outcome.{Outcome}
-use Rattle.game_rules.specs.declared.Outcome.TheVariants.{Refused, GoesOn}
+use Rattle.game_rules.specs.declared.Outcome.TheVariants.{GoesOn}
 use Rattle.game_rules.specs.declared.Point.{Point}
-use Rattle.game_rules.proofs.Boards.{empties_of-put}
 use Rattle.game_rules.proofs.Points.{taken_refused}
-use Rattle.game_rules.proofs.Positions.{IsPosition-after, GoesOn-empty}
+use Rattle.game_rules.proofs.Positions.{IsPosition-after}
 use Rattle.strategy_graph.specs.declared.Node.{Node}
 use Rattle.strategy_graph.specs.declared.Why.{Why}
 use Rattle.strategy_graph.specs.Tables.{Answers, answers_of, is_winning}
-use Rattle.strategy_graph.specs.Acceptance.{Accepted}
 use Rattle.strategy_graph.specs.Arrivals.{arrivals}
 use Rattle.strategy_graph.specs.Leads.{attack_fault, Leads, LeadsStart}
 use Rattle.strategy_graph.proofs.Steps.{arrivals-stops, leads-attack, leads-reply, met-no_move}
 use Rattle.strategy_checker.specs.declared.walk.Stop.{Stop}
-use Rattle.strategy_checker.specs.declared.walk.Stop.TheVariants.{Fault, Spent, Memory}
-use Rattle.position_table.specs.Lateness.{Late}
+use Rattle.strategy_checker.specs.declared.walk.Stop.TheVariants.{Fault}
 use Rattle.strategy_checker.specs.declared.walk.Walk.{Walk}
 use Rattle.strategy_checker.specs.Walks.{IsNoted, IsReady, IsTrueMemo, Takes, Walked, WalkedNode, WalkedReply}
 
@@ -29,20 +27,13 @@ module _ (rule : RuleKind) (b : Grid) (p : Point) (lawful : IsPosition rule b) (
   pub played-lawful : (c : Grid) → c ≡ after b p → IsPosition rule c
   played-lawful c there = rw there (IsPosition-after rule b p lawful on)
 
-  pub played-fewer : (c : Grid) → c ≡ after b p → empties_of c + 1 ≡ empties_of b
-  played-fewer c there = rw there (empties_of-put b (mover b) p lawful.board (GoesOn-empty rule b p on))
-
 -- ---- stops
 
 -- a fault of the move p itself
 pub fault-stops : (rule : RuleKind) (t : List Node) (A : Type 0) (n : ℕ) (L : List Point → Why → Type 0) (p : Point) (why : Why)
     (old new : Walk) (stop : Stop)
     → old.line ≡ [] → L (p ∷ []) why → IsNoted p old.line new.line (Fault why) stop → Walked rule t A n L old new (Err stop)
-fault-stops rule t A n L p why old new (Fault w) none here noted =
-    let new_is : new.line ≡ p ∷ [] = noted.1 ∙ ap (λ l. l ++ p ∷ []) none in
-    rw (new_is, noted.0) here
-fault-stops rule t A n L p why old new Spent none here noted = absurd noted
-fault-stops rule t A n L p why old new Memory none here noted = tt
+fault-stops rule t x2 n x4 p why old new x9 none here noted = search rules
 
 -- ---- steps
 
@@ -50,22 +41,12 @@ fault-stops rule t A n L p why old new Memory none here noted = tt
 pub taken : (rule : RuleKind) (t : List Node) (A : Type 0) (n : ℕ) (L : List Point → Why → Type 0) (old new : Walk)
     (r : Result (Unit {0}) Stop)
     → old.line ≡ [] → IsTrueMemo rule t old.memo → A → Takes n old new r → Walked rule t A n L old new r
-taken rule t A n L old new (Ok done) none memo a takes = (
-  a,
-  record {
-    counted = sym (ap (λ (w : Walk). w.left) takes);
-    no_line = sym (ap (λ (w : Walk). w.line) takes) ∙ none;
-    memo = subst (λ (m : Late). IsTrueMemo rule t m) (ap (λ (w : Walk). w.memo) takes) memo;
-  },
-)
-taken rule t A n L old new (Err stop) none memo a takes = rw takes.0 takes.1
+taken rule t x2 n x4 old new x7 none memo a takes = search rules
 
 -- a walk that has taken arrivals may step on
 pub taken-ready : (rule : RuleKind) (t : List Node) (b : Grid) (n : ℕ) (old new : Walk) → IsReady rule t b old → Takes n old new (Ok tt)
     → IsReady rule t b new
-taken-ready rule t b n old new ready takes =
-    let did = (taken rule t (Unit {0}) n (λ line why. ⊥) old new (Ok tt) ready.no_line ready.memo tt takes).1 in
-    record { lawful = ready.lawful; no_line = did.no_line; memo = did.memo }
+taken-ready rule t b n old new ready takes = search rules
 
 -- a stop where arrivals were to be taken
 pub taken-short : (rule : RuleKind) (t : List Node) (A : Type 0) (k n : ℕ) (L : List Point → Why → Type 0) (old new : Walk) (stop : Stop)
@@ -78,31 +59,23 @@ taken-short rule t A k n L old new stop least takes = let short = takes.1 in rw 
 pub attack-stops : (rule : RuleKind) (t : List Node) (i : ℕ) (b : Grid) (n : Node) (why : Why) (u : Outcome) (old new : Walk) (stop : Stop)
     → slice_get t i ≡ Some n → u ≡ outcome rule b n.attack → attack_fault u n.rest ≡ Some why
     → old.line ≡ [] → IsNoted n.attack old.line new.line (Fault why) stop → WalkedNode rule t i b old new (Err stop)
-attack-stops rule t i b n why u old new stop at o h none noted =
-    fault-stops rule t (Accepted rule t i b) (arrivals rule t i b) (Leads rule t i b) n.attack why old new stop none
-    (leads-attack rule t i b n why at (ap (λ (v : Outcome). attack_fault v n.rest) (sym o) ∙ h)) noted
+attack-stops rule t i b n why u old new stop at o h none noted = search (rules, fault-stops, leads-attack)
 
 -- an attack that goes on, and a line from one of the replies to it
 pub attack-then-leads : (rule : RuleKind) (t : List Node) (i : ℕ) (b : Grid) (n : Node) (line : List Point) (why : Why)
     → slice_get t i ≡ Some n → outcome rule b n.attack ≡ GoesOn → is_winning n.rest ≡ false
     → LeadsStart rule t (answers_of n) (after b n.attack) line why → Leads rule t i b (n.attack ∷ line) why
-attack-then-leads rule t i b n [] why at on more h = absurd h
-attack-then-leads rule t i b n (q ∷ line) why at on more h = leads-reply rule t i b n q line why at on more h
+attack-then-leads rule t i b n x5 why at on more h = search (rules, leads-reply)
 
 -- a reply that is no move is met, with no arrivals
 pub refused-reply : (rule : RuleKind) (t : List Node) (a : Answers) (b : Grid) (q : Point) (now : Walk) → IsReady rule t b now
     → is_empty b q ≡ false → WalkedReply rule t a b q now now (Ok tt)
-refused-reply rule t a b q now ready taken =
-    let none = arrivals-stops rule t a b q Refused (taken_refused rule b q taken) (λ e. cc) in (
-      met-no_move rule t a b q (taken_refused rule b q taken),
-      record { counted = omega (arith, none); no_line = ready.no_line; memo = ready.memo },
-    )
+refused-reply rule t a b q now ready taken = search (rules, arrivals-stops, taken_refused, met-no_move)
 
 -- ---- the items of a list from one on
 
 pub drop-none : {X : Type 0} (xs : List X) → drop 0 xs ≡ xs
-drop-none [] = refl
-drop-none (x ∷ xs) = refl
+drop-none x0 = search rules
 
 pub drop-at : {X : Type 0} (xs : List X) (i : ℕ) (x : X) → slice_get xs i ≡ Some x → drop i xs ≡ x ∷ drop (i + 1) xs
 drop-at [] i x h = cc

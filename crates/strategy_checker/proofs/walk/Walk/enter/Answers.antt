@@ -1,11 +1,11 @@
-use Rattle.std.proofs.Common.{◌≡◌, ◌<◌, ℕ, Bool, reverse, refl, sym, ap, subst, ◌∙◌, arith}
-use Rattle.std.specs.Prelude.{Some, None, if◌then◌else◌}
+use Rattle.std.proofs.Common.{◌≡◌, ◌<◌, ℕ, reverse, refl, sym, ap, subst, ◌∙◌, arith}
+use Rattle.std.specs.Prelude.{if◌then◌else◌}
 use Rattle.std.proofs.lemmas.Result.{err_from_is_err_and}
 use Rattle.game_rules.specs.Grid.{Grid}
 use Rattle.game_rules.specs.Play.{outcome}
-use Rattle.game_rules.specs.declared.Outcome.TheVariants.{Refused, Wins, Fouls, Draws, GoesOn}
+use Rattle.game_rules.specs.declared.Outcome.TheVariants.{Wins}
 use Rattle.game_rules.specs.declared.RuleKind.{RuleKind}
-use Rattle.strategy_graph.specs.declared.Why.TheVariants.{AttackRefused, AttackFouls, AttackDraws, NotWon}
+use Rattle.strategy_graph.specs.declared.Why.TheVariants.{NotWon}
 use Rattle.strategy_graph.specs.Acceptance.{Accepted}
 use Rattle.strategy_graph.specs.Arrivals.{arrivals}
 use Rattle.strategy_graph.specs.Leads.{Leads}
@@ -42,19 +42,16 @@ returns-in_err-take-in-Wins-clause-entered g c =
 
 pub returns-then-is_winning-clause-entered : goal.returns-then-is_winning-clause-entered
 returns-then-is_winning-clause-entered g c = (
-  entered-stops g.R.Rule.KIND c.args.table.now c.args.i c.args.position.now c.node-node.result.now NotWon GoesOn c.args.self.now.left
-      c.look.new.self c.fault-then-is_winning.new.self c.fault-then-is_winning.result c.look.ensures.left
-      c.node-node.ensures.node c.in-GoesOn.ensures.outcome
-      (ap (λ (r : Bool). if r then Some NotWon else None) (sym c.is_winning.ensures.wins ∙ c.if-is_winning.true))
-      c.look.ensures.ready.no_line c.fault-then-is_winning.ensures.noted,
+  entered-stops g.R.Rule.KIND c.args.table.now c.args.i c.args.position.now {why = NotWon} c.look.new.self c.fault-then-is_winning.new.self
+      c.fault-then-is_winning.result c.look.ensures.left c.node-node.ensures.node c.in-GoesOn.ensures.outcome
+      (rw (sym c.is_winning.ensures.wins ∙ c.if-is_winning.true)) c.look.ensures.ready.no_line c.fault-then-is_winning.ensures.noted,
   c.in-GoesOn.ensures.same,
 )
 
 pub returns-in-Refused-clause-entered : goal.returns-in-Refused-clause-entered
 returns-in-Refused-clause-entered g c = (
-  entered-stops g.R.Rule.KIND c.args.table.now c.args.i c.args.position.now c.node-node.result.now AttackRefused Refused
-      c.args.self.now.left c.look.new.self c.fault.new.self c.fault.result c.look.ensures.left
-      c.node-node.ensures.node c.in-Refused.ensures.outcome refl c.look.ensures.ready.no_line c.fault.ensures.noted,
+  entered-stops g.R.Rule.KIND c.args.table.now c.args.i c.args.position.now c.look.new.self c.fault.new.self c.fault.result
+      c.look.ensures.left c.node-node.ensures.node c.in-Refused.ensures.outcome refl c.look.ensures.ready.no_line c.fault.ensures.noted,
   c.in-Refused.ensures.same,
 )
 
@@ -78,16 +75,16 @@ returns-in_ok-take-in-Wins-clause-entered g c =
 
 pub returns-in-Fouls-clause-entered : goal.returns-in-Fouls-clause-entered
 returns-in-Fouls-clause-entered g c = (
-  entered-stops g.R.Rule.KIND c.args.table.now c.args.i c.args.position.now c.node-node.result.now AttackFouls (Fouls c.in-Fouls.field-0)
-      c.args.self.now.left c.look.new.self c.fault-in-Fouls.new.self c.fault-in-Fouls.result c.look.ensures.left
-      c.node-node.ensures.node c.in-Fouls.ensures.outcome refl c.look.ensures.ready.no_line c.fault-in-Fouls.ensures.noted,
+  entered-stops g.R.Rule.KIND c.args.table.now c.args.i c.args.position.now c.look.new.self c.fault-in-Fouls.new.self
+      c.fault-in-Fouls.result c.look.ensures.left c.node-node.ensures.node c.in-Fouls.ensures.outcome refl c.look.ensures.ready.no_line
+      c.fault-in-Fouls.ensures.noted,
   c.in-Fouls.ensures.same,
 )
 
 pub returns-in-Draws-clause-entered : goal.returns-in-Draws-clause-entered
 returns-in-Draws-clause-entered g c = (
-  entered-stops g.R.Rule.KIND c.args.table.now c.args.i c.args.position.now c.node-node.result.now AttackDraws Draws
-      c.args.self.now.left c.look.new.self c.fault-in-Draws.new.self c.fault-in-Draws.result c.look.ensures.left
-      c.node-node.ensures.node c.in-Draws.ensures.outcome refl c.look.ensures.ready.no_line c.fault-in-Draws.ensures.noted,
+  entered-stops g.R.Rule.KIND c.args.table.now c.args.i c.args.position.now c.look.new.self c.fault-in-Draws.new.self
+      c.fault-in-Draws.result c.look.ensures.left c.node-node.ensures.node c.in-Draws.ensures.outcome refl c.look.ensures.ready.no_line
+      c.fault-in-Draws.ensures.noted,
   c.in-Draws.ensures.same,
 )

@@ -1,11 +1,7 @@
-use Rattle.std.proofs.Common.{◌≡◌, ◌∷◌, sym, subst, ◌∙◌}
-use Rattle.game_rules.specs.Grid.{Grid, lift}
-use Rattle.game_rules.specs.declared.Point.{Point}
-use Rattle.game_rules.specs.declared.RuleKind.{RuleKind}
+use Rattle.std.proofs.Common.{◌≡◌, ◌∷◌, sym, ◌∙◌}
+use Rattle.std.proofs.lemmas.Option.{same_Some}
+use Rattle.game_rules.specs.Grid.{lift}
 use Rattle.game_rules.proofs.Undo.{stone_back}
-use Rattle.strategy_graph.specs.declared.Node.{Node}
-use Rattle.strategy_checker.specs.Walks.{IsNoted}
-use Rattle.strategy_checker.specs.Meetings.{Stops, left_at}
 use Rattle.strategy_checker.proofs.Stages.{stage-stops, waits-stops}
 use Rattle.strategy_checker.proofs.walk.Walk.give_up.Goals as goal
 
@@ -22,19 +18,8 @@ undo-requires-2-clause-stone g c =
     c.node.result.now.attack waits.stage.lawful waits.stage.on (c.undo.ensures.undone ∙ sym waits.stage.back)
 
 pub returns-clause-stops : goal.returns-clause-stops
-returns-clause-stops g c =
-    λ n i start waits stops.
-    let rule : RuleKind = g.R.Rule.KIND in
-    let q : Point = c.args.stage.now.meeting.reply in
-    let b : Grid = lift c.args.position.now q in
-    let at = waits.stage.at in
-    let found = c.node.ensures.node in
-    let same : c.node.result.now ≡ n = cc in
-    stage-stops rule c.args.table.now n b c.args.stage.now (q ∷ left_at n b c.args.stage.now) start c.noted-last.new.self c.noted.new.self
-    c.noted-last.result c.noted.result waits.stage
-    (waits-stops rule c.args.table.now n b c.args.stage.now i start waits c.args.self.now c.noted-last.new.self c.args.stop
-    c.noted-last.result
-    (subst (λ (w : Grid). Stops rule c.args.table.now i w start c.args.self.now c.args.stop) (sym c.requires.there) stops)
+returns-clause-stops g c = λ n i start waits stops.
+    stage-stops c.noted-last.new.self c.noted.new.self c.noted-last.result c.noted.result waits.stage
+    (waits-stops waits c.args.self.now c.noted-last.new.self c.args.stop c.noted-last.result (rw c.requires.there stops)
     c.noted-last.ensures.noted)
-    (subst (λ (m : Node). IsNoted m.attack c.noted-last.new.self.line c.noted.new.self.line c.noted-last.result c.noted.result) same
-    c.noted.ensures.noted)
+    (rw (same_Some _ n (sym c.node.ensures.node ∙ waits.stage.at)) at c.noted.ensures.noted)
