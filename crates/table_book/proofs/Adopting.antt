@@ -1,8 +1,8 @@
 -- The nodes of a table, adopted one after the other: each is a copy under its new number, and is the same node. So what is held is
 -- what was held before, and the nodes of the table.
-use Rattle.std.proofs.Common.{◌≡◌, ◌⊎◌, inl, inr, ℕ, zero, suc, ◌<◌, ◌≤◌, ◌+◌, true, List, [], ◌∷◌, ◌++◌, length, refl, sym, ap}
-use Rattle.std.proofs.Common.{subst, ◌∙◌, arith, Some, nat_lt, slice_get, slice_index, Contains, length-append}
-use Rattle.std.proofs.Common.{append-nil, append_assoc, Result, Ok, Err}
+use Rattle.std.proofs.Common.{◌≡◌, ◌⊎◌, inl, inr, ℕ, suc, ◌<◌, ◌≤◌, ◌+◌, true, List, [], ◌∷◌, ◌++◌, length, refl, sym, ap}
+use Rattle.std.proofs.Common.{subst, ◌∙◌, arith, Some, nat_lt, slice_get, slice_index, Contains, length-append, rules}
+use Rattle.std.proofs.Common.{append-nil, append_assoc, Result, Err}
 use Rattle.std.specs.Result.{IsErrAnd}
 use Rattle.std.specs.List.{AllByRecursion}
 use Rattle.std.proofs.lemmas.Bool.{cases_lt}
@@ -27,7 +27,7 @@ use Rattle.strategy_compiler.proofs.Common.{IsCompiled, PutsIn}
 use Rattle.strategy_compiler.proofs.Unfolding.{node-inside, unfolded-copied, unfolded-longer, held-one_more, held-within}
 use Rattle.strategy_compiler.specs.Unfolded.{Unfolded, IsHeld, HoldMore, unfolded}
 use Rattle.strategy_compiler.specs.declared.compiler.CompileError.{CompileError}
-use Rattle.strategy_compiler.specs.declared.compiler.CompileError.TheVariants.{Full, Memory}
+use Rattle.strategy_compiler.specs.declared.compiler.CompileError.TheVariants.{Full}
 use Rattle.table_book.specs.declared.binder.BindError.{BindError}
 use Rattle.table_book.specs.declared.binder.BindError.TheVariants.{Full as FullBook}
 use Rattle.table_book.specs.Binding.{AreNumbers, Stays, bind_error}
@@ -48,13 +48,10 @@ pub record AdoptedUpTo (old t new : List Node) (numbers : List ℕ) (i : ℕ) : 
 -- ---- tables among one or two
 
 pub among-one : (u v : List Node) → Contains (u ∷ []) v → u ≡ v
-among-one u v (zero, l, e) = e
-among-one u v (suc k, l, e) = absurd (omega arith)
+among-one u v x2 = search rules
 
 pub among-two : (t u v : List Node) → Contains (t ∷ u ∷ []) v → (t ≡ v) ⊎ (u ≡ v)
-among-two t u v (zero, l, e) = inl e
-among-two t u v (suc zero, l, e) = inr e
-among-two t u v (suc (suc k), l, e) = absurd (omega arith)
+among-two t u v x3 = search rules
 
 held-first : (t u : List Node) (k : ℕ) → k < length t → IsHeld (t ∷ u ∷ []) (unfolded t k)
 held-first t u k l = (t, k, (0, omega arith, refl), l, refl)
@@ -106,18 +103,7 @@ renumbered-fits f n k fits node few =
 pub adopted-none : (old t new : List Node) (numbers : List ℕ) → IsCompiled old → AllByRecursion (NodeFits MAX_SIDE MAX_SIDE) old
     → new ≡ old → numbers ≡ []
     → AdoptedUpTo old t new numbers 0
-adopted-none old t new numbers compiled fit e none = record {
-  count = ap length none;
-  copied = λ j n l at. absurd (omega arith);
-  compiled = subst IsCompiled (sym e) compiled;
-  more = [];
-  grown = e ∙ sym (append-nil old);
-  held = λ k l. subst (λ (u : List Node). (k : ℕ) → k < length u → IsHeld (old ∷ t ∷ []) (unfolded u k)) (sym e)
-      (λ k l. held-first old t k l) k l;
-  fit = subst (AllByRecursion (NodeFits MAX_SIDE MAX_SIDE)) (sym e) fit;
-  covered = λ k low high. let same : length new ≡ length old = ap length e in absurd (omega arith);
-  in_order = λ k q low high is. absurd (omega arith);
-}
+adopted-none old t new numbers compiled fit e none = search (rules, append-nil, held-first)
 
 module _ (old t new : List Node) (numbers : List ℕ) (i : ℕ) (n m : Node) (h : AdoptedUpTo old t new numbers i) (table : IsTable t)
     (at : slice_get t i ≡ Some n) (is : m ≡ renumbered_node (λ j. slice_index numbers j) n) where
@@ -133,8 +119,7 @@ module _ (old t new : List Node) (numbers : List ℕ) (i : ℕ) (n m : Node) (h 
 
   module _ (x : ℕ) (numbers' : List ℕ) (pushed : numbers' ≡ numbers ++ x ∷ []) where
     number-before : (j : ℕ) → j < i → slice_index numbers' j ≡ slice_index numbers j
-    number-before j l =
-        ap (λ (xs : List ℕ). slice_index xs j) pushed ∙ get_or_append_left numbers (x ∷ []) 0 j (let count = h.count in omega arith)
+    number-before j l = search (rules, get_or_append_left)
 
     number-last : slice_index numbers' i ≡ x
     number-last = ap (λ (xs : List ℕ). slice_index xs i) pushed ∙ get_or_push numbers x 0 i h.count
@@ -175,17 +160,13 @@ module _ (old t new : List Node) (numbers : List ℕ) (i : ℕ) (n m : Node) (h 
   new-lower = IsTable-lower new h.compiled.table
 
   grows-by : (new' : List Node) → PutsIn new m new' → (more' : List Node) × (new' ≡ new ++ more')
-  grows-by new' (inl k) = ([], k.1 ∙ sym (append-nil new))
-  grows-by new' (inr k) = (m ∷ [], k.1)
+  grows-by new' x1 = search (rules, append-nil)
 
   stays-by : (new' more' : List Node) → new' ≡ new ++ more' → (k : ℕ) (v : Node) → slice_get new k ≡ Some v → slice_get new' k ≡ Some v
   stays-by new' more' e k v a = ap (λ (u : List Node). slice_get u k) e ∙ slice_get-longer new more' k v a
 
   fits-by : NodeFits MAX_SIDE MAX_SIDE n → NodeFits MAX_SIDE MAX_SIDE m
-  fits-by fits =
-      subst (NodeFits MAX_SIDE MAX_SIDE) (sym is)
-      (renumbered-fits (λ j. slice_index numbers j) n (length new) fits (subst (λ (v : Node). IsNode v (length new)) is adopt-node)
-      h.compiled.table.size)
+  fits-by fits = search (rules, renumbered-fits, adopt-node)
 
   module _ (x : ℕ) (numbers' : List ℕ) (pushed : numbers' ≡ numbers ++ x ∷ []) (new' : List Node) (put : PutsIn new m new')
       (there : slice_get new' x ≡ Some m) (compiled : IsCompiled new') where
@@ -212,11 +193,7 @@ module _ (old t new : List Node) (numbers : List ℕ) (i : ℕ) (n m : Node) (h 
       by_put (inr e) = by_place e.1 (cases_lt k (length new))
 
     fit-more : NodeFits MAX_SIDE MAX_SIDE n → AllByRecursion (NodeFits MAX_SIDE MAX_SIDE) new'
-    fit-more fits = by_put put where
-      by_put : PutsIn new m new' → AllByRecursion (NodeFits MAX_SIDE MAX_SIDE) new'
-      by_put (inl e) = subst (AllByRecursion (NodeFits MAX_SIDE MAX_SIDE)) (sym e.1) h.fit
-      by_put (inr e) = subst (AllByRecursion (NodeFits MAX_SIDE MAX_SIDE)) (sym e.1)
-          (all_push (NodeFits MAX_SIDE MAX_SIDE) new m h.fit (fits-by fits))
+    fit-more fits = search (rules, all_push, fits-by)
 
     -- each of the new nodes has its place
     covered-by : (k : ℕ) → length old ≤ k → k < length new' → (p : ℕ) × (p < i + 1) × (slice_index numbers' p ≡ k)
@@ -300,11 +277,7 @@ module _ (old t new : List Node) (numbers : List ℕ) (i : ℕ) (h : AdoptedUpTo
 
   module _ (table : IsTable t) (whole : i ≡ length t) where
     pub adopted-numbers : AreNumbers old t new numbers
-    adopted-numbers = record {
-      count = h.count ∙ whole;
-      each = λ j n at. h.copied j n (let l = slice_get_within t j n at in omega arith) at;
-      in_order = λ k q low high is. h.in_order k q low (omega arith) is;
-    }
+    adopted-numbers = search (rules, slice_get_within)
 
     -- each node that is held by the old nodes, or by the table, is one of the new nodes
     pub adopted-holds : NamesLower old → (w : Unfolded) → IsHeld (old ∷ t ∷ []) w → (x : ℕ) × (x < length new) × (unfolded new x ≡ w)
@@ -339,6 +312,4 @@ module _ (old t new : List Node) (numbers : List ℕ) (i : ℕ) (h : AdoptedUpTo
 
 -- a file is refused as full where a node is
 pub full-from : {A : Type 0} (r : Result A BindError) (e : CompileError) → IsErrAnd r (λ b. b ≡ bind_error e) → r ≡ Err FullBook → e ≡ Full
-full-from (Ok x) e h f = absurd h
-full-from (Err b) Full h f = refl
-full-from (Err b) Memory h f = cc
+full-from x0 e h f = search rules

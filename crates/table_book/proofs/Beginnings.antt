@@ -1,10 +1,9 @@
 -- How texts begin: a book with its first line, and a table with another.
-use Rattle.std.proofs.Common.{◌≡◌, ℕ, sym, ap, ◌∙◌, arith, List, drop, get_or}
+use Rattle.std.proofs.Common.{◌≡◌, ℕ, ◌∙◌, List, drop, rules}
 use Rattle.game_rules.specs.Grid.{Grid}
 use Rattle.game_rules.specs.declared.RuleKind.{RuleKind}
 use Rattle.strategy_graph.specs.declared.Node.{Node}
 use Rattle.strategy_graph.specs.declared.roots.Root.{Root}
-use Rattle.strategy_graph.specs.declared.roots.Root.TheVariants.{Attack, Defend}
 use Rattle.text_lines.specs.Lines.{text_of}
 use Rattle.position_files.specs.declared.TableFile.{TableFile}
 use Rattle.position_files.specs.Tables.{IsTextOfTable, table_text}
@@ -19,10 +18,7 @@ book-begins book bytes text = (text_of (drop 1 (book_lines book)), text.spelled)
 begins-apart : (kind : RuleKind) (b : Grid) (nodes : List Node) (root : Root) (moves : ℕ) (bytes : List ℕ)
     → bytes ≡ table_text kind b nodes root moves → BeginsBook bytes → ⊥
 unfolding table_text
-begins-apart kind b nodes (Attack r) moves bytes e begins = let letter : 116 ≡ 98 =
-    ap (λ (l : List ℕ). get_or l 6 0) (sym e ∙ begins.1) in omega (arith, letter)
-begins-apart kind b nodes (Defend a) moves bytes e begins = let letter : 116 ≡ 98 =
-    ap (λ (l : List ℕ). get_or l 6 0) (sym e ∙ begins.1) in omega (arith, letter)
+begins-apart kind b nodes x3 moves bytes e begins = search rules
 
 -- that of a table does not
 pub table-no-book : (file : TableFile) (bytes : List ℕ) → IsTextOfTable file bytes → BeginsBook bytes → ⊥

@@ -1,19 +1,16 @@
 -- Files that are bound into a book one after the other: what the book has of them stays as it grows.
 use Rattle.std.proofs.Common.{◌≡◌, ◌⊎◌, inl, inr, ◌↔◌, ℕ, zero, suc, ◌<◌, ◌≤◌, ◌+◌, List, [], ◌∷◌, ◌++◌, length, refl, sym, ap}
-use Rattle.std.proofs.Common.{subst, ◌∙◌, arith, Some, slice_get, Contains, length-append, append-nil}
+use Rattle.std.proofs.Common.{subst, ◌∙◌, arith, Some, slice_get, Contains, length-append, append-nil, rules}
 use Rattle.std.proofs.Common.{append_assoc}
 use Rattle.std.specs.List.{AllByRecursion}
 use Rattle.std.proofs.lemmas.Bool.{cases_lt}
 use Rattle.std.proofs.lemmas.List.{map-append}
 use Rattle.std.proofs.lemmas.List.Elements.{Contains-append_cases, Contains-append_left, Contains-append_right}
 use Rattle.std.proofs.lemmas.Option.{slice_get_within}
-use Rattle.game_rules.specs.declared.TheConstants.{MAX_SIDE}
-use Rattle.position_files.specs.Answers.{NodeFits}
 use Rattle.position_files.specs.declared.TableFile.{TableFile}
 use Rattle.strategy_graph.specs.declared.Node.{Node}
 use Rattle.strategy_graph.specs.declared.TheConstants.{MAX_NODES}
 use Rattle.strategy_graph.specs.declared.roots.Root.{Root}
-use Rattle.strategy_graph.specs.declared.roots.Root.TheVariants.{Attack, Defend}
 use Rattle.strategy_graph.proofs.Common.{NamesLower}
 use Rattle.strategy_graph.proofs.Filling.{IsTable-lower}
 use Rattle.strategy_graph.proofs.Saying.{iff-then, root-grown}
@@ -23,7 +20,7 @@ use Rattle.strategy_compiler.proofs.Unfolding.{unfolded_nodes-there}
 use Rattle.strategy_compiler.specs.Unfolded.{HoldMore, IsHeld, Unfolded, unfolded, unfolded_nodes}
 use Rattle.table_book.specs.declared.Book.{Book}
 use Rattle.table_book.specs.declared.Entry.{Entry}
-use Rattle.table_book.specs.Books.{EntryFits, IsSound, EntryRootFits}
+use Rattle.table_book.specs.Books.{EntryFits, EntryRootFits}
 use Rattle.table_book.specs.Binding.{AddsFile, AreEntriesOf, AreInOrder, HoldSame, IsBinding, IsBound, IsEntryOf}
 use Rattle.table_book.specs.Binding.{SameRoot, Stays, nodes_of, tables_of}
 use Rattle.table_book.proofs.Adopting.{among-one, among-two}
@@ -33,10 +30,7 @@ use Rattle.table_book.proofs.Soundness.{root_fits-below}
 
 module _ (t u more : List Node) (lower : NamesLower u) where
   root-stays : (r s : Root) → EntryRootFits (length u) s → SameRoot t r u s → SameRoot t r (u ++ more) s
-  root-stays (Attack i) (Attack j) fits h = unfolded-longer u more lower j fits ∙ h
-  root-stays (Attack i) (Defend c) fits h = absurd h
-  root-stays (Defend a) (Attack j) fits h = absurd h
-  root-stays (Defend a) (Defend c) fits h = let grown = answers-longer u more lower c fits.below in (grown.0 ∙ h.0, grown.1 ∙ h.1)
+  root-stays x0 x1 fits h = search (rules, unfolded-longer, answers-longer)
 
 module _ (u more : List Node) (lower : NamesLower u) where
   entries-grown : (files : List TableFile) (es : List Entry) → AllByRecursion (EntryFits (length u)) es → AreEntriesOf files u es
@@ -44,16 +38,8 @@ module _ (u more : List Node) (lower : NamesLower u) where
   entries-grown [] [] fit h = tt
   entries-grown [] (e ∷ es) fit h = absurd h
   entries-grown (file ∷ files) [] fit h = absurd h
-  entries-grown (file ∷ files) (e ∷ es) fit h = (
-    record {
-      kind = h.0.kind;
-      board = h.0.board;
-      moves = h.0.moves;
-      same = root-stays file.table u more lower file.root e.root fit.0.root h.0.same;
-      root = root-grown file.table u more lower file.root e.root (root_fits-below (length u) e.root fit.0.root) h.0.root;
-    },
-    entries-grown files es fit.1 h.1,
-  )
+  entries-grown (file ∷ files) (e ∷ es) fit h =
+      search (rules, root-stays, root-grown, root_fits-below, entries-grown files es fit.1 h.1)
 
 entries-more : (t : List Node) (files : List TableFile) (es : List Entry) (file : TableFile) (e : Entry) → AreEntriesOf files t es
     → IsEntryOf file t e → AreEntriesOf (files ++ file ∷ []) t (es ++ e ∷ [])
@@ -94,12 +80,7 @@ held-more t tables w is = (is.0, is.1, (suc is.2.0, (let inside = is.2.1 in omeg
 -- what has a place among the nodes of the files is held by them, and the other way round
 place-held : (files : List TableFile) (q : ℕ) (w : Unfolded) → slice_get (nodes_of files) q ≡ Some w → IsHeld (tables_of files) w
 place-held [] q w e = cc
-place-held (file ∷ files) q w e = by_place (get-cases (unfolded_nodes file.table) (nodes_of files) q w e) (place-held files) where
-  by_place : (slice_get (unfolded_nodes file.table) q ≡ Some w) ⊎
-      ((k : ℕ) × (q ≡ length (unfolded_nodes file.table) + k) × (slice_get (nodes_of files) k ≡ Some w))
-      → ((k : ℕ) (w : Unfolded) → slice_get (nodes_of files) k ≡ Some w → IsHeld (tables_of files) w) → IsHeld (tables_of (file ∷ files)) w
-  by_place (inl e) next = let at = unfolded_nodes-at file.table q w e in (file.table, q, (0, omega arith, refl), at.0, at.1)
-  by_place (inr e) next = held-more file.table (tables_of files) w (next e.0 w e.2)
+place-held (file ∷ files) q w e = search (rules, get-cases, unfolded_nodes-at, held-more, place-held files)
 
 held-place : (files : List TableFile) (w : Unfolded) → IsHeld (tables_of files) w → (q : ℕ) × (slice_get (nodes_of files) q ≡ Some w)
 held-place [] w (t, i, c, l, e) = let none = c.1 in absurd (omega arith)
@@ -129,20 +110,7 @@ no-nodes : IsCompiled []
 no-nodes = record { table = record { nodes = λ i n at. cc; size = omega arith }; different = record { different = λ i j n at also. cc } }
 
 pub bound-none : (book : Book) → book.table ≡ [] → book.entries ≡ [] → IsBound [] book
-bound-none book none without = record {
-  binding = record {
-    compiled = subst IsCompiled (sym none) no-nodes;
-    nodes = subst (AllByRecursion (NodeFits MAX_SIDE MAX_SIDE)) (sym none) tt;
-    entries = subst (AllByRecursion (EntryFits (length book.table))) (sym without) tt;
-    sound = subst (AllByRecursion (IsSound book.table)) (sym without) tt;
-    few = let count : length book.entries ≡ 0 = ap length without in omega arith;
-  };
-  entries = subst (λ (es : List Entry). AreEntriesOf [] book.table es) (sym without) tt;
-  held = λ w. (λ is. absurd (empty is.0 is.1 (among-one book.table is.0 is.2) is.3), λ is. let l = is.2.1 in absurd (omega arith));
-  in_order = λ k q l at. let count : length book.table ≡ 0 = ap length none in absurd (omega arith);
-} where
-  empty : (t : List Node) (i : ℕ) → book.table ≡ t → i < length t → ⊥
-  empty t i same l = let count : length t ≡ 0 = ap length (sym same ∙ none) in omega arith
+bound-none book none without = search (rules, no-nodes, among-one)
 
 -- ---- one file more
 

@@ -1,6 +1,6 @@
 -- Where bytes leave the lines of books, and the first bad line of their texts.
 use Rattle.std.proofs.Common.{◌≡◌, ℕ, ◌+◌, ◌≤◌, refl, sym, ap, subst, ◌∙◌, arith, List, [], ◌∷◌, ◌++◌, length, map, take, drop}
-use Rattle.std.proofs.Common.{take-append-drop, replicate, get_or, inl, inr, None, codes}
+use Rattle.std.proofs.Common.{take-append-drop, replicate, get_or, inl, inr, None, codes, rules}
 use Rattle.std.specs.List.{AllByRecursion, flat_map}
 use Rattle.std.specs.Fmt.{decimal}
 use Rattle.std.proofs.lemmas.Bool.{cases_lt}
@@ -65,19 +65,7 @@ rest_nodes_fault k bytes error h = fault_in (AreNodeLines MAX_SIDE MAX_SIDE k) (
 
 module _ (k : ℕ) (t : List Node) (nodes : AreNodes MAX_SIDE MAX_SIDE k t) where
   end_in_rest : HasParts (map node_line t) (IsEndLines k) (IsRestLines k)
-  end_in_rest = record {
-    free = node_lines-free MAX_SIDE MAX_SIDE largest_side largest_side t nodes.fit;
-    whole = λ l is. ([], (t, l, nodes, is, ap (λ (m : List (List ℕ)). map node_line t ++ m) (append-nil l)));
-    parts = λ ls is. record {
-      first = map node_line is.0;
-      part = is.1;
-      more = [];
-      lines = is.4 ∙ ap (λ (m : List (List ℕ)). map node_line is.0 ++ m) (sym (append-nil is.1));
-      free = node_lines-free MAX_SIDE MAX_SIDE largest_side largest_side is.0 is.2.fit;
-      count = length-map is.0 node_line ∙ is.2.counted ∙ sym (length-map t node_line ∙ nodes.counted);
-      are = λ same. is.3;
-    };
-  }
+  end_in_rest = search (rules, node_lines-free, largest_side, append-nil, length-map)
 
   pub rest_end_fault : (bytes rest : List ℕ) → bytes ≡ text_of (map node_line t) ++ rest → (error : HeadError)
       → IsSectionFault (IsEndLines k) rest error → IsSectionFault (IsRestLines k) bytes (after_lines k error)
@@ -86,12 +74,7 @@ module _ (k : ℕ) (t : List Node) (nodes : AreNodes MAX_SIDE MAX_SIDE k t) wher
 
 pub rest_has : (k : ℕ) (t : List Node) (es : List Entry) → AreNodes MAX_SIDE MAX_SIDE k t → AllByRecursion (EntryFits k) es
     → IsBetween 1 MAX_ENTRIES (length es) → HasText (record { table = t; entries = es })
-rest_has k t es nodes fits some = record {
-  table = nodes.table;
-  nodes = nodes.fit;
-  entries = subst (λ n. AllByRecursion (EntryFits n) es) (sym nodes.counted) fits;
-  some = some;
-}
+rest_has k t es nodes fits some = search rules
 
 -- ---- a book
 
@@ -208,11 +191,7 @@ module _ (k : ℕ) (few : k ≤ MAX_NODES) where
 pub all_text : (k : ℕ) (book : Book) (bytes r1 r2 rest : List ℕ) → length book.table ≡ k → bytes ≡ first_line ++ line_feed ∷ r1
     → r1 ≡ nodes_line k ++ line_feed ∷ r2 → r2 ≡ text_of (rest_lines book) ++ rest → bytes ≡ text_of (book_lines book) ++ rest
 unfolding book_lines
-all_text k book bytes r1 r2 rest count e1 e2 e3 =
-    e1 ∙ ap (λ (l : List ℕ). first_line ++ line_feed ∷ l)
-    (e2 ∙ ap (λ (l : List ℕ). nodes_line k ++ line_feed ∷ l) e3 ∙ text_of-cons (nodes_line k) (rest_lines book) rest)
-    ∙ text_of-cons first_line (nodes_line k ∷ rest_lines book) rest
-    ∙ ap (λ c. text_of (first_line ∷ nodes_line c ∷ rest_lines book) ++ rest) (sym count)
+all_text k book bytes r1 r2 rest count e1 e2 e3 = search (rules, text_of-cons)
 
 -- ---- whole texts
 

@@ -1,6 +1,6 @@
 -- The lines of books: they have no line feed, and spell one book.
 use Rattle.std.proofs.Common.{◌≡◌, ℕ, ◌+◌, ◌*◌, refl, sym, ap, ◌∙◌, arith, List, [], ◌∷◌, ◌++◌, append_assoc, length, map, drop, get_or}
-use Rattle.std.proofs.Common.{codes, Bor}
+use Rattle.std.proofs.Common.{codes, Bor, rules}
 use Rattle.std.specs.Prelude.{◌↔◌, IsTrue, Option, Some, None, is_some, option_copied}
 use Rattle.std.specs.List.{flat_map}
 use Rattle.std.specs.Fmt.{decimal}
@@ -35,11 +35,7 @@ book-free book has =
 
 pub book-length : (book : Book) → length (book_lines book) ≡ 3 + length book.table + 6 * length book.entries
 unfolding book_lines
-book-length book =
-    let nodes = length-map book.table node_line in
-    let entries = entries-length book.entries in
-    let sum = length-append (map node_line book.table) (entries_line (length book.entries) ∷ flat_map entry_lines book.entries) in
-    omega (arith, nodes, entries, sum)
+book-length book = search (rules, length-map, entries-length, length-append)
 
 -- where the lines of a book begin those of another, both have as many nodes and as many entries
 pub record SameNumbers (book other : Book) : Type 0 where
@@ -93,16 +89,13 @@ book_lines-injective book other has has_other e =
 -- bytes are the text of one book
 pub one_book : (book other : Book) (bytes : List ℕ) → IsTextOfBook book bytes → IsTextOfBook other bytes → other ≡ book
 unfolding book_text
-one_book book other bytes text is = book_lines-injective other book is.has text.has
-    (text_of-injective (book_lines other) (book_lines book) (book-free other is.has) (book-free book text.has)
-    (sym is.spelled ∙ text.spelled))
+one_book book other bytes text is = search (rules, book_lines-injective, text_of-injective, book-free)
 
 -- bytes that are the lines of a book and nothing more are its text
 pub whole_book : (book : Book) (bytes rest : List ℕ) → HasText book → bytes ≡ text_of (book_lines book) ++ rest → rest ≡ []
     → IsTextOfBook book bytes
 unfolding book_text
-whole_book book bytes rest has text end =
-    record { has = has; spelled = text ∙ ap (λ (l : List ℕ). text_of (book_lines book) ++ l) end ∙ append-nil (text_of (book_lines book)) }
+whole_book book bytes rest has text end = search (rules, append-nil)
 
 -- the first line is read where it is that of a book, and only there
 pub begins_book : (bytes : List ℕ) (r : Option (Bor (List ℕ)))

@@ -1,6 +1,6 @@
 -- What a binder holds stays as its nodes grow, and the entry of a file says in the book what the file says.
 use Rattle.std.proofs.Common.{◌≡◌, ◌⊎◌, inl, inr, ◌↔◌, ℕ, suc, ◌<◌, ◌≤◌, ◌+◌, true, false, List, [], ◌∷◌, ◌++◌, length, refl}
-use Rattle.std.proofs.Common.{sym, ap, subst, ◌∙◌, arith, nat_lt, slice_index, map, length-append}
+use Rattle.std.proofs.Common.{sym, ap, subst, ◌∙◌, arith, nat_lt, slice_index, map, length-append, rules}
 use Rattle.std.specs.List.{list_all, AllByRecursion}
 use Rattle.std.proofs.lemmas.Option.{slice_get_within}
 use borrow.Author.Tests.{ltb-true, lt-ltb}
@@ -45,12 +45,7 @@ unfoldable use Rattle.table_book.proofs.Adopting.{largest}
 
 on-largest : (b : Grid) (p : Point) → IsBoard b → is_on b p ≡ true → is_on largest p ≡ true
 unfolding largest
-on-largest b p ok on =
-    let x = on_x b p on in
-    let y = on_y b p on in
-    let w = ok.width_fits in
-    let h = ok.height_fits in
-    rw (lt-ltb p.x MAX_SIDE (omega arith), lt-ltb p.y MAX_SIDE (omega arith)) refl
+on-largest b p ok on = search (rules, on_x, on_y, lt-ltb)
 
 replies-largest : (b : Grid) (rs : List Reply) → IsBoard b → RepliesOn b rs → RepliesOn largest rs
 replies-largest b [] ok on = tt
@@ -58,10 +53,7 @@ replies-largest b (r ∷ rs) ok on = (on-largest b r.at ok on.0, replies-largest
 
 table-largest : (b : Grid) (t : List Node) → IsBoard b → TableOnBoard b t → TableOnBoard largest t
 table-largest b [] ok on = tt
-table-largest b (n ∷ t) ok on = (
-  record { attack = on-largest b n.attack ok on.0.attack; replies = replies-largest b n.replies ok on.0.replies },
-  table-largest b t ok on.1,
-)
+table-largest b (n ∷ t) ok on = search (rules, on-largest, replies-largest, table-largest b t ok on.1)
 
 -- the nodes of a table's text fit a book
 pub text-fits : (file : TableFile) (bytes : List ℕ) → IsTextOfTable file bytes → AllByRecursion (NodeFits MAX_SIDE MAX_SIDE) file.table
@@ -70,16 +62,12 @@ text-fits file bytes is = nodes_fit largest file.table (table-largest file.board
 
 -- its root names nodes of the table
 pub text-below : (file : TableFile) (bytes : List ℕ) → IsTextOfTable file bytes → root_below file.root (length file.table) ≡ true
-text-below file bytes is = by_root file.root is.root where
-  by_root : (root : Root) → RootFits file.board file.table root file.moves → root_below root (length file.table) ≡ true
-  by_root (Attack i) fits = let last = fits.0 in lt-ltb i (length file.table) (omega arith)
-  by_root (Defend a) fits = fits.1
+text-below file bytes is = search (rules, lt-ltb)
 
 -- ---- as nodes grow
 
 root-grown : (k m : ℕ) (root : Root) → k ≤ m → EntryRootFits k root → EntryRootFits m root
-root-grown k m (Attack i) l fits = omega arith
-root-grown k m (Defend a) l fits = record { answers = fits.answers; start = fits.start; below = names_below-more a k m l fits.below }
+root-grown k m x2 l fits = search (rules, names_below-more)
 
 module _ (t more : List Node) (lower : NamesLower t) where
   longer : length t ≤ length (t ++ more)
@@ -95,42 +83,19 @@ module _ (t more : List Node) (lower : NamesLower t) where
   sound-grown : (es : List Entry) → AllByRecursion (EntryFits (length t)) es → AllByRecursion (IsSound t) es
       → AllByRecursion (IsSound (t ++ more)) es
   sound-grown [] fit all = tt
-  sound-grown (e ∷ es) fit all = (
-    record {
-      lawful = all.0.lawful;
-      moves = all.0.moves
-          ∙ sym (root-longer t more lower e.root (root_fits-below (length t) e.root fit.0.root));
-    },
-    sound-grown es fit.1 all.1,
-  )
+  sound-grown (e ∷ es) fit all = search (rules, root-longer, root_fits-below, sound-grown es fit.1 all.1)
 
 -- the entries stay entries once nodes are adopted
 pub binding-grown : (old t new : List Node) (es : List Entry) → IsBinding (record { table = old; entries = es }) → Stays old t new
     → IsCompiled new → AllByRecursion (NodeFits MAX_SIDE MAX_SIDE) new
     → IsBinding (record { table = new; entries = es })
-binding-grown old t new es h stays compiled fit =
-    let lower = IsTable-lower old h.compiled.table in
-    record {
-      compiled = compiled;
-      nodes = fit;
-      entries = subst (λ (u : List Node). AllByRecursion (EntryFits (length u)) es) (sym stays.is)
-          (entries-grown old stays.more lower es h.entries);
-      sound = subst (λ (u : List Node). AllByRecursion (IsSound u) es) (sym stays.is)
-          (sound-grown old stays.more lower es h.entries h.sound);
-      few = h.few;
-    }
+binding-grown old t new es h stays compiled fit = search (rules, IsTable-lower, entries-grown, sound-grown)
 
 -- and with one entry more
 pub binding-pushed : (t : List Node) (es es' : List Entry) (e : Entry) → IsBinding (record { table = t; entries = es })
     → length es < MAX_ENTRIES → EntryFits (length t) e → IsSound t e → es' ≡ es ++ e ∷ []
     → IsBinding (record { table = t; entries = es' })
-binding-pushed t es es' e h room fits sound is = record {
-  compiled = h.compiled;
-  nodes = h.nodes;
-  entries = subst (AllByRecursion (EntryFits (length t))) (sym is) (all_push (EntryFits (length t)) es e h.entries fits);
-  sound = subst (AllByRecursion (IsSound t)) (sym is) (all_push (IsSound t) es e h.sound sound);
-  few = let count : length es' ≡ length es + 1 = ap length is ∙ length-append es (e ∷ []) in omega arith;
-}
+binding-pushed t es es' e h room fits sound is = search (rules, all_push, length-append)
 
 -- ---- the entry of a file
 
@@ -167,9 +132,7 @@ module _ (old t new : List Node) (numbers : List ℕ) (table : IsTable t) (lower
   all-mapped : (js : List ℕ) → list_all (λ j. nat_lt j (length t)) js ≡ true
       → list_all (λ j. nat_lt j (length new)) (map (λ j. slice_index numbers j) js) ≡ true
   all-mapped [] h = refl
-  all-mapped (j ∷ js) h =
-      rw (lt-ltb (slice_index numbers j) (length new) (number-inside j (and_left (nat_lt j (length t)) _ h)))
-      (all-mapped js (and_right (nat_lt j (length t)) _ h))
+  all-mapped (j ∷ js) h = search (rules, lt-ltb, number-inside, and_left, and_right, all-mapped js (and_right (nat_lt j (length t)) _ h))
 
   -- and fits the book
   root-fits : (b : Grid) (root : Root) (moves : ℕ) → IsBoard b → length new ≤ MAX_NODES → RootFits b t root moves
@@ -193,8 +156,7 @@ module _ (old t new : List Node) (numbers : List ℕ) (table : IsTable t) (lower
       }
 
   moves-few : (b : Grid) (root : Root) (moves : ℕ) → RootFits b t root moves → moves ≤ MAX_MOVES
-  moves-few b (Attack i) moves fits = fits.2
-  moves-few b (Defend a) moves fits = fits.3
+  moves-few b x1 moves fits = search rules
 
   -- each node of the file is held
   pub file-held : (j : ℕ) → j < length t → (x : ℕ) × (x < length new) × (unfolded new x ≡ unfolded t j)
@@ -241,10 +203,7 @@ module _ (file : TableFile) (old new : List Node) (numbers : List ℕ) (root : R
   }
 
   pub entry-sound : IsSound new entry
-  entry-sound = record {
-    lawful = can.lawful;
-    moves = can.moves ∙ sym (root-deep file.table new file.root root entry-same);
-  }
+  entry-sound = search (rules, root-deep, entry-same)
 
   -- what is held now is what was held, and the file's nodes
   pub now-held : NamesLower old → Stays old file.table new → HoldSame (new ∷ []) (old ∷ file.table ∷ [])

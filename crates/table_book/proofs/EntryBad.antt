@@ -1,6 +1,6 @@
 -- Where bytes leave the lines of entries.
 use Rattle.std.proofs.Common.{◌≡◌, ℕ, suc, ◌+◌, ◌-◌, ◌*◌, ◌^◌, ◌<◌, ◌≤◌, refl, sym, ap, subst, ◌∙◌, arith, List, [], ◌∷◌, ◌++◌, length}
-use Rattle.std.proofs.Common.{take, drop, take-append-drop, get_or, replicate, None, codes}
+use Rattle.std.proofs.Common.{take, drop, take-append-drop, get_or, replicate, None, codes, rules}
 use Rattle.std.specs.List.{AllByRecursion, flat_map}
 use Rattle.std.specs.Fmt.{decimal}
 use Rattle.std.proofs.lemmas.Fmt.{decimal_injective}
@@ -65,9 +65,7 @@ module _ (k : ℕ) (bytes : List ℕ) where
   -- neither a number nor a start
   no_root : ReadsLine (IsBetween 0 (2 ^ 32 - 1)) (λ n. codes "root " ++ decimal n) None bytes
       → ReadsLine (StartFits MAX_SIDE MAX_SIDE k) start_line None bytes → k < 2 ^ 32 → ReadsLine (EntryRootFits k) root_line None bytes
-  no_root no_number no_start few_k (Attack i) others fits e =
-      no_number i others (let low : i < k = fits in record { enough = omega arith; few = omega (arith, low, few_k) }) e
-  no_root no_number no_start few_k (Defend a) others fits e = no_start a others fits e
+  no_root no_number no_start few_k x3 others fits e = search rules
 
   pub no_root_line : ReadsLine (EntryRootFits k) root_line None bytes → LeavesAt (IsLineOf (EntryRootFits k) root_line) bytes 0
   no_root_line none = leaves_first (EntryRootFits k) root_line bytes least_root (least_root-fits k) none
@@ -245,8 +243,7 @@ module _ (k count : ℕ) (few_k : k < 2 ^ 64) (es : List Entry) (fit : AllByRecu
   pub entry_fault : (bytes rest : List ℕ) (lines : ℕ) → lines ≡ 6 * length es → bytes ≡ text_of (flat_map entry_lines es) ++ rest
       → (error : HeadError) → IsSectionFault (IsEntryLines k) rest error
       → IsSectionFault (AreEntryLines k count) bytes (after_lines lines error)
-  entry_fault bytes rest lines is e error h = fault_after (flat_map entry_lines es) (IsEntryLines k) (AreEntryLines k count)
-      entry_in_entries bytes rest lines (is ∙ sym (entries-length es)) e error h
+  entry_fault bytes rest lines is e error h = search (rules, fault_after, entry_in_entries, entries-length)
 
 pub entries_fault : (k count number : ℕ) (es : List Entry) (bytes rest : List ℕ) (lines : ℕ) → k < 2 ^ 64 → AreRead k es number bytes rest
     → number < count → lines ≡ 6 * number → (error : HeadError) → IsSectionFault (IsEntryLines k) rest error

@@ -1,11 +1,10 @@
 -- The lines of entries: they have no line feed, and spell one entry.
 use Rattle.std.proofs.Common.{◌≡◌, ℕ, ◌+◌, ◌*◌, ◌^◌, ◌<◌, true, refl, sym, ap, ◌∙◌, arith, List, [], ◌∷◌, ◌++◌, append_assoc, length, take}
-use Rattle.std.proofs.Common.{get_or, codes}
+use Rattle.std.proofs.Common.{get_or, codes, rules}
 use Rattle.std.specs.List.{AllByRecursion, flat_map}
 use Rattle.std.specs.Fmt.{decimal}
 use Rattle.std.proofs.lemmas.Fmt.{decimal_injective}
-use Rattle.std.proofs.lemmas.List.{append_cancel_left, append-nil, length-append}
-use Rattle.std.proofs.lemmas.List.Concat.{flat_map-append}
+use Rattle.std.proofs.lemmas.List.{append_cancel_left, length-append}
 use Rattle.game_rules.specs.declared.TheConstants.{MAX_SIDE}
 use Rattle.strategy_graph.specs.declared.roots.Root.{Root}
 use Rattle.strategy_graph.specs.declared.roots.Root.TheVariants.{Attack, Defend}
@@ -35,14 +34,11 @@ moves_line-free k e fits = number-free (codes "moves ") e.moves refl (let most =
 
 pub entry-free : (k : ℕ) (e : Entry) → k < 2 ^ 64 → EntryFits k e → AreFree (entry_lines e)
 unfolding entry_lines
-entry-free k e few fits =
-    free_append (board_lines e.kind e.board) (move_count_line e.moves ∷ root_line e.root ∷ []) (board-free e.kind e.board fits.board)
-    (moves_line-free k e fits, (root_line-free k e.root few fits.root, tt))
+entry-free k e few fits = search (rules, free_append, board-free, moves_line-free, root_line-free)
 
 pub entries-free : (k : ℕ) (es : List Entry) → k < 2 ^ 64 → AllByRecursion (EntryFits k) es → AreFree (flat_map entry_lines es)
 entries-free k [] few all = tt
-entries-free k (e ∷ es) few all = free_append (entry_lines e) (flat_map entry_lines es) (entry-free k e few all.0)
-    (entries-free k es few all.1)
+entries-free k (e ∷ es) few all = search (rules, free_append, entry-free, entries-free k es few all.1)
 
 -- ---- how many lines there are
 
@@ -52,12 +48,7 @@ entry-length e = refl
 
 pub entries-length : (es : List Entry) → length (flat_map entry_lines es) ≡ 6 * length es
 entries-length [] = refl
-entries-length (e ∷ es) =
-    let one = entry-length e in
-    let more = entries-length es in
-    let sum : length (entry_lines e ++ flat_map entry_lines es) ≡ length (entry_lines e) + length (flat_map entry_lines es) =
-    length-append (entry_lines e) (flat_map entry_lines es) in
-    sum ∙ omega (arith, one, more)
+entries-length (e ∷ es) = search (rules, entry-length, length-append, entries-length es)
 
 -- ---- lines spell one entry
 
@@ -120,8 +111,3 @@ entry_text e bytes r1 r2 rest e1 e2 e3 =
     ∙ text_of-cons (move_count_line e.moves) (root_line e.root ∷ []) rest in
     e1 ∙ ap (λ (l : List ℕ). text_of (board_lines e.kind e.board) ++ l) two
     ∙ sym (text_of-append (board_lines e.kind e.board) (move_count_line e.moves ∷ root_line e.root ∷ []) rest)
-
--- one more entry
-pub entries_lines-push : (es : List Entry) (e : Entry) → flat_map entry_lines (es ++ e ∷ []) ≡ flat_map entry_lines es ++ entry_lines e
-entries_lines-push es e = flat_map-append entry_lines es (e ∷ [])
-    ∙ ap (λ (l : List (List ℕ)). flat_map entry_lines es ++ l) (append-nil (entry_lines e))

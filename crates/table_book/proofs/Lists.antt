@@ -1,5 +1,5 @@
 -- Lists that are put together and cut, and what holds of each of their items.
-use Rattle.std.proofs.Common.{◌≡◌, ℕ, zero, suc, ◌+◌, refl, ap, subst, ◌∙◌, arith, List, [], ◌∷◌, ◌++◌, length, take, Some, slice_get}
+use Rattle.std.proofs.Common.{◌≡◌, ℕ, zero, suc, ◌+◌, refl, ap, ◌∙◌, arith, List, [], ◌∷◌, ◌++◌, length, take, Some, slice_get}
 use Rattle.std.proofs.Common.{replicate}
 use Rattle.std.specs.List.{AllByRecursion}
 
@@ -26,18 +26,6 @@ all_take P (suc n) (x ∷ xs) all = (all.0, all_take P n xs all.1)
 pub all_replicate : {X : Type 0} (P : X → Type 0) (n : ℕ) (x : X) → P x → AllByRecursion P (replicate n x)
 all_replicate P zero x h = tt
 all_replicate P (suc n) x h = (h, all_replicate P n x h)
-
-more_by : {X : Type 0} (P : X → Type 0) (xs : List X) (i : ℕ) (x : X) → slice_get xs i ≡ Some x → AllByRecursion P (take i xs) → P x
-    → AllByRecursion P (take (suc i) xs)
-more_by P [] i x at all h = absurd cc
-more_by P (y ∷ xs) zero x at all h = let same : x ≡ y = cc in (subst P same h, tt)
-more_by P (y ∷ xs) (suc i) x at all h = (all.0, more_by P xs i x at all.1 h)
-
--- what holds of the items before one, and of that one
-pub all_more : {X : Type 0} (P : X → Type 0) (xs : List X) (i : ℕ) (x : X) → slice_get xs i ≡ Some x → AllByRecursion P (take i xs) → P x
-    → AllByRecursion P (take (i + 1) xs)
-all_more P xs i x at all h = let next : suc i ≡ i + 1 =
-    omega arith in subst (λ n. AllByRecursion P (take n xs)) next (more_by P xs i x at all h)
 
 -- the item at the seam of two lists, and what is before it
 pub seam : {X : Type 0} (xs : List X) (x : X) (ys : List X) → slice_get (xs ++ x ∷ ys) (length xs) ≡ Some x

@@ -1,49 +1,34 @@
 -- Entries that are asked one after another, and what is said of the first at which something is wrong.
-use Rattle.std.proofs.Common.{◌≡◌, ℕ, ◌+◌, ◌-◌, refl, sym, subst, ◌∙◌, arith, List, take, Some, None, slice_get, true}
+use Rattle.std.proofs.Common.{rules}
+use Rattle.std.proofs.Common.{◌≡◌, ℕ, ◌+◌, ◌-◌, refl, sym, ◌∙◌, arith, List, take, Some, None, slice_get, true}
 use Rattle.std.specs.List.{AllByRecursion}
 use Rattle.foul_judge.proofs.Lawfulness.{none_from_lawful}
 use borrow.Author.Tests.{lt-ltb}
 use Rattle.strategy_graph.specs.Roots.{root_below}
 use Rattle.strategy_graph.specs.declared.roots.Root.{Root}
-use Rattle.strategy_graph.specs.declared.roots.Root.TheVariants.{Attack, Defend}
 use Rattle.table_book.specs.declared.Book.{Book}
 use Rattle.table_book.specs.declared.Entry.{Entry}
 use Rattle.table_book.specs.declared.error.BookError.{BookError}
 use Rattle.table_book.specs.declared.error.BookError.TheVariants.{BadLine, Unlawful, WrongMoves, Memory}
 use Rattle.table_book.specs.Books.{IsSound, IsTextOfBook, IsWellFormed, EntryRootFits}
-use Rattle.table_book.specs.Faults.{IsBookFault, IsEarliest, IsMiscountedAt, IsUnlawfulAt, IsUnsound}
+use Rattle.table_book.specs.Faults.{IsBookFault, IsEarliest, IsUnsound}
 use Rattle.table_book.specs.ReadBack.{BooksReadBack}
 use Rattle.game_rules.proofs.Tests.{all_get}
 use Rattle.table_book.proofs.BookLaws.{one_book}
 
 -- a root that fits names only nodes of the book
 pub root_fits-below : (k : ℕ) (r : Root) → EntryRootFits k r → root_below r k ≡ true
-root_fits-below k (Attack i) fits = lt-ltb i k fits
-root_fits-below k (Defend a) fits = fits.below
+root_fits-below k x1 fits = search (rules, lt-ltb)
 
 -- the entry at a place is the first at which P fails, where P holds of those before it
 pub earliest_at : (P : Entry → Type 0) (es : List Entry) (i n : ℕ) (e : Entry) → n ≡ i + 1 → slice_get es i ≡ Some e
     → AllByRecursion P (take i es) → IsEarliest P es n e
-earliest_at P es i n e next at before =
-    let place : i ≡ n - 1 = omega (arith, next) in
-    record {
-      counted = omega (arith, next);
-      entry = subst (λ m. slice_get es m ≡ Some e) place at;
-      before = subst (λ m. AllByRecursion P (take m es)) place before;
-    }
+earliest_at P es i n e next at before = search rules
 
 -- what is said of the entries of a book is said of its text
 pub unsound_fault : (book : Book) (bytes : List ℕ) → IsTextOfBook book bytes → (error : BookError) → IsUnsound book.table book.entries error
     → IsBookFault bytes error
-unsound_fault book bytes text (BadLine n) h = absurd h
-unsound_fault book bytes text (Unlawful n why) h =
-    ((book, text), λ other is. subst (λ (b : Book). IsUnlawfulAt b.table b.entries n why) (sym (one_book book other bytes text is)) h)
-unsound_fault book bytes text (WrongMoves n written counted) h = (
-  (book, text),
-  λ other is. subst (λ (b : Book). IsMiscountedAt b.table b.entries n written counted)
-      (sym (one_book book other bytes text is)) h,
-)
-unsound_fault book bytes text Memory h = tt
+unsound_fault book bytes text x3 h = grind (arith, one_book)
 
 -- ---- nothing is said against a book that is well formed
 
@@ -65,7 +50,4 @@ no_book_fault book bytes text well (WrongMoves n written counted) h =
 no_book_fault book bytes text well Memory h = refl
 
 pub book-read-back : BooksReadBack
-book-read-back book bytes text well = record {
-  no_other = λ other is. one_book book other bytes text is;
-  no_fault = no_book_fault book bytes text well;
-}
+book-read-back book bytes text well = search (rules, one_book, no_book_fault)

@@ -1,10 +1,9 @@
 -- One node more at each step; at the end all of them.
-use Rattle.std.proofs.Common.{◌≡◌, ◌∙◌, ◌++◌, ◌∷◌, [], ℕ, List, ap, sym, refl, slice_index, length, Err, arith, rules}
+use Rattle.std.proofs.Common.{◌≡◌, ◌∙◌, ◌++◌, ◌∷◌, [], ℕ, List, ap, refl, slice_index, Err, arith, rules}
 use Rattle.std.proofs.lemmas.Grind.{common_steps}
-use Rattle.strategy_graph.specs.declared.Node.{Node}
 use Rattle.strategy_graph.proofs.Common.{renumbered_node}
 use Rattle.strategy_graph.proofs.Filling.{IsTable-lower}
-use Rattle.table_book.proofs.Adopting.{AdoptedUpTo, adopt-node, adopt-full, adopted-more, adopted-none, adopted-stays, adopted-numbers}
+use Rattle.table_book.proofs.Adopting.{adopt-node, adopt-full, adopted-more, adopted-none, adopted-stays, adopted-numbers}
 use Rattle.table_book.proofs.Adopting.{adopted-few, full-from}
 use Rattle.table_book.proofs.binder.adopted.Goals as goal
 

@@ -7,7 +7,7 @@ use Rattle.table_book.specs.declared.TheConstants.{MAX_ENTRIES}
 use Rattle.strategy_graph.specs.Renumbered.{renumbered_root}
 use Rattle.table_book.specs.Binding.{AddsFile, IsBinding, IsBound}
 use Rattle.table_book.proofs.Binding.{bound-more}
-use Rattle.table_book.proofs.Bound.{binding-grown, binding-pushed, entry, entry-fits, entry-sound, file-added, text-below, text-fits}
+use Rattle.table_book.proofs.Bound.{binding-grown, binding-pushed, entry, entry-fits, entry-sound, file-added, text-fits}
 use Rattle.table_book.proofs.binder.Binder.add.Goals as goal
 
 pub adopted-requires-clause-fit : goal.adopted-requires-clause-fit
