@@ -1,6 +1,6 @@
 -- What becomes of a tree when its leaf is settled or given children.
 use Rattle.std.proofs.Common.{◌≡◌, ◌≢◌, ℕ, zero, suc, ◌+◌, ◌-◌, ◌<◌, ◌≤◌, List, ◌++◌, length, take, drop, set, replicate, get_or, true, inl}
-use Rattle.std.proofs.Common.{inr, refl, sym, ◌∙◌, ap, subst, arith, All}
+use Rattle.std.proofs.Common.{inr, refl, sym, ◌∙◌, ap, subst, arith, All, rules}
 use Rattle.std.proofs.lemmas.Bool.{cases_eq, cases_lt}
 use Rattle.std.proofs.lemmas.List.{drop-append-le, get_or-append_right, get_or-replicate, get_or-set_other, get_or-set_same}
 use Rattle.std.proofs.lemmas.List.{get_or_append_left, length-append, length-drop, length-replicate, length-set, set-append_left}
@@ -8,7 +8,7 @@ use Rattle.std.proofs.lemmas.List.{take-append-le}
 use Rattle.std.proofs.Math.Seq.{take-append_seam}
 use Rattle.proof_tree.specs.declared.TheConstants.{INFINITE}
 use Rattle.proof_tree.specs.declared.Kind.{Kind}
-use Rattle.proof_tree.specs.declared.Kind.TheVariants.{Attack, Defend}
+use Rattle.proof_tree.specs.declared.Kind.TheVariants.{Attack}
 use Rattle.proof_tree.specs.declared.Numbers.{Numbers}
 use Rattle.proof_tree.specs.declared.Link.{Link}
 use Rattle.proof_tree.proofs.Common.{AreNumbers, combined, finite, is_settled, no_numbers, other_kind, sought, IsChild, IsCombinedAt}
@@ -31,16 +31,7 @@ leaf-combined links numbers i z b = absurd (omega arith)
 -- where the root is a leaf and is settled, all are right
 pub settled-root : (links : List Link) (numbers : List Numbers) (x : Numbers) → IsLinked links → IsNumbered links numbers
     → (link_at links 0).count ≡ 0 → CountNothing x → IsNumbered links (set numbers 0 x)
-settled-root links numbers x w r z s = record {
-  count = length-set numbers 0 x ∙ r.count;
-  each = written-each links numbers 0 x (omega (arith, r.count, w.some)) s.good r.each;
-  combined_at = λ j h. elim (cases_eq j 0) [
-    | inl q ↦ let P : ℕ → Type 0 = λ k. IsCombinedAt links (set numbers 0 x) k in
-        subst P (sym q) (leaf-combined links (set numbers 0 x) 0 z)
-    | inr n ↦ λ b. stays-combined links numbers 0 j x n (λ child. omega (arith, w.later j h b, child.from_first)) (r.combined_at j h) b
-  ];
-  sums = λ kind. omega (arith, r.sums kind, leaf_sum-set kind links numbers 0 x (inr (s.nothing kind)));
-}
+settled-root links numbers x w r z s = grind (arith, length-set, written-each, cases_eq, leaf-combined, stays-combined, leaf_sum-set)
 
 -- where another leaf is settled, its parent alone is left
 pub settled-leaf : (links : List Link) (numbers : List Numbers) (i : ℕ) (x : Numbers) → IsLinked links → IsNumbered links numbers → 0 < i
@@ -87,10 +78,7 @@ grown links i count h =
 -- what the leaf keeps as it is given children, each node of the old tree keeps
 old-same : {X : Type 0} (f : Link → X) (links : List Link) (i count : ℕ) (new : List Link) (j : ℕ) → IsGrown links i count new
     → f (link_at new i) ≡ f (link_at links i) → j < length links → f (link_at new j) ≡ f (link_at links j)
-old-same f links i count new j g kept h = elim (cases_eq j i) [
-  | inl q ↦ ap (λ k. f (link_at new k)) q ∙ (kept ∙ ap (λ k. f (link_at links k)) (sym q))
-  | inr n ↦ ap f (g.others j h n)
-]
+old-same f links i count new j g kept h = search (rules, cases_eq)
 
 module _ (links : List Link) (i count : ℕ) (new : List Link) (j : ℕ) (g : IsGrown links i count new) (old : j < length links) where
   old-parent : (link_at new j).parent ≡ (link_at links j).parent
@@ -120,19 +108,11 @@ place links i count new j g h = elim (cases_eq j i) [
 
 later-grown : (links : List Link) (i count : ℕ) (new : List Link) → IsLinked links → i < length links → IsGrown links i count new → (j : ℕ)
     → j < length new → 0 < (link_at new j).count → j < (link_at new j).first
-later-grown links i count new w h g j k b = elim (place links i count new j g k) [
-  | at_leaf q f c ↦ omega (arith, q, f, h)
-  | at_other old n l ↦ omega (arith, ap (λ m. m.first) l, w.later j old (omega (arith, ap (λ m. m.count) l, b)))
-  | at_child from c f p t ↦ absurd (omega (arith, b, c))
-]
+later-grown links i count new w h g j k b = search rules
 
 within-grown : (links : List Link) (i count : ℕ) (new : List Link) → IsLinked links → IsGrown links i count new → (j : ℕ) → j < length new
     → (link_at new j).first + (link_at new j).count ≤ length new
-within-grown links i count new w g j k = elim (place links i count new j g k) [
-  | at_leaf q f c ↦ omega (arith, f, c, g.sized)
-  | at_other old n l ↦ omega (arith, ap (λ m. m.first) l, ap (λ m. m.count) l, w.within j old, g.sized)
-  | at_child from c f p t ↦ omega (arith, c, f)
-]
+within-grown links i count new w g j k = search rules
 
 -- a child of another node of the old tree was its child there
 old-child : (links : List Link) (new : List Link) (j m : ℕ) → link_at new j ≡ link_at links j → IsChild (link_at new j) m
@@ -146,46 +126,15 @@ record ChildSays (new : List Link) (j m : ℕ) : Type 0 where
 
 child-says : (links : List Link) (i count : ℕ) (new : List Link) → IsLinked links → i < length links → IsGrown links i count new → (j m : ℕ)
     → j < length new → IsChild (link_at new j) m → ChildSays new j m
-child-says links i count new w h g j m k child = elim (place links i count new j g k) [
-  | at_leaf q f c ↦
-      let l : link_at new m ≡ leaf_link (other_kind (link_at links i).kind) i =
-      g.leaves m (omega (arith, f, child.from_first)) (omega (arith, f, c, child.below_end)) in
-      record {
-        parent = ap (λ v. v.parent) l ∙ sym q;
-        kind = ap (λ v. v.kind) l ∙ ap other_kind (sym (ap (λ v. (link_at new v).kind) q ∙ ap (λ v. v.kind) g.here));
-      }
-  | at_other old n l ↦
-      let was : IsChild (link_at links j) m = old-child links new j m l child in
-      let inside : m < length links = omega (arith, was.below_end, w.within j old) in
-      record {
-        parent = old-parent links i count new m g inside ∙ w.parents j m old was;
-        kind = old-kind links i count new m g inside ∙ (w.kinds j m old was ∙ ap (λ v. other_kind v.kind) (sym l));
-      }
-  | at_child from c f p t ↦ absurd (omega (arith, c, f, child.from_first, child.below_end))
-]
+child-says links i count new w h g j m k child = search (rules, old-child, old-parent, old-kind)
 
 children-grown : (links : List Link) (i count : ℕ) (new : List Link) → IsLinked links → i < length links → (link_at links i).count ≡ 0
     → IsGrown links i count new → (j : ℕ) → 0 < j → j < length new → IsChild (link_at new (link_at new j).parent) j
-children-grown links i count new w h z g j b k = elim (cases_lt j (length links)) [
-  | inl old ↦
-      let up : ℕ = (link_at links j).parent in
-      let was : IsChild (link_at links up) j = w.children j b old in
-      let inside : up < length links = omega (arith, w.parent_first j b old) in
-      let n : up ≢ i = λ q. omega (arith, was.from_first, was.below_end, ap (λ v. (link_at links v).count) q, z) in
-      let P : Link → Type 0 = λ v. IsChild v j in
-      subst P (sym (ap (link_at new) (old-parent links i count new j g old) ∙ g.others up inside n)) was
-  | inr from ↦
-      let l : link_at new j ≡ leaf_link (other_kind (link_at links i).kind) i = g.leaves j from (omega (arith, g.sized)) in
-      let P : Link → Type 0 = λ v. IsChild v j in
-      subst P (sym (ap (λ v. link_at new v.parent) l ∙ g.here)) (record { from_first = from; below_end = omega (arith, g.sized) })
-]
+children-grown links i count new w h z g j b k = search (rules, cases_lt, old-parent)
 
 first-grown : (links : List Link) (i count : ℕ) (new : List Link) → IsLinked links → i < length links → IsGrown links i count new → (j : ℕ)
     → 0 < j → j < length new → (link_at new j).parent < j
-first-grown links i count new w h g j b k = elim (cases_lt j (length links)) [
-  | inl old ↦ omega (arith, old-parent links i count new j g old, w.parent_first j b old)
-  | inr from ↦ omega (arith, ap (λ v. v.parent) (g.leaves j from (omega (arith, g.sized))))
-]
+first-grown links i count new w h g j b k = search (rules, cases_lt, old-parent)
 
 pub linked-grown : (links : List Link) (i count : ℕ) → IsLinked links → i < length links → (link_at links i).count ≡ 0
     → IsLinked (grown_links links i count)
@@ -207,9 +156,7 @@ linked-grown links i count w h z =
 -- the children of an old node stand among the old numbers
 old-children : (link : Link) (numbers more : List Numbers) → link.first + link.count ≤ length numbers
     → children_of link (numbers ++ more) ≡ children_of link numbers
-old-children link numbers more h =
-    ap (take link.count) (drop-append-le link.first numbers more (omega arith))
-    ∙ take-append-le link.count (drop link.first numbers) more (omega (arith, length-drop link.first numbers))
+old-children link numbers more h = search (rules, drop-append-le, take-append-le, length-drop)
 
 each-grown : (links : List Link) (numbers more : List Numbers) → length numbers ≡ length links
     → ((j : ℕ) → j < length links → AreNumbers (numbers_at numbers j)) → All AreNumbers more → (j : ℕ) → j < length links + length more
@@ -251,34 +198,20 @@ grown-length links i count h = (grown links i count h).sized
 
 -- numbers that are 0 and infinity count nothing
 pub settled-nothing : (x : Numbers) → is_settled x ≡ true → CountNothing x
-settled-nothing x h = record { good = inl h; nothing = none }
-  where
-    none : (kind : Kind) → finite (sought kind x) ≡ 0
-    none Attack = elim (settled-pair x.proof x.disproof h)
-        [ inl q ↦ omega (arith, finite-le x.proof, q.0) | inr q ↦ finite-infinite x.proof q.0 ]
-    none Defend = elim (settled-pair x.proof x.disproof h)
-        [ inl q ↦ finite-infinite x.disproof q.1 | inr q ↦ omega (arith, finite-le x.disproof, q.1) ]
+settled-nothing x h = search (rules, settled-pair, finite-le, finite-infinite)
 
 -- the way up
 
 ancestor-le : (links : List Link) (i steps : ℕ) → IsLinked links → i < length links → ancestor links steps i ≤ i
 ancestor-le links i zero w h = omega arith
-ancestor-le links i (suc steps) w h =
-    let a : ℕ = ancestor links steps i in
-    let le : a ≤ i = ancestor-le links i steps w h in
-    elim (cases_eq a 0) [
-      | inl e ↦ omega (arith, ap (λ k. (link_at links k).parent) e, w.root_parent)
-      | inr n ↦ omega (arith, le, w.parent_first a (omega arith) (omega arith))
-    ]
+ancestor-le links i (suc steps) w h = search (rules, cases_eq, ancestor-le links i steps w h)
 
 ancestor-parent : (links : List Link) (i steps : ℕ) → ancestor links steps (link_at links i).parent ≡ ancestor links (suc steps) i
 ancestor-parent links i zero = refl
 ancestor-parent links i (suc steps) = ap (λ k. (link_at links k).parent) (ancestor-parent links i steps)
 
 pub not-above : (links : List Link) (i : ℕ) → IsLinked links → 0 < i → i < length links → IsOnWayUp links (link_at links i).parent i → ⊥
-not-above links i w b h on =
-    let up : (link_at links i).parent < i = w.parent_first i b h in
-    absurd (omega (arith, up, on.1, ancestor-le links (link_at links i).parent on.0 w (omega (arith, up, h))))
+not-above links i w b h on = search (rules, ancestor-le)
 
 pub above-parent : (links : List Link) (i j : ℕ) → IsOnWayUp links (link_at links i).parent j → IsOnWayUp links i j
 above-parent links i j on = (suc on.0, sym (ancestor-parent links i on.0) ∙ on.1)
@@ -286,12 +219,7 @@ above-parent links i j on = (suc on.0, sym (ancestor-parent links i on.0) ∙ on
 -- the numbers of the other nodes, named in other words
 pub others-moved : (links links' : List Link) (i i' : ℕ) (old old' new new' : List Numbers) → links ≡ links' → i ≡ i' → old ≡ old'
     → new ≡ new' → OthersStay links i old new → OthersStay links' i' old' new'
-others-moved links links' i i' old old' new new' a b c d stay =
-    let A : List Link → Type 0 = λ v. OthersStay v i old new in
-    let B : ℕ → Type 0 = λ v. OthersStay links' v old new in
-    let C : List Numbers → Type 0 = λ v. OthersStay links' i' v new in
-    let D : List Numbers → Type 0 = λ v. OthersStay links' i' old' v in
-    subst D d (subst C c (subst B b (subst A a stay)))
+others-moved links links' i i' old old' new new' a b c d stay = search rules
 
 -- a slice of the whole list, written back
 pub written-back : (n : ℕ) (new old : List Numbers) → length new ≡ n → take n (new ++ drop (length new) old) ≡ new
@@ -301,18 +229,7 @@ written-back n new old e = ap (λ k. take k (new ++ drop (length new) old)) (sym
 grown-by : (links longer : List Link) (i n len : ℕ) (link child : Link) → longer ≡ links ++ replicate n child → len ≡ length links
     → i < length links → link_at links i ≡ link → child ≡ leaf_link (other_kind link.kind) i
     → set longer i (record { kind = link.kind; parent = link.parent; first = len; count = n }) ≡ grown_links links i n
-grown-by links longer i n len link child a l h here c =
-    let own : Link = record { kind = link.kind; parent = link.parent; first = len; count = n } in
-    let own' : Link = record { kind = (link_at links i).kind; parent = (link_at links i).parent; first = length links; count = n } in
-    let child' : Link = leaf_link (other_kind (link_at links i).kind) i in
-    let e : own ≡ own' =
-    ap (λ v. let r : Link = record { kind = v.kind; parent = v.parent; first = len; count = n } in r) (sym here)
-    ∙ ap (λ v. let r : Link = record { kind = (link_at links i).kind; parent = (link_at links i).parent; first = v; count = n } in r) l in
-    let d : child ≡ child' = c ∙ ap (λ v. leaf_link (other_kind v.kind) i) (sym here) in
-    ap (λ v. set v i own) a
-    ∙ (set-append_left links (replicate n child) i own h
-    ∙ (ap (λ v. set links i v ++ replicate n child) e
-    ∙ ap (λ v. set links i own' ++ replicate n v) d))
+grown-by links longer i n len link child a l h here c = search (rules, set-append_left)
 
 -- a tree after its leaf is given children, before the numbers are brought up to date
 pub record IsExpanded (t : Tree) (more : List Numbers) (links : List Link) (numbers : List Numbers) (leaf : ℕ) : Type 0 where
@@ -368,7 +285,4 @@ expanded-by t inside leaf len link kind more longer links numbers view tree leaf
 -- the children of a leaf are not above it, so they have the numbers that they were given
 pub child-stays : (links : List Link) (leaf len j : ℕ) (numbers more new : List Numbers) → IsLinked links → leaf < len → len ≤ length links
     → length numbers ≡ len → OthersStay links leaf (numbers ++ more) new → numbers_at new (len + j) ≡ numbers_at more j
-child-stays links leaf len j numbers more new w h k s stay =
-    let off : IsOnWayUp links leaf (len + j) → ⊥ = λ on. absurd (omega (arith, on.1, ancestor-le links leaf on.0 w (omega arith))) in
-    let e : len + j - len ≡ j = omega arith in
-    stay (len + j) off ∙ (get_or-append_right numbers more len (len + j) no_numbers s (omega arith) ∙ ap (λ v. numbers_at more v) e)
+child-stays links leaf len j numbers more new w h k s stay = search (rules, ancestor-le, get_or-append_right)

@@ -1,6 +1,6 @@
 -- What a node has of its children's numbers: a step of each loop, bounds, and that it is settled or open again.
-use Rattle.std.proofs.Common.{◌≡◌, ◌≢◌, ◌⊎◌, ℕ, suc, ◌+◌, ◌<◌, ◌≤◌, min, true, false, List, [], ◌∷◌, map, length, drop, get_or, nat_eq, inl}
-use Rattle.std.proofs.Common.{inr, refl, sym, ◌∙◌, ap, add-one, arith}
+use Rattle.std.proofs.Common.{◌≡◌, ◌≢◌, ◌⊎◌, ℕ, suc, ◌+◌, ◌<◌, ◌≤◌, min, true, List, [], ◌∷◌, map, length, drop, get_or, inl}
+use Rattle.std.proofs.Common.{inr, refl, sym, ◌∙◌, ap, add-one, arith, rules}
 use Rattle.std.proofs.Math.Seq.{drop-cons}
 use Rattle.std.proofs.lemmas.Bool.Decides.{nat_tests}
 use Rattle.std.proofs.lemmas.Bool.{cases_eq, cases_lt, eq-eqb, ne_eqb}
@@ -14,10 +14,7 @@ use Rattle.proof_tree.specs.Combining.{total}
 -- the steps of the loops
 
 pub plus-finite : (x y : ℕ) → x < INFINITE → y < INFINITE → plus x y ≡ x + y
-plus-finite x y h k =
-    let a : nat_eq x INFINITE ≡ false = ne_eqb x INFINITE (λ e. omega arith) in
-    let b : nat_eq y INFINITE ≡ false = ne_eqb y INFINITE (λ e. omega arith) in
-    rw (a, b)
+plus-finite x y h k = search (rules, ne_eqb)
 
 pub plus-infinite_left : (x y : ℕ) → x ≡ INFINITE → plus x y ≡ INFINITE
 plus-infinite_left x y e = rw (eq-eqb x INFINITE e)
@@ -44,20 +41,10 @@ pub plus-other : (x y : ℕ) → x ≢ INFINITE → y ≢ INFINITE → plus x y 
 plus-other x y h k = rw (ne_eqb x INFINITE h, ne_eqb y INFINITE k)
 
 finite-plus : (x y : ℕ) → finite (plus x y) ≤ finite x + finite y
-finite-plus x y = elim (cases_eq x INFINITE) [
-  | inl e ↦ let z : finite (plus x y) ≡ 0 = finite-infinite (plus x y) (plus-infinite_left x y e) in omega (arith, z)
-  | inr n ↦ elim (cases_eq y INFINITE) [
-    | inl e ↦ let z : finite (plus x y) ≡ 0 = finite-infinite (plus x y) (plus-infinite_right x y n e) in omega (arith, z)
-    | inr m ↦ let z : finite (plus x y) ≤ plus x y = finite-le (plus x y) in
-        omega (arith, z, plus-other x y n m, finite-below x n, finite-below y m)
-  ]
-]
+finite-plus x y = search (rules, cases_eq, finite-infinite, plus-infinite_left, plus-infinite_right, finite-le, plus-other, finite-below)
 
 finite-min : (x y : ℕ) → finite (min x y) ≤ finite x + finite y
-finite-min x y = elim (cases_lt x y) [
-  | inl h ↦ let e : min x y ≡ x = omega arith in let z : finite (min x y) ≡ finite x = ap finite e in omega (arith, z)
-  | inr h ↦ let e : min x y ≡ y = omega arith in let z : finite (min x y) ≡ finite y = ap finite e in omega (arith, z)
-]
+finite-min x y = search (rules, cases_lt)
 
 finite-least : (xs : List ℕ) → finite (least xs) ≤ finite_sum xs
 finite-least [] = omega (arith, finite-infinite INFINITE refl)
@@ -68,23 +55,10 @@ finite-total [] = omega (arith, finite-le 0)
 finite-total (x ∷ xs) = omega (arith, finite-plus x (total xs), finite-total xs)
 
 pub finite-combined : (k kind : Kind) (ns : List Numbers) → finite (sought k (combined kind ns)) ≤ finite_sum (map (sought k) ns)
-finite-combined Attack Attack ns = finite-least (map (λ n. n.proof) ns)
-finite-combined Attack Defend ns = finite-total (map (λ n. n.proof) ns)
-finite-combined Defend Attack ns = finite-total (map (λ n. n.disproof) ns)
-finite-combined Defend Defend ns = finite-least (map (λ n. n.disproof) ns)
+finite-combined x0 x1 ns = search (rules, finite-least, finite-total)
 
 plus-grouped : (s y t : ℕ) → s + y + finite t < INFINITE → plus s (plus y t) ≡ plus (s + y) t
-plus-grouped s y t h = elim (cases_eq t INFINITE) [
-  | inl e ↦ plus-infinite_right s (plus y t) (λ q. omega arith) (plus-infinite_right y t (λ q. omega arith) e)
-      ∙ sym (plus-infinite_right (s + y) t (λ q. omega arith) e)
-  | inr n ↦
-      let f : finite t ≡ t = finite-below t n in
-      let a : plus y t ≡ y + t = plus-finite y t (omega arith) (omega arith) in
-      let b : plus s (y + t) ≡ s + (y + t) = plus-finite s (y + t) (omega arith) (omega arith) in
-      let d : plus (s + y) t ≡ s + y + t = plus-finite (s + y) t (omega arith) (omega arith) in
-      let e : s + (y + t) ≡ s + y + t = omega arith in
-      ap (plus s) a ∙ (b ∙ (e ∙ sym d))
-]
+plus-grouped s y t h = search (rules, cases_eq, plus-infinite_right, finite-below, plus-finite)
 
 -- the sum so far, where number i is below infinity
 pub total-step : (f : Numbers → ℕ) (xs : List Numbers) (i s y : ℕ) (d : Numbers) → i < length xs → y ≡ f (get_or xs i d) → y ≢ INFINITE
@@ -113,9 +87,7 @@ Pair a d = ((a ≡ 0) × (d ≡ INFINITE)) ⊎ (((a ≡ INFINITE) × (d ≡ 0)) 
 
 pair-swap : (a d : ℕ) → Pair a d → Pair d a
 unfolding Pair
-pair-swap a d (inl p) = inr (inl (p.1, p.0))
-pair-swap a d (inr (inl p)) = inl (p.1, p.0)
-pair-swap a d (inr (inr p)) = inr (inr (p.2, p.3, p.0, p.1))
+pair-swap a d x2 = search rules
 
 pub settled-pair : (p d : ℕ) → is_settled (record { proof = p; disproof = d }) ≡ true
     → ((p ≡ 0) × (d ≡ INFINITE)) ⊎ ((p ≡ INFINITE) × (d ≡ 0))
@@ -123,41 +95,21 @@ settled-pair p d h = grind (arith, nat_tests)
 
 AreNumbers-pair : (n : Numbers) → AreNumbers n → Pair n.proof n.disproof
 unfolding Pair
-AreNumbers-pair n (inl h) = elim (settled-pair n.proof n.disproof h) [ inl p ↦ inl p | inr p ↦ inr (inl p) ]
-AreNumbers-pair n (inr o) = inr (inr (o.proof_above, o.proof_below, o.disproof_above, o.disproof_below))
+AreNumbers-pair n x1 = search (rules, settled-pair)
 
 sought-pair : (k : Kind) (n : Numbers) → AreNumbers n → Pair (sought k n) (sought (other_kind k) n)
-sought-pair Attack n h = AreNumbers-pair n h
-sought-pair Defend n h = pair-swap n.proof n.disproof (AreNumbers-pair n h)
+sought-pair x0 n h = search (rules, AreNumbers-pair, pair-swap)
 
 pair-settled : (p d : ℕ) → ((p ≡ 0) × (d ≡ INFINITE)) ⊎ ((p ≡ INFINITE) × (d ≡ 0)) → is_settled (record { proof = p; disproof = d }) ≡ true
 pair-settled p d h = grind (arith, nat_tests)
 
 pair-AreNumbers : (n : Numbers) → Pair n.proof n.disproof → AreNumbers n
 unfolding Pair
-pair-AreNumbers n (inl p) = inl (pair-settled n.proof n.disproof (inl p))
-pair-AreNumbers n (inr (inl p)) = inl (pair-settled n.proof n.disproof (inr p))
-pair-AreNumbers n (inr (inr p)) = inr (record { proof_above = p.0; proof_below = p.1; disproof_above = p.2; disproof_below = p.3 })
+pair-AreNumbers n x1 = search (rules, pair-settled)
 
 pair-step : (a d p t : ℕ) → Pair a d → Pair p t → finite d + finite t < INFINITE → Pair (min a p) (plus d t)
 unfolding Pair
-pair-step a d p t (inl x) y h = inl (omega arith, plus-infinite_left d t x.1)
-pair-step a d p t (inr (inl x)) (inl y) h = inl (omega arith, plus-infinite_right d t (λ q. omega arith) y.1)
-pair-step a d p t (inr (inr x)) (inl y) h = inl (omega arith, plus-infinite_right d t (λ q. omega arith) y.1)
-pair-step a d p t (inr (inl x)) (inr (inl y)) h =
-    let e : plus d t ≡ d + t = plus-finite d t (omega arith) (omega arith) in
-    inr (inl (omega arith, e ∙ omega arith))
-pair-step a d p t (inr (inl x)) (inr (inr y)) h =
-    let e : plus d t ≡ d + t = plus-finite d t (omega arith) (omega arith) in
-    inr (inr (omega arith, omega arith, omega (arith, e), omega (arith, e)))
-pair-step a d p t (inr (inr x)) (inr (inl y)) h =
-    let e : plus d t ≡ d + t = plus-finite d t (omega arith) (omega arith) in
-    inr (inr (omega arith, omega arith, omega (arith, e), omega (arith, e)))
-pair-step a d p t (inr (inr x)) (inr (inr y)) h =
-    let e : plus d t ≡ d + t = plus-finite d t (omega arith) (omega arith) in
-    let f : finite d ≡ d = finite-below d (λ q. omega arith) in
-    let g : finite t ≡ t = finite-below t (λ q. omega arith) in
-    inr (inr (omega arith, omega arith, omega (arith, e), omega (arith, e, f, g, h)))
+pair-step a d p t x4 y h = grind (arith, plus-infinite_left, plus-infinite_right, plus-finite, finite-below)
 
 lost-pair : Pair INFINITE 0
 unfolding Pair

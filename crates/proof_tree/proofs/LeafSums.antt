@@ -1,7 +1,7 @@
 -- The numbers of the children of a node add up to no more than those of all leaves: a front of nodes is moved down the tree, from
 -- the root's to the leaves, and what it adds up to never falls.
-use Rattle.std.proofs.Common.{◌≡◌, ◌⊎◌, ℕ, zero, suc, ◌+◌, ◌-◌, ◌<◌, ◌≤◌, true, false, List, [], ◌∷◌, map, length, take, drop, set, get_or}
-use Rattle.std.proofs.Common.{nat_eq, nat_lt, if◌then◌else◌, inl, inr, refl, ap, arith}
+use Rattle.std.proofs.Common.{◌≡◌, ◌⊎◌, ℕ, zero, suc, ◌+◌, ◌-◌, ◌<◌, ◌≤◌, true, List, [], ◌∷◌, map, length, take, drop, set, get_or}
+use Rattle.std.proofs.Common.{nat_eq, nat_lt, if◌then◌else◌, inl, inr, refl, ap, arith, rules}
 use Rattle.std.proofs.lemmas.Bool.Decides.{nat_tests}
 use Rattle.std.proofs.lemmas.Bool.{cases_eq, eq-eqb, ne_eqb}
 use Rattle.proof_tree.specs.declared.Kind.{Kind}
@@ -72,21 +72,15 @@ alone-past : (k : ℕ) (f : Numbers → ℕ) (i : ℕ) (links : List Link) (numb
 unfolding weighed
 alone-past k f i [] numbers h = refl
 alone-past k f i (l ∷ links) [] h = refl
-alone-past k f i (l ∷ links) (n ∷ numbers) h =
-    let t : nat_eq i k ≡ false = ne_eqb i k (λ e. omega arith) in
-    rw t (omega (arith, alone-past k f (suc i) links numbers (omega arith)))
+alone-past k f i (l ∷ links) (n ∷ numbers) h = search (rules, ne_eqb, alone-past k f (suc i) links numbers (omega arith))
 
 alone-at : (k : ℕ) (f : Numbers → ℕ) (i p : ℕ) (links : List Link) (numbers : List Numbers) → k ≡ i + p
     → weighed (alone k) f i links numbers ≤ f (get_or numbers p no_numbers)
 unfolding weighed
 alone-at k f i p [] numbers e = omega arith
 alone-at k f i p (l ∷ links) [] e = omega arith
-alone-at k f i zero (l ∷ links) (n ∷ numbers) e =
-    let t : nat_eq i k ≡ true = eq-eqb i k (omega arith) in
-    rw t (omega (arith, alone-past k f (suc i) links numbers (omega arith)))
-alone-at k f i (suc p) (l ∷ links) (n ∷ numbers) e =
-    let t : nat_eq i k ≡ false = ne_eqb i k (λ q. omega arith) in
-    rw t (omega (arith, alone-at k f (suc i) p links numbers (omega arith)))
+alone-at k f i zero (l ∷ links) (n ∷ numbers) e = search (rules, eq-eqb, alone-past)
+alone-at k f i (suc p) (l ∷ links) (n ∷ numbers) e = search (rules, ne_eqb, alone-at k f (suc i) p links numbers (omega arith))
 
 alone_leaf-at : (k : ℕ) (f : Numbers → ℕ) (i p : ℕ) (links : List Link) (numbers : List Numbers) → k ≡ i + p → p < length links
     → length numbers ≡ length links → (link_at links p).count ≡ 0
@@ -94,9 +88,7 @@ alone_leaf-at : (k : ℕ) (f : Numbers → ℕ) (i p : ℕ) (links : List Link) 
 unfolding weighed
 alone_leaf-at k f i p [] numbers e h s z = absurd (omega arith)
 alone_leaf-at k f i p (l ∷ links) [] e h s z = absurd (omega arith)
-alone_leaf-at k f i zero (l ∷ links) (n ∷ numbers) e h s z =
-    let t : nat_eq i k ≡ true = eq-eqb i k (omega arith) in
-    rw (t, eq-eqb l.count 0 z) (omega arith)
+alone_leaf-at k f i zero (l ∷ links) (n ∷ numbers) e h s z = search (rules, eq-eqb)
 alone_leaf-at k f i (suc p) (l ∷ links) (n ∷ numbers) e h s z =
     omega (arith, alone_leaf-at k f (suc i) p links numbers (omega arith) (omega arith) (omega arith) z)
 
@@ -127,20 +119,14 @@ front-all : (kind : Kind) (k i : ℕ) (links : List Link) (numbers : List Number
 unfolding weighed
 front-all kind k i [] numbers h = omega arith
 front-all kind k i (l ∷ links) [] h = omega arith
-front-all kind k i (l ∷ links) (n ∷ numbers) h =
-    let t : nat_lt i k ≡ true = grind (arith, nat_tests) in
-    rw t (omega (arith, front-all kind k (suc i) links numbers (omega arith)))
+front-all kind k i (l ∷ links) (n ∷ numbers) h = search (rules, front-all kind k (suc i) links numbers (omega arith))
 
 -- what the children of node i add up to stands below it
 children-below : (kind : Kind) (links : List Link) (numbers : List Numbers) (i : ℕ) → IsLinked links → length numbers ≡ length links
     → i < length links → 0 < (link_at links i).count
     → finite_sum (map (sought kind) (children_of (link_at links i) numbers)) ≤ weighed (below i) (λ n. finite (sought kind n)) 0 links
     numbers
-children-below kind links numbers i w s h b =
-    let first = (link_at links i).first in
-    let count = (link_at links i).count in
-    below-at kind i 0 first count links numbers s (w.within i h) (omega (arith, w.later i h b))
-    (λ p x y. w.parents i p h (record { from_first = x; below_end = y }))
+children-below kind links numbers i w s h b = search (rules, below-at)
 
 front-step : (kind : Kind) (links : List Link) (numbers : List Numbers) (k : ℕ) → IsLinked links → length numbers ≡ length links
     → k < length links → IsCombinedAt links numbers k
@@ -207,12 +193,6 @@ pub leaf_sum-set : (kind : Kind) (links : List Link) (numbers : List Numbers) (i
     → (0 < (link_at links i).count) ⊎ (finite (sought kind x) ≡ 0) → leaf_sum kind links (set numbers i x) ≤ leaf_sum kind links numbers
 leaf_sum-set kind [] numbers i x h = omega arith
 leaf_sum-set kind (l ∷ links) [] i x h = omega arith
-leaf_sum-set kind (l ∷ links) (n ∷ numbers) zero x (inl h) =
-    let t : nat_eq l.count 0 ≡ false = ne_eqb l.count 0 (λ e. omega arith) in
-    rw t (omega arith)
-leaf_sum-set kind (l ∷ links) (n ∷ numbers) zero x (inr h) =
-    elim (cases_eq l.count 0) [
-      | inl e ↦ let t : nat_eq l.count 0 ≡ true = eq-eqb l.count 0 e in rw t (omega (arith, h))
-      | inr m ↦ let t : nat_eq l.count 0 ≡ false = ne_eqb l.count 0 m in rw t (omega arith)
-    ]
+leaf_sum-set kind (l ∷ links) (n ∷ numbers) zero x (inl h) = search (rules, ne_eqb)
+leaf_sum-set kind (l ∷ links) (n ∷ numbers) zero x (inr h) = search (rules, cases_eq, eq-eqb, ne_eqb)
 leaf_sum-set kind (l ∷ links) (n ∷ numbers) (suc i) x h = omega (arith, leaf_sum-set kind links numbers i x h)

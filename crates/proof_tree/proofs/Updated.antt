@@ -1,6 +1,6 @@
 -- Numbers brought up to date along the way up.
 use Rattle.std.proofs.Common.{◌≡◌, ◌≢◌, ℕ, suc, ◌+◌, ◌-◌, ◌<◌, ◌≤◌, List, map, length, take, drop, set, get_or, inl, inr, sym, ◌∙◌, ap}
-use Rattle.std.proofs.Common.{subst, arith}
+use Rattle.std.proofs.Common.{subst, arith, rules}
 use Rattle.std.proofs.lemmas.Bool.{cases_eq, cases_lt}
 use Rattle.std.proofs.lemmas.List.{drop-set-add, drop-set-lt, get_or-drop, get_or-set_other, get_or-set_same, get_or-take, length-set}
 use Rattle.std.proofs.lemmas.List.{length-take, take-set-le}
@@ -47,14 +47,12 @@ not-own_child links i w h b child = absurd (omega (arith, w.later i h b, child.f
 -- the children of a node, by their places
 pub child-number : (link : Link) (numbers : List Numbers) (j : ℕ) → j < link.count
     → get_or (children_of link numbers) j no_numbers ≡ numbers_at numbers (link.first + j)
-child-number link numbers j h = get_or-take link.count (drop link.first numbers) j no_numbers h
-    ∙ get_or-drop link.first numbers j no_numbers
+child-number link numbers j h = search (rules, get_or-take, get_or-drop)
 
 -- what `combined` needs of the children of node i
 pub children-sums : (links : List Link) (numbers : List Numbers) (i : ℕ) → IsLinked links → i < length links → IsRightBut links numbers i
     → (kind : Kind) → finite_sum (map (sought kind) (children_of (link_at links i) numbers)) < INFINITE
-children-sums links numbers i w h r kind =
-    omega (arith, r.sums kind, children-le kind links numbers i w r.count h r.has_children (λ j x y. r.combined_at j y (λ e. omega arith)))
+children-sums links numbers i w h r kind = search (rules, children-le)
 
 pub found-numbers : (links : List Link) (numbers : List Numbers) (i : ℕ) → IsLinked links → i < length links → IsRightBut links numbers i
     → AreNumbers (combined (link_at links i).kind (children_of (link_at links i) numbers))
@@ -70,17 +68,12 @@ found-numbers links numbers i w h r =
 -- a node that has its children's numbers keeps them when another number is written, unless that is a child of it
 pub stays-combined : (links : List Link) (numbers : List Numbers) (i j : ℕ) (x : Numbers) → j ≢ i → (IsChild (link_at links j) i → ⊥)
     → IsCombinedAt links numbers j → IsCombinedAt links (set numbers i x) j
-stays-combined links numbers i j x n c right b =
-    get_or-set_other numbers i j x no_numbers n
-    ∙ (right b ∙ ap (combined (link_at links j).kind) (sym (children-elsewhere (link_at links j) numbers i x c)))
+stays-combined links numbers i j x n c right b = search (rules, get_or-set_other, children-elsewhere)
 
 -- the node that is counted anew has its children's numbers
 now-combined : (links : List Link) (numbers : List Numbers) (i : ℕ) → IsLinked links → i < length links → IsRightBut links numbers i
     → IsCombinedAt links (set numbers i (combined (link_at links i).kind (children_of (link_at links i) numbers))) i
-now-combined links numbers i w h r b =
-    let found : Numbers = combined (link_at links i).kind (children_of (link_at links i) numbers) in
-    get_or-set_same numbers i found no_numbers (omega (arith, r.count))
-    ∙ ap (combined (link_at links i).kind) (sym (children-elsewhere (link_at links i) numbers i found (not-own_child links i w h b)))
+now-combined links numbers i w h r b = search (rules, get_or-set_same, children-elsewhere, not-own_child)
 
 pub written-each : (links : List Link) (numbers : List Numbers) (i : ℕ) (x : Numbers) → i < length numbers → AreNumbers x
     → ((j : ℕ) → j < length links → AreNumbers (numbers_at numbers j)) → (j : ℕ) → j < length links
@@ -129,8 +122,7 @@ right-above links numbers i w h b r =
 -- what is written on the way up leaves all nodes that are not on it
 pub others-written : (links : List Link) (start i : ℕ) (old numbers : List Numbers) (x : Numbers) → IsOnWayUp links start i
     → OthersStay links start old numbers → OthersStay links start old (set numbers i x)
-others-written links start i old numbers x on stay j h =
-    get_or-set_other numbers i j x no_numbers (λ e. let P : ℕ → Type 0 = λ k. IsOnWayUp links start k in h (subst P (sym e) on)) ∙ stay j h
+others-written links start i old numbers x on stay j h = search (rules, get_or-set_other)
 
 pub parent-above : (links : List Link) (start i : ℕ) → IsOnWayUp links start i → IsOnWayUp links start (link_at links i).parent
 parent-above links start i on = (suc on.0, ap (λ k. (link_at links k).parent) on.1)
@@ -138,6 +130,4 @@ parent-above links start i on = (suc on.0, ap (λ k. (link_at links k).parent) o
 -- the children as a slice
 pub slice-children : (link : Link) (numbers : List Numbers)
     → take (link.first + link.count - link.first) (drop link.first numbers) ≡ children_of link numbers
-slice-children link numbers =
-    let e : link.first + link.count - link.first ≡ link.count = omega arith in
-    ap (λ n. take n (drop link.first numbers)) e
+slice-children link numbers = search rules

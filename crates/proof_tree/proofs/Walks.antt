@@ -1,13 +1,11 @@
 -- The walk to the most-proving leaf: at a node that is open the first child with the node's minimum is open too.
 use Rattle.std.proofs.Common.{◌≡◌, ◌≢◌, ℕ, zero, suc, ◌+◌, ◌-◌, ◌<◌, ◌≤◌, Bool, true, false, List, [], ◌∷◌, map, length, take, drop, get_or}
-use Rattle.std.proofs.Common.{nat_eq, inl, inr, refl, sym, ◌∙◌, ap, subst, one-add, arith}
-use Rattle.std.proofs.lemmas.Bool.Decides.{nat_tests}
+use Rattle.std.proofs.Common.{nat_eq, inl, inr, refl, sym, ◌∙◌, ap, subst, one-add, arith, rules}
 use Rattle.std.proofs.lemmas.Bool.{cases_eq, eq-eqb, ne_eqb, eqb-true}
 use Rattle.std.proofs.lemmas.List.{length-take-le, length-drop}
 use Rattle.std.specs.List.{position_or_len}
 use Rattle.proof_tree.specs.declared.TheConstants.{INFINITE}
 use Rattle.proof_tree.specs.declared.Kind.{Kind}
-use Rattle.proof_tree.specs.declared.Kind.TheVariants.{Attack, Defend}
 use Rattle.proof_tree.specs.declared.Numbers.{Numbers}
 use Rattle.proof_tree.specs.declared.Link.{Link}
 use Rattle.proof_tree.proofs.Common.{AreNumbers, IsOpen, combined, no_numbers, is_settled, least, sought, IsTree, Tree, children_of, chosen}
@@ -35,26 +33,16 @@ least-place f (n ∷ ns) m e h =
     ]
 
 sought-combined : (k : Kind) (ns : List Numbers) → sought k (combined k ns) ≡ least (map (sought k) ns)
-sought-combined Attack ns = refl
-sought-combined Defend ns = refl
+sought-combined x0 ns = search rules
 
 sought-open : (k : Kind) (n : Numbers) → IsOpen n → (0 < sought k n) × (sought k n < INFINITE)
-sought-open Attack n o = (o.proof_above, o.proof_below)
-sought-open Defend n o = (o.disproof_above, o.disproof_below)
+sought-open x0 n o = search rules
 
 not-settled : (k : Kind) (n : Numbers) → 0 < sought k n → sought k n < INFINITE → is_settled n ≡ true → ⊥
-not-settled Attack n a b s = one n.proof n.disproof a b s
-  where
-    one : (p d : ℕ) → 0 < p → p < INFINITE → is_settled (record { proof = p; disproof = d }) ≡ true → ⊥
-    one p d a b s = grind (arith, nat_tests)
-not-settled Defend n a b s = one n.proof n.disproof a b s
-  where
-    one : (p d : ℕ) → 0 < d → d < INFINITE → is_settled (record { proof = p; disproof = d }) ≡ true → ⊥
-    one p d a b s = grind (arith, nat_tests)
+not-settled x0 n a b s = search rules
 
 open-again : (k : Kind) (n : Numbers) → AreNumbers n → 0 < sought k n → sought k n < INFINITE → IsOpen n
-open-again k n (inl s) a b = absurd (not-settled k n a b s)
-open-again k n (inr o) a b = o
+open-again k n x2 a b = search (rules, not-settled)
 
 -- the child that is chosen at an open node
 pub record IsChosen (t : Tree) (i : ℕ) : Type 0 where
@@ -106,11 +94,7 @@ LeadsOn-chosen t i w h b o on = one on.0 on.1 on.2
     )
 
 pub LeadsOn-leaf : (t : Tree) (i : ℕ) → (link_at t.links i).count ≡ 0 → LeadsOn t i → i ≡ most_proving t
-LeadsOn-leaf t i z on = one on.0 on.2
-  where
-    one : (steps : ℕ) → walk_end steps t i ≡ most_proving t → i ≡ most_proving t
-    one zero e = e
-    one (suc steps) e = rw (eq-eqb (link_at t.links i).count 0 z) at e
+LeadsOn-leaf t i z on = search (rules, eq-eqb)
 
 -- an element that is read is the one that stands there
 pub read-at : {X : Type 0} (xs : List X) (i : ℕ) (d x : X) → i < length xs → x ≡ get_or xs i x → get_or xs i d ≡ x

@@ -5,6 +5,7 @@ use Rattle.proof_tree.proofs.LeafSums.{leaf_sum-set}
 use Rattle.proof_tree.proofs.Updated.{IsRightBut, others-written}
 use Rattle.proof_tree.proofs.Changed.{above-parent, not-above, settled-leaf, settled-nothing, settled-root}
 use Rattle.proof_tree.proofs.updating.settle_leaf.Goals as goal
+use Rattle.proof_tree.proofs.updating.settle_leaf.Goals.{Else-leaf-eq0}
 
 pub returns-then-leaf-eq0-clause-numbered : goal.returns-then-leaf-eq0-clause-numbered
 returns-then-leaf-eq0-clause-numbered c =
@@ -22,29 +23,20 @@ pub returns-then-leaf-eq0-clause-leaves : goal.returns-then-leaf-eq0-clause-leav
 returns-then-leaf-eq0-clause-leaves c = λ kind. leaf_sum-set kind c.args.links.now c.args.numbers.now c.args.leaf c.args.settled
     (inr ((settled-nothing c.args.settled c.requires.settled).nothing kind))
 
+-- the numbers above the leaf alone are left
+right : (c : Else-leaf-eq0) → IsRightBut c.args.links.now (set c.args.numbers.now c.args.leaf c.args.settled)
+    (link_at c.args.links.now c.args.leaf).parent
+right c = settled-leaf c.args.links.now c.args.numbers.now c.args.leaf c.args.settled c.requires.linked c.requires.numbered
+    (omega (arith, c.if-leaf-eq0.false)) c.requires.leaf c.requires.childless (settled-nothing c.args.settled c.requires.settled)
+
 pub update_from-requires-clause-each : goal.update_from-requires-clause-each
-update_from-requires-clause-each c =
-    let some : 0 < c.args.leaf = omega (arith, c.if-leaf-eq0.false) in
-    let r : IsRightBut c.args.links.now (set c.args.numbers.now c.args.leaf c.args.settled) (link_at c.args.links.now c.args.leaf).parent =
-    settled-leaf c.args.links.now c.args.numbers.now c.args.leaf c.args.settled c.requires.linked c.requires.numbered some c.requires.leaf
-    c.requires.childless (settled-nothing c.args.settled c.requires.settled) in
-    r.each
+update_from-requires-clause-each c = (right (goal.at.update_from-requires-clause-each c).Else-leaf-eq0).each
 
 pub update_from-requires-clause-right : goal.update_from-requires-clause-right
-update_from-requires-clause-right c =
-    let some : 0 < c.args.leaf = omega (arith, c.if-leaf-eq0.false) in
-    let r : IsRightBut c.args.links.now (set c.args.numbers.now c.args.leaf c.args.settled) (link_at c.args.links.now c.args.leaf).parent =
-    settled-leaf c.args.links.now c.args.numbers.now c.args.leaf c.args.settled c.requires.linked c.requires.numbered some c.requires.leaf
-    c.requires.childless (settled-nothing c.args.settled c.requires.settled) in
-    λ i h n b. r.combined_at i h n b
+update_from-requires-clause-right c = λ i h n b. (right (goal.at.update_from-requires-clause-right c).Else-leaf-eq0).combined_at i h n b
 
 pub update_from-requires-clause-sums : goal.update_from-requires-clause-sums
-update_from-requires-clause-sums c =
-    let some : 0 < c.args.leaf = omega (arith, c.if-leaf-eq0.false) in
-    let r : IsRightBut c.args.links.now (set c.args.numbers.now c.args.leaf c.args.settled) (link_at c.args.links.now c.args.leaf).parent =
-    settled-leaf c.args.links.now c.args.numbers.now c.args.leaf c.args.settled c.requires.linked c.requires.numbered some c.requires.leaf
-    c.requires.childless (settled-nothing c.args.settled c.requires.settled) in
-    r.sums
+update_from-requires-clause-sums c = (right (goal.at.update_from-requires-clause-sums c).Else-leaf-eq0).sums
 
 pub returns-clause-settled : goal.returns-clause-settled
 returns-clause-settled c =

@@ -3,6 +3,7 @@ use Rattle.proof_tree.proofs.Common.{no_numbers, IsTree, Tree, leaf_link, link_a
 use Rattle.proof_tree.specs.declared.Kind.TheVariants.{Attack}
 use Rattle.proof_tree.proofs.Walks.{IsNext, LeadsOn-leaf, next-child, read-at}
 use Rattle.proof_tree.proofs.tree.ProofTree.most_proving.Goals as goal
+use Rattle.proof_tree.proofs.tree.ProofTree.most_proving.Goals.{After-first_with}
 
 pub returns-then-link-eq0-clause-leaf : goal.returns-then-link-eq0-clause-leaf
 returns-then-link-eq0-clause-leaf c =
@@ -14,8 +15,9 @@ returns-then-link-eq0-clause-leaf c =
     (omega (arith, ap length links, c.loop-self.invariant.inside)) c.index-link.ensures in
     LeadsOn-leaf t c.loop-self.number (ap (λ v. v.count) here ∙ c.if-link-eq0.true) c.loop-self.invariant.leads
 
-pub overflow_add-number : goal.overflow_add-number
-overflow_add-number c =
+-- the child that the walk goes on to
+next : (c : After-first_with) → IsNext c.args.self.now c.loop-self.number (c.index-link.result.now.first + c.first_with.result)
+next c =
     let t : Tree = c.args.self.now in
     let i : ℕ = c.loop-self.number in
     let links : c.self.inside.links.items ≡ t.links = ap (λ v. v.links) c.self.view_is in
@@ -27,46 +29,21 @@ overflow_add-number c =
     let own : numbers_at t.numbers i ≡ c.index.result.now =
     ap (λ v. numbers_at v i) (sym numbers) ∙ read-at c.self.inside.numbers.items i no_numbers c.index.result.now
     (omega (arith, ap length numbers, tree.numbered.count, c.loop-self.invariant.inside)) c.index.ensures in
-    let next : IsNext t i (c.index-link.result.now.first + c.first_with.result) =
     next-child t i c.index-link.result.now c.sought-least.result c.index.result.now c.as_slice.result.now c.first_with.result tree
     c.loop-self.invariant.inside c.loop-self.invariant.open_node c.loop-self.invariant.leads here c.if-link-eq0.false own
-    c.sought-least.ensures.sought (c.as_slice.ensures.value ∙ numbers) c.first_with.ensures.place in
-    omega (arith, next.inside, tree.short)
+    c.sought-least.ensures.sought (c.as_slice.ensures.value ∙ numbers) c.first_with.ensures.place
+
+pub overflow_add-number : goal.overflow_add-number
+overflow_add-number c =
+    let tree : IsTree c.args.self.now = subst IsTree c.self.view_is c.self.invariant in
+    omega (arith, (next (goal.at.overflow_add-number c).After-first_with).inside, tree.short)
 
 pub overflow_cast-number-in-loop-self-2 : goal.overflow_cast-number-in-loop-self-2
 overflow_cast-number-in-loop-self-2 c =
-    let t : Tree = c.args.self.now in
-    let i : ℕ = c.loop-self.number in
-    let links : c.self.inside.links.items ≡ t.links = ap (λ v. v.links) c.self.view_is in
-    let numbers : c.self.inside.numbers.items ≡ t.numbers = ap (λ v. v.numbers) c.self.view_is in
-    let tree : IsTree t = subst IsTree c.self.view_is c.self.invariant in
-    let here : link_at t.links i ≡ c.index-link.result.now =
-    ap (λ v. link_at v i) (sym links) ∙ read-at c.self.inside.links.items i (leaf_link Attack 0) c.index-link.result.now
-    (omega (arith, ap length links, c.loop-self.invariant.inside)) c.index-link.ensures in
-    let own : numbers_at t.numbers i ≡ c.index.result.now =
-    ap (λ v. numbers_at v i) (sym numbers) ∙ read-at c.self.inside.numbers.items i no_numbers c.index.result.now
-    (omega (arith, ap length numbers, tree.numbered.count, c.loop-self.invariant.inside)) c.index.ensures in
-    let next : IsNext t i (c.index-link.result.now.first + c.first_with.result) =
-    next-child t i c.index-link.result.now c.sought-least.result c.index.result.now c.as_slice.result.now c.first_with.result tree
-    c.loop-self.invariant.inside c.loop-self.invariant.open_node c.loop-self.invariant.leads here c.if-link-eq0.false own
-    c.sought-least.ensures.sought (c.as_slice.ensures.value ∙ numbers) c.first_with.ensures.place in
-    omega (arith, next.inside, tree.short)
+    let tree : IsTree c.args.self.now = subst IsTree c.self.view_is c.self.invariant in
+    omega (arith, (next (goal.at.overflow_cast-number-in-loop-self-2 c).After-first_with).inside, tree.short)
 
 pub loop-self-preserved : goal.loop-self-preserved
 loop-self-preserved c =
-    let t : Tree = c.args.self.now in
-    let i : ℕ = c.loop-self.number in
-    let links : c.self.inside.links.items ≡ t.links = ap (λ v. v.links) c.self.view_is in
-    let numbers : c.self.inside.numbers.items ≡ t.numbers = ap (λ v. v.numbers) c.self.view_is in
-    let tree : IsTree t = subst IsTree c.self.view_is c.self.invariant in
-    let here : link_at t.links i ≡ c.index-link.result.now =
-    ap (λ v. link_at v i) (sym links) ∙ read-at c.self.inside.links.items i (leaf_link Attack 0) c.index-link.result.now
-    (omega (arith, ap length links, c.loop-self.invariant.inside)) c.index-link.ensures in
-    let own : numbers_at t.numbers i ≡ c.index.result.now =
-    ap (λ v. numbers_at v i) (sym numbers) ∙ read-at c.self.inside.numbers.items i no_numbers c.index.result.now
-    (omega (arith, ap length numbers, tree.numbered.count, c.loop-self.invariant.inside)) c.index.ensures in
-    let next : IsNext t i (c.index-link.result.now.first + c.first_with.result) =
-    next-child t i c.index-link.result.now c.sought-least.result c.index.result.now c.as_slice.result.now c.first_with.result tree
-    c.loop-self.invariant.inside c.loop-self.invariant.open_node c.loop-self.invariant.leads here c.if-link-eq0.false own
-    c.sought-least.ensures.sought (c.as_slice.ensures.value ∙ numbers) c.first_with.ensures.place in
-    record { inside = next.inside; open_node = next.open_node; leads = next.leads }
+    let on = next (goal.at.loop-self-preserved c).After-first_with in
+    record { inside = on.inside; open_node = on.open_node; leads = on.leads }

@@ -1,29 +1,24 @@
 -- What settle_leaf leaves of the numbers is found once for each clause, and not by each of them.
-use Rattle.std.proofs.Common.{rules, ◌≡◌, length, arith}
+use Rattle.std.proofs.Common.{rules, ◌≡◌, arith}
 use Rattle.proof_tree.proofs.Changed.{written-back}
 use Rattle.proof_tree.proofs.tree.ProofTree.settle.Goals as goal
 
 pub invariant_of-self : goal.invariant_of-self
 invariant_of-self c =
-    let e : length c.settle_leaf.new.numbers ≡ c.self.inside.numbers.len = omega arith in
-    rw (written-back _ c.settle_leaf.new.numbers c.self.inside.numbers.items e) (search rules)
+    rw (written-back c.self.inside.numbers.len c.settle_leaf.new.numbers c.self.inside.numbers.items (omega arith)) (search rules)
 
 pub returns-clause-settled : goal.returns-clause-settled
 returns-clause-settled c =
-    let e : length c.settle_leaf.new.numbers ≡ c.self.inside.numbers.len = omega arith in
-    rw (written-back _ c.settle_leaf.new.numbers c.self.inside.numbers.items e) (search rules)
+    rw (written-back c.self.inside.numbers.len c.settle_leaf.new.numbers c.self.inside.numbers.items (omega arith)) (search rules)
 
 pub returns-clause-others : goal.returns-clause-others
 returns-clause-others c =
-    let e : length c.settle_leaf.new.numbers ≡ c.self.inside.numbers.len = omega arith in
-    rw (written-back _ c.settle_leaf.new.numbers c.self.inside.numbers.items e) (search rules)
+    rw (written-back c.self.inside.numbers.len c.settle_leaf.new.numbers c.self.inside.numbers.items (omega arith)) (search rules)
 
 pub returns-clause-leaves : goal.returns-clause-leaves
 returns-clause-leaves c =
-    let e : length c.settle_leaf.new.numbers ≡ c.self.inside.numbers.len = omega arith in
-    rw (written-back _ c.settle_leaf.new.numbers c.self.inside.numbers.items e) (search rules)
+    rw (written-back c.self.inside.numbers.len c.settle_leaf.new.numbers c.self.inside.numbers.items (omega arith)) (search rules)
 
 pub returns-clause-tree : goal.returns-clause-tree
 returns-clause-tree c =
-    let e : length c.settle_leaf.new.numbers ≡ c.self.inside.numbers.len = omega arith in
-    rw (written-back _ c.settle_leaf.new.numbers c.self.inside.numbers.items e) (search rules)
+    rw (written-back c.self.inside.numbers.len c.settle_leaf.new.numbers c.self.inside.numbers.items (omega arith)) (search rules)
