@@ -1,12 +1,16 @@
 -- The laws of images, from those of turns.
-use Rattle.std.proofs.Common.{◌≡◌, ℕ, true}
-use Rattle.game_rules.specs.Grid.{Grid, IsBoard}
+use Rattle.std.proofs.Common.{◌≡◌, ℕ, true, ap, refl, List, [], ◌∷◌, map, Some}
+use Rattle.std.specs.List.{list_all}
+use Rattle.game_rules.specs.Grid.{Grid, IsBoard, is_on}
 use Rattle.game_rules.specs.Games.{has_five, has_threat}
 use Rattle.strategy_graph.specs.Tables.{Answers, IsTable, IsStart, TableOnBoard, RepliesOn}
 use Rattle.strategy_graph.specs.declared.Node.{Node}
 use Rattle.strategy_graph.specs.declared.roots.Root.TheVariants.{Attack, Defend}
-use Rattle.std.proofs.Common.{List}
-use Rattle.board_symmetry.specs.Points.{fits}
+use Rattle.game_rules.specs.declared.RuleKind.{RuleKind}
+use Rattle.game_rules.specs.declared.Point.{Point}
+use Rattle.board_symmetry.specs.Points.{board_image, fits, point_image}
+use Rattle.board_symmetry.specs.Images.{root_image, table_image}
+use Rattle.board_symmetry.specs.RootGames.{root_game}
 use Rattle.board_symmetry.specs.Laws.{KeepsMoves, KeepsWins, KeepsNode, KeepsStart, ImagesKeepPositions, ImagesKeepRoots}
 use Rattle.board_symmetry.specs.declared.symmetry.Symmetry.{Symmetry}
 use Rattle.board_symmetry.proofs.Eight.{turn_of}
@@ -15,7 +19,7 @@ use Rattle.board_symmetry.proofs.TurnedOutcomes.{outcome-same, foul-same}
 use Rattle.board_symmetry.proofs.TurnedPositions.{position-same}
 use Rattle.board_symmetry.proofs.TurnedWins.{wins-same, wins_after-same, asks_nothing, asks_five, asks_threat}
 use Rattle.board_symmetry.proofs.TurnedTables.{accepted-same, accepted_start-same, arrivals-same, start_arrivals-same, game-same}
-use Rattle.board_symmetry.proofs.TurnedTables.{depth-same, start_depth-same}
+use Rattle.board_symmetry.proofs.TurnedTables.{answer-same, answer_at-same, depth-same, start_depth-same, start_game-same}
 use Rattle.board_symmetry.proofs.ImageGroup.{names_sized}
 
 module _ (s : Symmetry) (b : Grid) (ok : IsBoard b) (fit : fits s b.width b.height ≡ true) where
@@ -51,6 +55,7 @@ module _ (s : Symmetry) (b : Grid) (ok : IsBoard b) (fit : fits s b.width b.heig
           same_depth = depth-same b.width b.height _ _ turn t table named i;
           same_accepted = λ rule. accepted-same b.width b.height _ _ turn rule t named i b.cells _ turned;
           same_arrivals = λ rule. arrivals-same b.width b.height _ _ turn rule t named i b.cells _ turned;
+          same_answer = λ q on_q. answer_at-same b.width b.height _ _ turn t i q on_q;
           same_game = λ rule qs all. game-same b.width b.height _ _ turn rule t named i b.cells _ qs turned all;
         }
 
@@ -63,6 +68,8 @@ module _ (s : Symmetry) (b : Grid) (ok : IsBoard b) (fit : fits s b.width b.heig
           same_depth = start_depth-same b.width b.height _ _ turn t table named a start.rising listed;
           same_accepted = λ rule. accepted_start-same b.width b.height _ _ turn rule t named a b.cells _ turned;
           same_arrivals = λ rule. start_arrivals-same b.width b.height _ _ turn rule t named a b.cells _ turned;
+          same_answer = λ q on_q. answer-same b.width b.height _ _ turn a q on_q;
+          same_game = λ rule q qs all. start_game-same b.width b.height _ _ turn rule t named a b.cells _ q qs turned all;
         }
 
 pub keeps_positions : ImagesKeepPositions
@@ -76,6 +83,8 @@ keeps_root s b ok fit t table on (Attack i) is listed =
       same_depth = node.same_depth;
       same_accepted = node.same_accepted;
       same_arrivals = node.same_arrivals;
+      same_answer = node.same_answer;
+      same_game = λ rule qs all. ap Some (node.same_game rule qs all);
       same_claim = (keeps_wins s b ok fit).same_win;
     }
 keeps_root s b ok fit t table on (Defend a) is listed =
@@ -84,5 +93,12 @@ keeps_root s b ok fit t table on (Defend a) is listed =
       same_depth = start.same_depth;
       same_accepted = start.same_accepted;
       same_arrivals = start.same_arrivals;
+      same_answer = start.same_answer;
+      same_game = games start;
       same_claim = (keeps_wins s b ok fit).same_win_after;
-    }
+    } where
+      games : KeepsStart s b t a → (rule : RuleKind) (qs : List Point) → list_all (is_on b) qs ≡ true
+          → root_game rule (table_image s b.width b.height t) (root_image s b.width b.height (Defend a)) (board_image s b)
+          (map (point_image s b.width b.height) qs) ≡ root_game rule t (Defend a) b qs
+      games kept rule [] all = refl
+      games kept rule (q ∷ qs) all = kept.same_game rule q qs all

@@ -1,7 +1,7 @@
 -- A table whose points a turn took to other points says of the board that the turn made what the table says of the board.
 use Rattle.std.proofs.Common.{◌≡◌, ◌↔◌, ℕ, zero, suc, max, true, cond, refl, sym, ap, subst, ◌∙◌, List, [], ◌∷◌, map, false}
 use Rattle.std.specs.Prelude.{Option, Some, None, slice_get, IsSomeAnd}
-use Rattle.std.specs.Option.{option_map, option_or, option_map_or}
+use Rattle.std.specs.Option.{option_and_then, option_map, option_or, option_map_or}
 use Rattle.std.specs.List.{list_all}
 use Rattle.std.proofs.lemmas.Option.{slice_get-map}
 use Rattle.game_rules.specs.Grid.{Grid}
@@ -15,7 +15,7 @@ use Rattle.game_rules.proofs.Boards.{and_left, and_right}
 use Rattle.game_rules.proofs.Tests.{all_get}
 use Rattle.game_rules.proofs.Games.{WinsOr-map}
 use Rattle.strategy_graph.proofs.Common.{rest_nodes, node_depth}
-use Rattle.strategy_graph.specs.Tables.{Answers, answers_of, answer, rest_node, named, is_winning, NamesOnBoard, TableOnBoard}
+use Rattle.strategy_graph.specs.Tables.{Answers, answers_of, answer, answer_at, rest_node, named, is_winning, NamesOnBoard, TableOnBoard}
 use Rattle.strategy_graph.specs.Tables.{IsTable, greatest, depth_within, depth, start_depth, is_rising, RepliesOn}
 use Rattle.strategy_graph.specs.Acceptance.{Meets, AcceptedNode, AcceptedWithin, Accepted, AcceptedStart}
 use Rattle.strategy_graph.specs.Arrivals.{arrivals_at, arrivals_after, arrivals_behind, arrivals_within, arrivals}
@@ -25,6 +25,7 @@ use Rattle.strategy_graph.specs.declared.Node.{Node}
 use Rattle.strategy_graph.proofs.Answering.{IsSomeAnd-map}
 use Rattle.strategy_graph.proofs.Naming.{greatest-parts}
 use Rattle.board_symmetry.specs.Points.{empty_board}
+use Rattle.board_symmetry.specs.RootGames.{start_game}
 use Rattle.board_symmetry.proofs.Turns.{Turn, within}
 use Rattle.board_symmetry.proofs.Alike.{grid, Turned}
 use Rattle.board_symmetry.proofs.TurnedOutcomes.{points-sum, outcome-same, after-turned}
@@ -42,6 +43,14 @@ module _ (w h : ℕ) (to from : Point → Point) (turn : Turn w h to from) where
 
   pub answer-same : (a : Answers) (q : Point) → within w h q ≡ true → answer (answers_to a) (to q) ≡ answer a q
   answer-same a q on = ap (λ (o : Option ℕ). option_or o (rest_node a.rest)) (listed-same w h to from turn a.replies q on)
+
+  pub answer_at-same : (t : List Node) (i : ℕ) (q : Point) → within w h q ≡ true → answer_at (map node_to t) i (to q) ≡ answer_at t i q
+  answer_at-same t i q on =
+      ap (option_and_then (λ n. answer (answers_of n) (to q))) (slice_get-map node_to t i) ∙ by_node (slice_get t i) where
+        by_node : (o : Option Node) → option_and_then (λ n. answer (answers_of n) (to q)) (option_map node_to o)
+            ≡ option_and_then (λ n. answer (answers_of n) q) o
+        by_node None = refl
+        by_node (Some n) = answer-same (answers_of n) q on
 
   -- ---- acceptance
 
@@ -208,6 +217,18 @@ module _ (w h : ℕ) (to from : Point → Point) (turn : Turn w h to from) where
         (ap (λ (o : Option ℕ). if_node o (λ j. game rule (map node_to t) j (after (after (grid w h ys) (to n.attack)) (to q))
         (map to qs))) (answer-same (answers_of n) q on_q)
         ∙ node_end (answer (answers_of n) q) _ _ (λ j. game-same j _ _ qs last (and_right (within w h q) _ all))))
+
+    pub start_game-same : (a : Answers) (xs ys : List Cell) (q : Point) (qs : List Point) → Turned w h to xs ys
+        → list_all (within w h) (q ∷ qs) ≡ true
+        → start_game rule (map node_to t) (answers_to a) (grid w h ys) (to q) (map to qs) ≡ start_game rule t a (grid w h xs) q qs
+    start_game-same a xs ys q qs turned all =
+        let on_q : within w h q ≡ true = and_left (within w h q) _ all in
+        let next = after-turned w h to from turn xs ys turned rule q on_q in
+        ap (option_map (λ j. game rule (map node_to t) j (after (grid w h ys) (to q)) (map to qs))) (answer-same a q on_q)
+        ∙ same_map (answer a q) _ _ (λ j. game-same j _ _ qs next (and_right (within w h q) _ all)) where
+          same_map : (o : Option ℕ) (e f : ℕ → End) → ((j : ℕ) → f j ≡ e j) → option_map f o ≡ option_map e o
+          same_map None e f same = refl
+          same_map (Some j) e f same = ap Some (same j)
 
   -- ---- depths
 

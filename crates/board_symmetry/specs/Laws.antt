@@ -1,5 +1,5 @@
 -- The laws of images: what holds of a board and a table holds of their images.
-use Rattle.std.specs.Prelude.{◌≡◌, ◌↔◌, ℕ, true, List, map}
+use Rattle.std.specs.Prelude.{◌≡◌, ◌↔◌, ℕ, true, List, ◌∷◌, map}
 use Rattle.std.specs.List.{list_all}
 use Rattle.game_rules.specs.Grid.{Grid, IsBoard, is_on}
 use Rattle.game_rules.specs.Play.{IsPosition, outcome, foul_of}
@@ -7,7 +7,7 @@ use Rattle.game_rules.specs.Games.{WinsWithin, WinsByFours, WinsByThreats, WinsA
 use Rattle.game_rules.specs.declared.RuleKind.{RuleKind}
 use Rattle.game_rules.specs.declared.Side.{Side}
 use Rattle.game_rules.specs.declared.Point.{Point}
-use Rattle.strategy_graph.specs.Tables.{Answers, IsTable, IsStart, TableOnBoard, RepliesOn, depth, start_depth}
+use Rattle.strategy_graph.specs.Tables.{Answers, answer, answer_at, IsTable, IsStart, TableOnBoard, RepliesOn, depth, start_depth}
 use Rattle.strategy_graph.specs.Acceptance.{Accepted, AcceptedStart}
 use Rattle.strategy_graph.specs.Arrivals.{arrivals, start_arrivals}
 use Rattle.strategy_graph.specs.Games.{game}
@@ -17,6 +17,7 @@ use Rattle.strategy_graph.specs.declared.roots.Root.{Root}
 use Rattle.strategy_graph.specs.declared.roots.Root.TheVariants.{Attack, Defend}
 use Rattle.board_symmetry.specs.Points.{fits, inverse, point_image, board_image}
 use Rattle.board_symmetry.specs.Images.{answers_image, table_image, root_image}
+use Rattle.board_symmetry.specs.RootGames.{start_game, root_answer, root_game}
 use Rattle.board_symmetry.specs.declared.symmetry.Symmetry.{Symmetry}
 
 -- P holds of each symmetry and each board that it fits
@@ -51,11 +52,13 @@ abbrev pub ImagesKeepWins : Type 0
 ImagesKeepWins = OnImages KeepsWins
 
 -- node i of the image of a table says at the image of a board what node i of the table says at the board: its depth, where it
--- is accepted, its arrivals and its games
+-- is accepted, its arrivals, its answer to each reply and its games
 pub record KeepsNode (s : Symmetry) (b : Grid) (t : List Node) (i : ℕ) : Type 0 where
   pub same_depth : depth (table_image s b.width b.height t) i ≡ depth t i
   pub same_accepted : (rule : RuleKind) → Accepted rule (table_image s b.width b.height t) i (board_image s b) ↔ Accepted rule t i b
   pub same_arrivals : (rule : RuleKind) → arrivals rule (table_image s b.width b.height t) i (board_image s b) ≡ arrivals rule t i b
+  pub same_answer : (q : Point) → is_on b q ≡ true
+      → answer_at (table_image s b.width b.height t) i (point_image s b.width b.height q) ≡ answer_at t i q
   pub same_game : (rule : RuleKind) (qs : List Point) → list_all (is_on b) qs ≡ true
       → game rule (table_image s b.width b.height t) i (board_image s b) (map (point_image s b.width b.height) qs) ≡ game rule t i b qs
 
@@ -63,8 +66,8 @@ pub record KeepsNode (s : Symmetry) (b : Grid) (t : List Node) (i : ℕ) : Type 
 abbrev pub ImagesKeepNodes : Type 0
 ImagesKeepNodes = OnImages (λ s b. (t : List Node) → IsTable t → TableOnBoard b t → (i : ℕ) → KeepsNode s b t i)
 
--- the image of a start says with the image of a table what the start says with the table: its depth, where it is accepted, and
--- its arrivals
+-- the image of a start says with the image of a table what the start says with the table: its depth, where it is accepted, its
+-- arrivals, its answer to each reply, which is the same node, and the games after it
 pub record KeepsStart (s : Symmetry) (b : Grid) (t : List Node) (a : Answers) : Type 0 where
   pub same_depth : start_depth (table_image s b.width b.height t) (answers_image s b.width b.height a) ≡ start_depth t a
   pub same_accepted : (rule : RuleKind)
@@ -73,6 +76,11 @@ pub record KeepsStart (s : Symmetry) (b : Grid) (t : List Node) (a : Answers) : 
   pub same_arrivals : (rule : RuleKind)
       → start_arrivals rule (table_image s b.width b.height t) (answers_image s b.width b.height a) (board_image s b)
       ≡ start_arrivals rule t a b
+  pub same_answer : (q : Point) → is_on b q ≡ true
+      → answer (answers_image s b.width b.height a) (point_image s b.width b.height q) ≡ answer a q
+  pub same_game : (rule : RuleKind) (q : Point) (qs : List Point) → list_all (is_on b) (q ∷ qs) ≡ true
+      → start_game rule (table_image s b.width b.height t) (answers_image s b.width b.height a) (board_image s b)
+      (point_image s b.width b.height q) (map (point_image s b.width b.height) qs) ≡ start_game rule t a b q qs
 
 -- starts say what they said
 abbrev pub ImagesKeepStarts : Type 0
@@ -81,13 +89,19 @@ ImagesKeepStarts =
     → KeepsStart s b t a)
 
 -- the image of a root says with the image of a table what the root says with the table: its depth, where it is accepted, its
--- arrivals, and what it claims
+-- arrivals, what it claims, its answer to each reply, and its games
 pub record KeepsRoot (s : Symmetry) (b : Grid) (t : List Node) (r : Root) : Type 0 where
   pub same_depth : root_depth (table_image s b.width b.height t) (root_image s b.width b.height r) ≡ root_depth t r
   pub same_accepted : (rule : RuleKind)
       → AcceptedRoot rule (table_image s b.width b.height t) (root_image s b.width b.height r) (board_image s b) ↔ AcceptedRoot rule t r b
   pub same_arrivals : (rule : RuleKind)
       → root_arrivals rule (table_image s b.width b.height t) (root_image s b.width b.height r) (board_image s b) ≡ root_arrivals rule t r b
+  pub same_answer : (q : Point) → is_on b q ≡ true
+      → root_answer (table_image s b.width b.height t) (root_image s b.width b.height r) (point_image s b.width b.height q)
+      ≡ root_answer t r q
+  pub same_game : (rule : RuleKind) (qs : List Point) → list_all (is_on b) qs ≡ true
+      → root_game rule (table_image s b.width b.height t) (root_image s b.width b.height r) (board_image s b)
+      (map (point_image s b.width b.height) qs) ≡ root_game rule t r b qs
   pub same_claim : (rule : RuleKind) (n : ℕ) → RootWins rule (root_image s b.width b.height r) n (board_image s b) ↔ RootWins rule r n b
 
 -- a root that is a start is one whose replies rise and whose rest is not that of a winning node

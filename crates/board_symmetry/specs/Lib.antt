@@ -1,4 +1,5 @@
 pub mod Points
 pub mod Images
+pub mod RootGames
 pub mod Files
 pub mod Laws

@@ -23,8 +23,9 @@ pub fn images_keep_wins()
     ensures wins { ImagesKeepWins }
 {}
 
-/// A node of the image of a table has its depth, and at the image of a board it is accepted and has the arrivals and games of
-/// the node at the board. A start does so but for games, and so does a root of either kind.
+/// A node of the image of a table has its depth, and at the image of a board it is accepted and has the arrivals, the answers and
+/// the games of the node at the board. A start does so too, whose games are those after each reply, and so does a root of either
+/// kind.
 pub fn images_keep_tables()
     ensures nodes { ImagesKeepNodes }
     ensures starts { ImagesKeepStarts }

@@ -27,8 +27,8 @@ use Rattle.game_referee.specs.declared.GameVerdict.TheVariants.{Open, Illegal, A
 use Rattle.game_referee.specs.declared.ReplayAnswer.TheVariants.{Follows}
 use Rattle.game_referee.specs.Verdicts.{outcomes, verdict, verdict_from}
 use Rattle.game_referee.specs.Replays.{departs_from, is_attack, is_stray, next_turn, replay, strays}
-use Rattle.game_referee.specs.Followers.{Agrees, FollowerNeverLoses, GamesGoByTable, IsKeptBy, IsPlayed, even_moves, mover_after, odd_moves}
-use Rattle.game_referee.specs.Followers.{side_of}
+use Rattle.game_referee.specs.Followers.{Agrees, FollowerNeverLoses, GamesGoByRoot, GamesGoByTable, GoesByTable, IsKeptBy, IsPlayed}
+use Rattle.game_referee.specs.Followers.{even_moves, mover_after, odd_moves, side_of}
 
 -- ---- what agrees, where c moves were played before; a point that is no move is a reply
 
@@ -297,6 +297,54 @@ games-go-by-table rule t i b ms accepted follows played =
       won = λ j k odd. won_exactly (mover b) (length ms) (verdict rule b ms) (game rule t i b (even_moves ms)) agrees j k odd;
       open_end = λ j odd. open_exactly (mover b) (length ms) (verdict rule b ms) (game rule t i b (even_moves ms)) agrees j odd;
     }
+
+-- ---- from a root
+
+-- however many moves went on before, the same moves follow, and were played
+follows-shifted : (c d : ℕ) (bs : List Bool) (os : List Outcome) → departs_from c bs os ≡ Follows → departs_from d bs os ≡ Follows
+follows-shifted c d [] os h = refl
+follows-shifted c d (true ∷ bs) os h = cc
+follows-shifted c d (false ∷ bs) [] h = refl
+follows-shifted c d (false ∷ bs) (Refused ∷ os) h = refl
+follows-shifted c d (false ∷ bs) (Wins ∷ os) h = refl
+follows-shifted c d (false ∷ bs) (Fouls f ∷ os) h = refl
+follows-shifted c d (false ∷ bs) (Draws ∷ os) h = refl
+follows-shifted c d (false ∷ bs) (GoesOn ∷ os) h = follows-shifted (c + 1) (d + 1) bs os h
+
+played-shifted : (m n : ℕ) (s u : Side) (os : List Outcome) → IsPlayed (verdict_from m s os) → IsPlayed (verdict_from n u os)
+played-shifted m n s u [] h = tt
+played-shifted m n s u (Refused ∷ os) h = absurd h
+played-shifted m n s u (Wins ∷ []) h = tt
+played-shifted m n s u (Wins ∷ o ∷ os) h = absurd h
+played-shifted m n s u (Fouls f ∷ []) h = tt
+played-shifted m n s u (Fouls f ∷ o ∷ os) h = absurd h
+played-shifted m n s u (Draws ∷ []) h = tt
+played-shifted m n s u (Draws ∷ o ∷ os) h = absurd h
+played-shifted m n s u (GoesOn ∷ os) h = played-shifted (m + 1) (n + 1) (other s) (other u) os h
+
+pub games-go-by-root : GamesGoByRoot
+unfolding replay verdict
+games-go-by-root rule t (Attack i) b ms accepted follows played = games-go-by-table rule t i b ms accepted follows played
+games-go-by-root rule t (Defend a) b [] accepted follows played = tt
+games-go-by-root rule t (Defend a) b (q ∷ ms) accepted follows played = λ on. by_answer on (answer a q) refl
+    (subst (λ (o : Outcome). LosesOr o (IsSomeAnd (answer a q) (λ j. Accepted rule t j (after b q)))) on (accepted q)) where
+      by_answer : outcome rule b q ≡ GoesOn → (o : Option ℕ) → answer a q ≡ o → IsSomeAnd o (λ j. Accepted rule t j (after b q))
+          → (j : ℕ) × (answer a q ≡ Some j) × GoesByTable rule t j (after b q) ms
+      by_answer on None is h = absurd h
+      by_answer on (Some j) is h =
+          let os : List Outcome = outcomes rule (after b q) ms in
+          let later : departs_from 1 (strays t (option_map (λ (k : ℕ). Attack k) (answer a q)) ms) os ≡ Follows =
+          subst (λ (o : Outcome). departs_from 0 (false ∷ strays t (option_map (λ (k : ℕ). Attack k) (answer a q)) ms) (o ∷ os) ≡ Follows)
+          on follows in
+          let then : departs_from 1 (strays t (Some (Attack j)) ms) os ≡ Follows =
+          subst (λ (x : Option ℕ). departs_from 1 (strays t (option_map (λ (k : ℕ). Attack k) x) ms) os ≡ Follows) is later in
+          let all : IsPlayed (verdict_from 1 (other (mover b)) os) =
+          subst (λ (o : Outcome). IsPlayed (verdict_from 0 (mover b) (o ∷ os))) on played in (
+            j,
+            is,
+            games-go-by-table rule t j (after b q) ms h (follows-shifted 1 0 (strays t (Some (Attack j)) ms) os then)
+                (played-shifted 1 0 (other (mover b)) (mover (after b q)) os all),
+          )
 
 -- ---- no game is lost
 

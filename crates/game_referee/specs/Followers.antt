@@ -1,13 +1,15 @@
 -- Games that follow an accepted table.
-use Rattle.std.specs.Prelude.{◌≡◌, ◌↔◌, ℕ, zero, suc, ◌+◌, ◌*◌, ◌-◌, List, [], ◌∷◌, ◌++◌, length}
+use Rattle.std.specs.Prelude.{◌≡◌, ◌↔◌, ℕ, zero, suc, ◌+◌, ◌*◌, ◌-◌, List, [], ◌∷◌, ◌++◌, length, Some}
 use Rattle.game_rules.specs.Grid.{Grid}
-use Rattle.game_rules.specs.Play.{mover, other}
+use Rattle.game_rules.specs.Play.{after, mover, other, outcome}
+use Rattle.game_rules.specs.declared.Outcome.TheVariants.{GoesOn}
 use Rattle.game_rules.specs.declared.Side.{Side}
 use Rattle.game_rules.specs.declared.RuleKind.{RuleKind}
 use Rattle.game_rules.specs.declared.Point.{Point}
 use Rattle.strategy_graph.specs.declared.Node.{Node}
 use Rattle.strategy_graph.specs.declared.roots.Root.{Root}
 use Rattle.strategy_graph.specs.declared.roots.Root.TheVariants.{Attack, Defend}
+use Rattle.strategy_graph.specs.Tables.{answer}
 use Rattle.strategy_graph.specs.Acceptance.{Accepted}
 use Rattle.strategy_graph.specs.Roots.{AcceptedRoot}
 use Rattle.strategy_graph.specs.Games.{End, Won as EndWon, Open as EndOpen, attacks, game}
@@ -65,6 +67,19 @@ abbrev pub GamesGoByTable : Type 0
 GamesGoByTable =
     (rule : RuleKind) (t : List Node) (i : ℕ) (b : Grid) (ms : List Point) → Accepted rule t i b → replay rule t (Attack i) b ms ≡ Follows
     → IsPlayed (verdict rule b ms) → GoesByTable rule t i b ms
+
+-- What holds of a game that follows a table from a root that is accepted at the board: from a node it goes by the table; and where the
+-- opponent moves first, and this move goes on, the moves after it go by the table from the node with which the start answers it.
+abbrev pub GoesByRoot : RuleKind → List Node → Root → Grid → List Point → Type 0
+GoesByRoot rule t (Attack i) b ms = GoesByTable rule t i b ms
+GoesByRoot rule t (Defend a) b [] = Unit {0}
+GoesByRoot rule t (Defend a) b (q ∷ ms) = outcome rule b q ≡ GoesOn → (j : ℕ) × (answer a q ≡ Some j) × GoesByTable rule t j (after b q) ms
+
+-- a game that follows a table from an accepted root, and was played as a game, goes by the table
+abbrev pub GamesGoByRoot : Type 0
+GamesGoByRoot =
+    (rule : RuleKind) (t : List Node) (root : Root) (b : Grid) (ms : List Point) → AcceptedRoot rule t root b
+    → replay rule t root b ms ≡ Follows → IsPlayed (verdict rule b ms) → GoesByRoot rule t root b ms
 
 -- the side of a table that is entered at this root: where a node is entered the one to move, and at a start the other one
 abbrev pub side_of : Root → Grid → Side

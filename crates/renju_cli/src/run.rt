@@ -68,11 +68,12 @@ pub fn run_renju<I: Source, O: Sink, F: Shelf>(
     // each game is won.
     ensures drilled { ShowsDrill (program_run (map string_bytes words.now) (change I.left I.faults I.asked input.old input.new)
         (change O.written O.faults O.asked output.old output.new) (change F.files F.faults F.asked shelf.old shelf.new) result) }
-    // What status 0 of `image` shows: the text of the image of a table, which is accepted exactly where the table is.
+    // What status 0 of `image` shows: the text of the image of a table, which is accepted exactly where the table is, with the same
+    // games, and whose board is won exactly where that of the table is.
     ensures imaged { ShowsImage (program_run (map string_bytes words.now) (change I.left I.faults I.asked input.old input.new)
         (change O.written O.faults O.asked output.old output.new) (change F.files F.faults F.asked shelf.old shelf.new) result) }
     // What status 0 of `referee FILE` shows: the verdict on the game, and whether it was played by the table of FILE, which is
-    // accepted. Where it was, the side of the table did not lose it.
+    // accepted. Where it was, it went by the table, and the side of the table did not lose it.
     ensures refereed { ShowsReferee (program_run (map string_bytes words.now) (change I.left I.faults I.asked input.old input.new)
         (change O.written O.faults O.asked output.old output.new) (change F.files F.faults F.asked shelf.old shelf.new) result) }
     // What statuses 0 and 5 of `defend` show: exactly the moves that hold against continuous fours, or an accepted table by which the

@@ -16,7 +16,7 @@ use Rattle.board_symmetry.specs.Images.{table_image, root_image}
 use Rattle.board_symmetry.specs.Files.{file_image}
 use Rattle.board_symmetry.specs.declared.symmetry.Symmetry.{Symmetry}
 use Rattle.board_symmetry.proofs.FileImages.{file-root, image-named, image-root}
-use Rattle.board_symmetry.proofs.ImageLaws.{keeps_positions}
+use Rattle.board_symmetry.proofs.ImageLaws.{keeps_positions, keeps_wins}
 use Rattle.renju_io.specs.Told.{Takes}
 use Rattle.command_base.specs.declared.status.Status.{Status}
 use Rattle.command_base.specs.declared.status.Status.TheVariants.{Done, RefusedText}
@@ -101,6 +101,8 @@ module _ (s : Symmetry) (run : Run) (zero : run.status ≡ 0) where
         whole = whole;
         same_accepted = root.same_accepted file.kind;
         same_arrivals = root.same_arrivals file.kind;
+        same_game = root.same_game file.kind;
+        same_wins = keeps_wins s file.board at.text.board image.fitting;
       }
 
   by-saying : (bytes : List ℕ) (status : Status) (text : List ℕ) → run.status ≡ status_number status

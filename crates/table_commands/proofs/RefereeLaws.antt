@@ -6,8 +6,9 @@ use Rattle.game_rules.specs.declared.RuleKind.{RuleKind}
 use Rattle.strategy_graph.specs.Roots.{AcceptedRoot}
 use Rattle.game_referee.specs.declared.ReplayAnswer.{ReplayAnswer}
 use Rattle.game_referee.specs.declared.ReplayAnswer.TheVariants.{Follows, Departs}
-use Rattle.game_referee.specs.Followers.{NeverLoses, side_of}
-use Rattle.game_referee.proofs.Following.{follower-never-loses}
+use Rattle.game_referee.specs.Followers.{GoesByRoot, IsPlayed, NeverLoses, side_of}
+use Rattle.game_referee.specs.Replays.{replay}
+use Rattle.game_referee.proofs.Following.{follower-never-loses, games-go-by-root}
 use Rattle.position_files.specs.declared.GameFile.{GameFile}
 use Rattle.position_files.specs.declared.TableFile.{TableFile}
 use Rattle.position_files.proofs.ReadBack.{game-read-back}
@@ -20,13 +21,14 @@ use Rattle.command_base.specs.Runs.{IsAskedOnly, Run, IsUnbegun}
 use Rattle.strategy_checker.specs.HeldRoots.{HeldTable}
 use Rattle.file_loading.specs.Loading.{HoldsFile}
 use Rattle.file_loading.specs.declared.loading.Holdable.TheVariants.{Table}
-use Rattle.command_base.specs.Told.{AnswersTold, EndsTold, IsYielded}
+use Rattle.command_base.specs.Told.{AnswersTold, EndsTold, IsTold, IsYielded}
 use Rattle.command_base.specs.Refusals.{IsRefusedText}
 use Rattle.file_loading.specs.TableFiles.{IsTableAt}
 use Rattle.file_loading.specs.HeldFiles.{IsFit, IsFitFile, IsUnhinderedShelf, TableFileSays, TellsFile}
 use Rattle.table_commands.specs.Referees.{ComparesSays, HasGameFault, HeldSays, IsGameAt, IsRefereeWith, RefereeSays, RefereesByFile}
-use Rattle.table_commands.specs.Referees.{ShowsGame, TellsTable, compares_command, of_game, referee_command, replay_line}
-use Rattle.command_base.proofs.ToldLaws.{IsWhole, answers-by, by-end, ends-map, given-told, where-told}
+use Rattle.table_commands.specs.Referees.{IsJudgedInput, ShowsGame, TellsTable, compares_command, of_game, referee_command, replay_line}
+use Rattle.table_commands.specs.Referees.{verdict_on}
+use Rattle.command_base.proofs.ToldLaws.{IsWhole, answers-by, by-end, ends-map, every-told, given-told, where-told, whole-or-yielded}
 use Rattle.file_loading.proofs.TableFileLaws.{one-table}
 use Rattle.file_loading.proofs.HeldFileLaws.{found-under, not-told, same-bytes, table-not_told, delivered-other, not-other}
 use Rattle.file_loading.proofs.HeldFileLaws.{table_told-other, unheld-other}
@@ -102,15 +104,28 @@ follows-told Follows e = refl
 follows-told (Departs n) e = let letter : 100 ≡ 102 = ap (λ (l : List ℕ). get_or l 6 0) e in absurd (omega (arith, letter))
 
 module _ (file : TableFile) (game : GameFile) (fit : IsFit file) where
+  -- where the line says that the table is followed, its root is accepted, and the game follows it
+  followed-by : (second : List ℕ) → TellsTable file game.kind game.board game.moves second → second ≡ replay_line Follows
+      → AcceptedRoot game.kind file.table file.root game.board × (replay game.kind file.table file.root game.board game.moves ≡ Follows)
+  followed-by second (inl replayed) follows = (
+    subst (λ (b : Grid). AcceptedRoot game.kind file.table file.root b) replayed.same_board
+        (subst (λ (k : RuleKind). AcceptedRoot k file.table file.root file.board) replayed.same_rule fit.accepted),
+    follows-told _ (sym replayed.told ∙ follows),
+  )
+  followed-by second (inr apart) follows =
+      let letter : 97 ≡ 102 = ap (λ (l : List ℕ). get_or l 6 0) (sym apart.told ∙ follows) in absurd (omega (arith, letter))
+
   kept-by : (second : List ℕ) → TellsTable file game.kind game.board game.moves second → second ≡ replay_line Follows
       → NeverLoses game.kind (side_of file.root game.board) game.board game.moves
-  kept-by second (inl replayed) follows =
-      let accepted : AcceptedRoot game.kind file.table file.root game.board =
-      subst (λ (b : Grid). AcceptedRoot game.kind file.table file.root b) replayed.same_board
-      (subst (λ (k : RuleKind). AcceptedRoot k file.table file.root file.board) replayed.same_rule fit.accepted) in
-      follower-never-loses game.kind file.table file.root game.board game.moves accepted (follows-told _ (sym replayed.told ∙ follows))
-  kept-by second (inr apart) follows =
-      let letter : 97 ≡ 102 = ap (λ (l : List ℕ). get_or l 6 0) (sym apart.told ∙ follows) in absurd (omega (arith, letter))
+  kept-by second tells follows =
+      let is = followed-by second tells follows in
+      follower-never-loses game.kind file.table file.root game.board game.moves is.0 is.1
+
+  goes-by : (second : List ℕ) → TellsTable file game.kind game.board game.moves second → second ≡ replay_line Follows
+      → IsPlayed (verdict_on game) → GoesByRoot game.kind file.table file.root game.board game.moves
+  goes-by second tells follows played =
+      let is = followed-by second tells follows in
+      games-go-by-root game.kind file.table file.root game.board game.moves is.0 is.1 played
 
 -- the status of an answer is the only one that is zero
 not-yielded : (n : ℕ) → n ≡ status_number Done → IsYielded n → ⊥
@@ -118,6 +133,30 @@ not-yielded n zero (inl long) = let e = sym zero ∙ long in cc
 not-yielded n zero (inr (inl memory)) = let e = sym zero ∙ memory in cc
 not-yielded n zero (inr (inr (inl read))) = let e = sym zero ∙ read in cc
 not-yielded n zero (inr (inr (inr write))) = let e = sym zero ∙ write in cc
+
+-- what the statuses of `referee` show
+pub verdict-shown : (run : Run) → IsTold RefereeSays run → IfSome run.input.before (λ input. IsJudgedInput input run)
+verdict-shown run told = by-end-of (whole-or-yielded RefereeSays run told) where
+  by-says : (bytes : List ℕ) (status : Status) (text : List ℕ) → run.status ≡ status_number status
+      → Takes run.output.before text run.output.after → RefereeSays bytes status text → IsJudgedInput bytes run
+  by-says bytes status text ends whole (inl refused) = record {
+    judged = λ done. let e = sym done ∙ ends ∙ ap status_number refused.ends in absurd (cc);
+    only = λ game at. absurd (game-taken game bytes at status text refused);
+  }
+  by-says bytes status text ends whole (inr said) = record {
+    judged = λ done. record {
+      game = said.0;
+      at = said.1;
+      whole = subst (λ (l : List ℕ). Takes run.output.before l run.output.after) said.2.line whole;
+    };
+    only = λ game at. inl (ends ∙ ap status_number said.2.ends);
+  }
+
+  by-end-of : IsWhole RefereeSays run ⊎ IsYielded run.status → IfSome run.input.before (λ input. IsJudgedInput input run)
+  by-end-of (inl w) = given-told (λ input. IsJudgedInput input run) run.input.before w.bytes w.given
+      (by-says w.bytes w.status w.text w.ends w.whole w.says)
+  by-end-of (inr yielded) = every-told (λ input. IsJudgedInput input run) run.input.before
+      (λ bytes. record { judged = λ done. absurd (not-yielded run.status done yielded); only = λ game at. inr yielded })
 
 module _ (name : List ℕ) (run : Run) (done : run.status ≡ status_number Done) (files : Files) (told : run.shelf.before ≡ Some files) where
   by-whole : (by : RefereesByFile name run) → IsWhole (ComparesSays by.file) run → IfSome run.input.before
@@ -141,6 +180,7 @@ module _ (name : List ℕ) (run : Run) (done : run.status ≡ status_number Done
           second = said.2.second;
           tells = said.2.tells;
           whole = subst (λ (l : List ℕ). Takes run.output.before l run.output.after) said.2.lines whole.whole;
+          goes = goes-by by.file said.0 by.fit said.2.second said.2.tells;
           kept = kept-by by.file said.0 by.fit said.2.second said.2.tells;
         }
 

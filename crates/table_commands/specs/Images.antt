@@ -1,11 +1,16 @@
 -- The command `image`: its words, what it says of its input, and what its status 0 shows.
-use Rattle.std.specs.Prelude.{◌≡◌, ◌↔◌, ◌⊎◌, ℕ, true, false, List, [], ◌∷◌, codes, Option, IfSome}
+use Rattle.std.specs.Prelude.{◌≡◌, ◌↔◌, ◌⊎◌, ℕ, true, false, List, [], ◌∷◌, map, codes, Option, IfSome}
+use Rattle.std.specs.List.{list_all}
+use Rattle.game_rules.specs.Grid.{is_on}
+use Rattle.game_rules.specs.declared.Point.{Point}
 use Rattle.strategy_graph.specs.Roots.{AcceptedRoot, root_arrivals}
 use Rattle.position_files.specs.Faults.{IsTableFault}
 use Rattle.position_files.specs.declared.TableFile.{TableFile}
 use Rattle.text_lines.specs.Lines.{ended}
-use Rattle.board_symmetry.specs.Points.{fits}
+use Rattle.board_symmetry.specs.Points.{fits, point_image}
 use Rattle.board_symmetry.specs.Files.{file_image}
+use Rattle.board_symmetry.specs.RootGames.{root_game}
+use Rattle.board_symmetry.specs.Laws.{KeepsWins}
 use Rattle.board_symmetry.specs.declared.symmetry.Symmetry.{Symmetry}
 use Rattle.board_symmetry.specs.declared.symmetry.Symmetry.TheVariants.{Identity, Half, FlipX, FlipY, Quarter, ThreeQuarter, Diagonal}
 use Rattle.board_symmetry.specs.declared.symmetry.Symmetry.TheVariants.{AntiDiagonal}
@@ -69,7 +74,8 @@ image_command s = record {
 }
 
 -- The bytes are the text of a table at a lawful position with its number of moves. The output took, whole, a text of its image,
--- which is one too. The image is accepted at its root exactly where the table is, with as many arrivals.
+-- which is one too. The image is accepted at its root exactly where the table is, with as many arrivals and the same games; and its
+-- board is won exactly where that of the table is.
 pub record IsImagedInput (s : Symmetry) (bytes : List ℕ) (output : Change (Option (List ℕ))) : Type 0 where
   pub file : TableFile
   pub table : IsTableAt file bytes
@@ -81,6 +87,10 @@ pub record IsImagedInput (s : Symmetry) (bytes : List ℕ) (output : Change (Opt
       ↔ AcceptedRoot file.kind file.table file.root file.board
   pub same_arrivals : root_arrivals file.kind (file_image s file).table (file_image s file).root (file_image s file).board
       ≡ root_arrivals file.kind file.table file.root file.board
+  pub same_game : (qs : List Point) → list_all (is_on file.board) qs ≡ true
+      → root_game file.kind (file_image s file).table (file_image s file).root (file_image s file).board
+      (map (point_image s file.board.width file.board.height) qs) ≡ root_game file.kind file.table file.root file.board qs
+  pub same_wins : KeepsWins s file.board
 
 -- The headline of `image`: where it answers 0, and the input tells its bytes, the output took the image.
 abbrev pub ShowsImage : Run → Type 0

@@ -1,5 +1,5 @@
 -- The command `referee`: its words, what it says of a game, how it goes with a FILE, and what its runs show.
-use Rattle.std.specs.Prelude.{◌≡◌, ◌⊎◌, ℕ, ◌≤◌, List, [], ◌∷◌, ◌++◌, codes, length, IfSome}
+use Rattle.std.specs.Prelude.{◌≡◌, ◌⊎◌, ℕ, ◌≤◌, List, [], ◌∷◌, ◌++◌, codes, length, Option, IfSome}
 use Rattle.std.specs.Fmt.{decimal}
 use Rattle.game_rules.specs.Grid.{Grid}
 use Rattle.game_rules.specs.Play.{IsPosition}
@@ -11,7 +11,7 @@ use Rattle.game_referee.specs.declared.ReplayAnswer.{ReplayAnswer}
 use Rattle.game_referee.specs.declared.ReplayAnswer.TheVariants.{Follows, Departs}
 use Rattle.game_referee.specs.Verdicts.{verdict}
 use Rattle.game_referee.specs.Replays.{replay}
-use Rattle.game_referee.specs.Followers.{NeverLoses, side_of}
+use Rattle.game_referee.specs.Followers.{GoesByRoot, IsPlayed, NeverLoses, side_of}
 use Rattle.game_referee.specs.Lines.{verdict_line}
 use Rattle.text_lines.specs.Lines.{ended}
 use Rattle.position_files.specs.declared.GameFile.{GameFile}
@@ -27,9 +27,10 @@ use Rattle.renju_io.specs.Files.{Files}
 use Rattle.renju_io.specs.declared.TheConstants.{MAX_INPUT_BYTES}
 use Rattle.command_base.specs.declared.status.Status.{Status}
 use Rattle.command_base.specs.declared.status.Status.TheVariants.{Done}
-use Rattle.command_base.specs.Runs.{Run, IsAskedOnly, IsUnbegun}
+use Rattle.command_base.specs.Statuses.{status_number}
+use Rattle.command_base.specs.Runs.{Change, Run, IsAskedOnly, IsUnbegun}
 use Rattle.command_base.specs.Forms.{Command}
-use Rattle.command_base.specs.Told.{AnswersTold, EndsTold, ToldCommand}
+use Rattle.command_base.specs.Told.{AnswersTold, EndsTold, IsYielded, ToldCommand}
 use Rattle.command_base.specs.Refusals.{IsRefusedText}
 use Rattle.file_loading.specs.TableFiles.{IsTableAt}
 use Rattle.file_loading.specs.HeldFiles.{IsFileName, IsFit, IsFitFile, IsLoaded, IsUnhinderedShelf, TableFileSays, TellsFile, held_by}
@@ -81,6 +82,22 @@ referee_command = record {
   IsAnswerable = λ input. (game : GameFile) × IsGameAt game input;
   IsAnswer = λ status. status ≡ Done;
 }
+
+-- the bytes are the text of a game from a lawful position, and the output took the line of the verdict on it, whole
+pub record WritesVerdict (input : List ℕ) (output : Change (Option (List ℕ))) : Type 0 where
+  pub game : GameFile
+  pub at : IsGameAt game input
+  pub whole : Takes output.before (verdict_line (verdict_on game)) output.after
+
+-- What the statuses of `referee` say of an input: 0 that it is a game, whose verdict was written; and of a game it is 0, unless the
+-- status is one that stands in place of each.
+pub record IsJudgedInput (input : List ℕ) (run : Run) : Type 0 where
+  pub judged : run.status ≡ status_number Done → WritesVerdict input run.output
+  pub only : (game : GameFile) → IsGameAt game input → (run.status ≡ status_number Done) ⊎ IsYielded run.status
+
+-- The headline of `referee` without a FILE: what its statuses show, where the input tells its bytes.
+abbrev pub ShowsVerdict : Run → Type 0
+ShowsVerdict run = run.words ≡ referee_words → IfSome run.input.before (λ input. IsJudgedInput input run)
 
 -- With a FILE
 
@@ -161,7 +178,9 @@ referee_with_command name = record {
 }
 
 -- FILE fits, the input is a game, and the output took the verdict and the line of the table, whole. Where that line says that the
--- table is followed, the side of the table did not lose the game, nor one that had ended before the last move, and it is no draw.
+-- table is followed, the side of the table did not lose the game, nor one that had ended before the last move, and it is no draw;
+-- and where the moves were played as a game, they go by the table: the front of its attacks, and won with as many as the game against
+-- it is.
 pub record ShowsGame (name : List ℕ) (files : Files) (input : List ℕ) (run : Run) : Type 0 where
   pub file : TableFile
   pub fit : IsFitFile name files file
@@ -170,6 +189,8 @@ pub record ShowsGame (name : List ℕ) (files : Files) (input : List ℕ) (run :
   pub second : List ℕ
   pub tells : TellsTable file game.kind game.board game.moves second
   pub whole : Takes run.output.before (verdict_line (verdict_on game) ++ second) run.output.after
+  pub goes : second ≡ replay_line Follows → IsPlayed (verdict_on game)
+      → GoesByRoot game.kind file.table file.root game.board game.moves
   pub kept : second ≡ replay_line Follows → NeverLoses game.kind (side_of file.root game.board) game.board game.moves
 
 -- The headline of the referee: what status 0 of `referee FILE` shows, where the shelf tells its files and the input its bytes.
