@@ -1,13 +1,13 @@
 -- Replies and answers are spelled in one way.
 use Rattle.std.proofs.Common.{◌≡◌, ℕ, true, refl, sym, ap, subst, ◌∙◌, arith, List, [], ◌∷◌, ◌++◌, get_or, inl, inr, ◌<◌, ◌^◌, Option, Some}
-use Rattle.std.proofs.Common.{None, Err, codes}
+use Rattle.std.proofs.Common.{None, Err, codes, rules}
 use Rattle.std.specs.List.{AllByRecursion}
 use Rattle.std.specs.Fmt.{decimal}
 use Rattle.std.proofs.lemmas.Fmt.{decimal_injective}
 use Rattle.std.proofs.lemmas.Option.{same_Some}
 use Rattle.std.proofs.lemmas.List.{append_cancel_left}
 use Rattle.game_rules.specs.declared.Point.{Point}
-use Rattle.strategy_graph.specs.Tables.{Answers, answers_of, is_winning}
+use Rattle.strategy_graph.specs.Tables.{Answers, answers_of}
 use Rattle.strategy_graph.specs.declared.Reply.{Reply}
 use Rattle.strategy_graph.specs.declared.Rest.{Rest}
 use Rattle.strategy_graph.specs.declared.Rest.TheVariants.{Wins, To, Nothing}
@@ -39,10 +39,7 @@ module _ (width height : ℕ) (wide : IsSide width) (high : IsSide height) where
 
   pub bad_next : (word a b : List ℕ) (t : Option (List ℕ)) → word ≡ a ++ tail_text arrow t → is_free arrow a ≡ true → t ≡ Some b
       → ((n : ℕ) → n < 2 ^ 32 → b ≡ decimal n → ⊥) → (r : Reply) → ReplyFits width height r → word ≡ reply_text r → ⊥
-  bad_next word a b t parts free is none r fits e =
-      let words = reply_words word a t r fits parts free e in
-      let same : Some b ≡ Some (decimal r.next) = sym is ∙ words.1 in
-      none r.next fits.next (let f : b ≡ decimal r.next = cc in f)
+  bad_next word a b t parts free is none r fits e = search (rules, reply_words)
 
   pub reply_items : AreItems (ReplyFits width height) reply_text
   reply_items = record {
@@ -105,8 +102,7 @@ no_rest_number bytes word text next tail after_next parts free not_only is text_
 
 -- a rest that is not winning fits
 open_fits : (r : Rest) → OpenRestFits r → RestFits r
-open_fits Wins fits = tt
-open_fits _ fits = fits
+open_fits r fits = search rules
 
 -- a text begins with one rest
 pub rest_same : (r : Rest) (t : Option (List ℕ)) (q : Rest) (u : Option (List ℕ)) → RestFits r → RestFits q
@@ -134,9 +130,7 @@ module _ (width height : ℕ) (wide : IsSide width) (high : IsSide height) where
   -- the answers of a rest that wins are spelled by its word alone
   wins_word : (found : List Reply × Rest) → AnswersFit width height (answers_with found) → found.1 ≡ Wins
       → answers_text (answers_with found) ≡ codes "wins"
-  wins_word (rs, r) fits e =
-      let none : rs ≡ [] = fits.winning (ap is_winning e) in
-      rw (e, none) refl
+  wins_word (rs, r) fits e = search rules
 
   pub no_rest : (bytes : List ℕ) → (bytes ≡ codes "wins" → ⊥)
       → Reads {X = Rest × Option (List ℕ)} (λ found. OpenRestFits found.0) (λ found. rest_text found.0 ++ tail_text space found.1) None
@@ -187,26 +181,15 @@ module _ (width height : ℕ) (wide : IsSide width) (high : IsSide height) where
 -- ---- lines of answers
 
 rest-free : (r : Rest) → RestFits r → is_free line_feed (rest_text r) ≡ true
-rest-free Wins fits = refl
-rest-free (To j) fits =
-    let few : j < 2 ^ 32 = fits in
-    is_free-append line_feed (codes "rest ") (decimal j) refl (decimal-free line_feed j (inl (omega arith)) (omega (arith, few)))
-rest-free Nothing fits = refl
+rest-free r fits = search (rules, is_free-append, decimal-free)
 
 module _ (width height : ℕ) (wide : IsSide width) (high : IsSide height) where
   replies-free : (rs : List Reply) → AllByRecursion (ReplyFits width height) rs → is_free line_feed (replies_text rs) ≡ true
   replies-free [] all = refl
-  replies-free (r ∷ rs) all =
-      let next = all.0.next in
-      let point = point-free line_feed width height (inl (omega arith)) (λ e. absurd (omega (arith, e))) (side_fits width wide)
-      (side_fits height high) r.at all.0.at in
-      let number = decimal-free line_feed r.next (inl (omega arith)) (omega (arith, next)) in
-      is_free-append line_feed (space ∷ reply_text r) (replies_text rs)
-      (is_free-append line_feed (point_text r.at) (arrow ∷ decimal r.next) point number) (replies-free rs all.1)
+  replies-free (r ∷ rs) all = search (rules, point-free, side_fits, decimal-free, is_free-append, replies-free rs all.1)
 
   pub answers-free : (a : Answers) → AnswersFit width height a → is_free line_feed (answers_text a) ≡ true
-  answers-free a fits = is_free-append line_feed (rest_text a.rest) (replies_text a.replies) (rest-free a.rest fits.rest)
-      (replies-free a.replies fits.replies)
+  answers-free a fits = search (rules, is_free-append, rest-free, replies-free)
 
   pub node_line-free : (n : Node) → NodeFits width height n → is_free line_feed (node_line n) ≡ true
   node_line-free n fits =

@@ -1,6 +1,6 @@
 -- The lines of a board. Where bytes leave the lines of a board, and that lines spell one board.
 use Rattle.std.proofs.Common.{◌≡◌, ℕ, true, sym, ap, subst, ◌∙◌, List, [], ◌∷◌, ◌++◌, codes, ◌+◌, false, refl, arith, length, take, get_or}
-use Rattle.std.proofs.Common.{None}
+use Rattle.std.proofs.Common.{None, rules}
 use Rattle.std.specs.List.{AllByRecursion}
 use Rattle.std.proofs.lemmas.List.{append_cancel_left, ext_get_or}
 use Rattle.game_rules.specs.declared.RuleKind.{RuleKind}
@@ -9,12 +9,12 @@ use Rattle.game_rules.specs.declared.Side.TheVariants.{Black, White}
 use Rattle.game_rules.specs.declared.Point.{Point}
 use Rattle.game_rules.specs.declared.Cell.TheVariants.{Empty}
 use Rattle.game_rules.specs.declared.TheConstants.{MIN_SIDE}
-use Rattle.game_rules.specs.declared.RuleKind.TheVariants.{Freestyle, Exact, Renju}
+use Rattle.game_rules.specs.declared.RuleKind.TheVariants.{Freestyle}
 use Rattle.game_rules.proofs.Marks.{empty_board, point_at, marked, same_tests, marked-map, marked-none}
 use Rattle.game_rules.proofs.Common.{Grid, IsBoard, is_stone_of}
 use Rattle.game_rules.proofs.Cells.{without_white, blacks_of, IsBoard-blacks, black_kept, white_gone, cell-by_stones}
 use Rattle.text_lines.specs.declared.fault.Fault.{Fault}
-use Rattle.text_lines.specs.declared.fault.Fault.TheVariants.{Bad, Memory}
+use Rattle.text_lines.specs.declared.fault.Fault.TheVariants.{Bad}
 use Rattle.text_lines.proofs.Common.{line_feed, text_of, point_text, points_text, IsWithin, is_free, LeavesAt, ReadsLine}
 use Rattle.text_lines.proofs.Cuts.{is_free-append}
 use Rattle.text_lines.proofs.Items.{items_text-injective}
@@ -43,9 +43,7 @@ stones_first b s word l rest others bytes ok free_word free_l parts e =
 
 -- the stones of a board of this size are points within it
 pub stones_fit : (first b : Grid) (s : Side) → SameBut s first b → AllByRecursion (IsWithin first.width first.height) (stones b s)
-stones_fit first b s same =
-    subst (λ n. AllByRecursion (IsWithin n first.height) (stones b s)) same.width
-    (subst (λ n. AllByRecursion (IsWithin b.width n) (stones b s)) same.height (stones-within b s))
+stones_fit first b s same = search (rules, stones-within)
 
 -- points that are listed after a word are the stones that are spelled there
 pub listed_stones : (first b : Grid) (s : Side) (word l : List ℕ) (ps : List Point) → IsBoard first → SameBut s first b
@@ -107,19 +105,11 @@ size_line-free width height sides = is_free-append line_feed (codes "size ") (si
 
 stones-free : (word : List ℕ) (b : Grid) (s : Side) → IsBoard b → is_free line_feed word ≡ true
     → is_free line_feed (word ++ points_text (stones b s)) ≡ true
-stones-free word b s ok free = is_free-append line_feed word (points_text (stones b s)) free
-    (points-free b.width b.height (side_fits b.width (width_side b ok)) (side_fits b.height (height_side b ok)) (stones b s)
-    (stones-within b s))
+stones-free word b s ok free = search (rules, is_free-append, points-free, side_fits, width_side, height_side, stones-within)
 
 pub board-free : (kind : RuleKind) (b : Grid) → IsBoard b → AreFree (board_lines kind b)
 unfolding board_lines
-board-free kind b ok = (
-  rule-free kind,
-  (
-    size_line-free b.width b.height (sides_of b ok),
-    (stones-free (codes "black") b Black ok refl, (stones-free (codes "white") b White ok refl, tt)),
-  ),
-)
+board-free kind b ok = search (rules, rule-free, size_line-free, sides_of, stones-free)
 
 pub board-length : (kind : RuleKind) (b : Grid) → length (board_lines kind b) ≡ 4
 unfolding board_lines
@@ -128,10 +118,7 @@ board-length kind b = refl
 -- ---- a board without White's stones
 
 blacks_black : (b : Grid) → IsBoard b → stones (blacks_of b) Black ≡ stones b Black
-blacks_black b ok =
-    stones-marked (blacks_of b) Black (IsBoard-blacks b ok)
-    ∙ marked-map (point_at b.width) (is_stone_of Black) (is_stone_of Black) without_white black_kept 0 b.cells
-    ∙ sym (stones-marked b Black ok)
+blacks_black b ok = search (rules, stones-marked, blacks_of, IsBoard-blacks, marked-map, point_at, without_white, black_kept)
 
 blacks_white : (b : Grid) → IsBoard b → stones (blacks_of b) White ≡ []
 blacks_white b ok =
@@ -168,15 +155,7 @@ same_stones word a b s ok w h e =
     (append_cancel_left word (points_text (stones a s)) (points_text (stones b s)) e)
 
 rule_known : (kind other : RuleKind) → rule_line kind ≡ rule_line other → kind ≡ other
-rule_known Freestyle Freestyle e = refl
-rule_known Freestyle Exact e = let letter : 102 ≡ 101 = ap (λ (l : List ℕ). get_or l 5 0) e in absurd (omega (arith, letter))
-rule_known Freestyle Renju e = let letter : 102 ≡ 114 = ap (λ (l : List ℕ). get_or l 5 0) e in absurd (omega (arith, letter))
-rule_known Exact Freestyle e = let letter : 101 ≡ 102 = ap (λ (l : List ℕ). get_or l 5 0) e in absurd (omega (arith, letter))
-rule_known Exact Exact e = refl
-rule_known Exact Renju e = let letter : 101 ≡ 114 = ap (λ (l : List ℕ). get_or l 5 0) e in absurd (omega (arith, letter))
-rule_known Renju Freestyle e = let letter : 114 ≡ 102 = ap (λ (l : List ℕ). get_or l 5 0) e in absurd (omega (arith, letter))
-rule_known Renju Exact e = let letter : 114 ≡ 101 = ap (λ (l : List ℕ). get_or l 5 0) e in absurd (omega (arith, letter))
-rule_known Renju Renju e = refl
+rule_known kind other e = search rules
 
 -- lines spell one rule and one board
 pub board_lines-injective : (kind other : RuleKind) (a b : Grid) → IsBoard a → IsBoard b → board_lines kind a ≡ board_lines other b
@@ -197,8 +176,7 @@ board_lines-injective kind other a b ok_a ok_b e =
 
 pub fault_at : (IsLines : List (List ℕ) → Type 0) (bytes : List ℕ) (i : ℕ) (fault : Fault) → (fault ≡ Bad → LeavesAt IsLines bytes i)
     → IsSectionFault IsLines bytes (at_line fault (i + 1))
-fault_at IsLines bytes i Bad h = (i, refl, h refl)
-fault_at IsLines bytes i Memory h = tt
+fault_at IsLines bytes i fault h = search rules
 
 pub least_side : IsSide MIN_SIDE
 least_side = record { long = omega arith; fits = omega arith }

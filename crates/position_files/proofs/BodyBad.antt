@@ -1,4 +1,5 @@
 -- Where bytes leave the lines of a table up to its last node.
+use Rattle.std.proofs.Common.{rules}
 use Rattle.std.proofs.Common.{◌≡◌, ℕ, ◌^◌, ◌≤◌, ◌<◌, refl, sym, ap, subst, ◌∙◌, arith, List, [], ◌∷◌, ◌++◌, length, take, map, None, codes}
 use Rattle.std.specs.List.{AllByRecursion}
 use Rattle.std.specs.Fmt.{decimal}
@@ -16,7 +17,7 @@ use Rattle.text_lines.proofs.Leaving.{HasParts}
 use Rattle.position_files.specs.declared.TheConstants.{MAX_MOVES}
 use Rattle.position_files.specs.declared.tables.Body.{Body}
 use Rattle.position_files.specs.declared.error.HeadError.{HeadError}
-use Rattle.position_files.proofs.Common.{size_line, board_lines, node_line, nodes_lines, NodeFits, BodyFits, body_lines, IsBodyLines}
+use Rattle.position_files.proofs.Common.{board_lines, node_line, nodes_lines, NodeFits, BodyFits, body_lines, IsBodyLines}
 use Rattle.position_files.proofs.Common.{after_lines, IsBoardLines, AreNodes, AreNodeLines, IsSectionFault}
 use Rattle.position_files.proofs.SectionLaws.{number-free, fault_after, nodes_on}
 use Rattle.position_files.proofs.BoardLines.{sides_of, board-free, same_sizes}
@@ -29,9 +30,7 @@ six kind b moves count = board_lines kind b ++ (codes "moves " ++ decimal moves)
 
 pub six-free : (kind : RuleKind) (b : Grid) (moves count : ℕ) → IsBoard b → moves < 2 ^ 64 → count < 2 ^ 64
     → AreFree (six kind b moves count)
-six-free kind b moves count ok few_moves few_nodes =
-    free_append (board_lines kind b) ((codes "moves " ++ decimal moves) ∷ (codes "nodes " ++ decimal count) ∷ []) (board-free kind b ok)
-    (number-free (codes "moves ") moves refl few_moves, (number-free (codes "nodes ") count refl few_nodes, tt))
+six-free kind b moves count ok few_moves few_nodes = search (rules, free_append, board-free, number-free)
 
 -- what the first six lines tell
 pub record SixTell (b c : Grid) (count other : ℕ) (rest others : List ℕ) : Type 0 where
@@ -45,14 +44,7 @@ pub six_same : (kind rule : RuleKind) (b c : Grid) (moves made count other : ℕ
     → six kind b moves count ≡ six rule c made other → (b.width ≡ c.width) × (b.height ≡ c.height) × (count ≡ other)
 unfolding board_lines
 six_same kind rule b c moves made count other ok_b ok_c fits_count fits_other lines =
-    let size : size_line b.width b.height ≡ size_line c.width c.height = cc in
-    let number : codes "nodes " ++ decimal count ≡ codes "nodes " ++ decimal other = cc in
-    let sides = same_sizes b.width b.height c.width c.height (sides_of b ok_b) (sides_of c ok_c) size in (
-      sides.0,
-      sides.1,
-      decimal_injective count other fits_count fits_other
-          (append_cancel_left (codes "nodes ") (decimal count) (decimal other) number),
-    )
+    search (rules, same_sizes, sides_of, decimal_injective, append_cancel_left)
 
 pub six_tell : (kind rule : RuleKind) (b c : Grid) (moves made count other : ℕ) (rest others bytes : List ℕ) → IsBoard b → IsBoard c
     → moves < 2 ^ 64 → made < 2 ^ 64 → count < 2 ^ 64 → other < 2 ^ 64
@@ -77,8 +69,7 @@ least_body kind b moves = record { kind = kind; board = b; table = corner ∷ []
 
 pub least_fits : (kind : RuleKind) (b : Grid) (moves least : ℕ) → IsBoard b → least ≤ 1 → IsBetween least MAX_MOVES moves
     → BodyFits least (least_body kind b moves)
-least_fits kind b moves least ok few many =
-    record { board = ok; on_board = (corner_on b ok, tt); nodes = one_between least MAX_NODES few (omega arith); moves = many }
+least_fits kind b moves least ok few many = search (rules, corner_on, one_between)
 
 -- a head stands at the front of a body
 pub head_part : (least : ℕ) → least ≤ 1 → HasParts [] IsBoardLines (IsBodyLines least)
@@ -188,8 +179,7 @@ module _ (least : ℕ) (few : least ≤ 1) (bytes : List ℕ) where
     module _ (moves : ℕ) (r2 : List ℕ) (many : IsBetween least MAX_MOVES moves)
         (moves_line : r1 ≡ (codes "moves " ++ decimal moves) ++ line_feed ∷ r2) where
       five_lines : bytes ≡ text_of (board_lines kind b ++ (codes "moves " ++ decimal moves) ∷ []) ++ r2
-      five_lines = lines ∙ ap (λ (l : List ℕ). text_of (board_lines kind b) ++ l) moves_line
-          ∙ text_of-push (board_lines kind b) (codes "moves " ++ decimal moves) r2
+      five_lines = search (rules, text_of-push)
 
       pub no_nodes_line : ReadsLine (IsBetween least MAX_NODES) (λ n. codes "nodes " ++ decimal n) None r2
           → LeavesAt (IsBodyLines least) bytes 5
@@ -226,5 +216,4 @@ module _ (least : ℕ) (few : least ≤ 1) (bytes : List ℕ) where
         pub body_nodes_fault : (error : HeadError) → IsSectionFault (AreNodeLines b.width b.height count) r3 error
             → IsSectionFault (IsBodyLines least) bytes (after_lines 6 error)
         unfolding board_lines
-        body_nodes_fault error h = fault_after (six kind b moves count) (AreNodeLines b.width b.height count) (IsBodyLines least)
-            (nodes_part kind b moves count least ok many enough) bytes r3 6 refl six_lines error h
+        body_nodes_fault error h = search (rules, fault_after, nodes_part, six_lines)

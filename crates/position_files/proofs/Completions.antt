@@ -1,10 +1,11 @@
 -- What a text that has begun can go on with, and that what a table's text names fits.
+use Rattle.std.proofs.Common.{rules}
 use Rattle.std.proofs.Common.{◌≡◌, ℕ, zero, suc, ◌≤◌, ◌<◌, true, refl, arith, List, [], ◌∷◌, ◌++◌, length, replicate, get_or, Some}
 use Rattle.std.specs.List.{AllByRecursion}
 use Rattle.game_rules.specs.Grid.{Grid, IsBoard, is_on}
 use Rattle.game_rules.specs.declared.Point.{Point}
 use Rattle.game_rules.proofs.Boards.{on_x, on_y}
-use Rattle.strategy_graph.specs.Tables.{Answers, answers_of, is_winning, rest_node, names_below, IsNode, IsTable, TableOnBoard}
+use Rattle.strategy_graph.specs.Tables.{Answers, is_winning, rest_node, names_below, IsNode, IsTable, TableOnBoard}
 use Rattle.strategy_graph.specs.Tables.{NamesOnBoard, RepliesOn}
 use Rattle.strategy_graph.specs.declared.Reply.{Reply}
 use Rattle.strategy_graph.specs.declared.Rest.{Rest}
@@ -18,20 +19,10 @@ use Rattle.position_files.proofs.Common.{IsSide, AnswersFit, NodeFits, ReplyFits
 use Rattle.position_files.proofs.Stones.{is_on_within}
 
 pub corner_on : (b : Grid) → IsBoard b → NamesOnBoard b corner
-corner_on b ok = record {
-  attack = is_on_within b (record { x = 0; y = 0 })
-      (record { column = let w = ok.wide in omega (arith, w); row = let h = ok.high in omega (arith, h) });
-  replies = tt;
-}
+corner_on b ok = search (rules, is_on_within)
 
 corner_fits : (width height : ℕ) → IsSide width → IsSide height → NodeFits width height corner
-corner_fits width height wide high =
-    let w = wide.long in
-    let h = high.long in
-    record {
-      attack = record { column = omega (arith, w); row = omega (arith, h) };
-      answers = record { replies = tt; rest = tt; winning = λ wins. refl };
-    }
+corner_fits width height wide high = search rules
 
 corners_fit : (width height m : ℕ) → IsSide width → IsSide height → AllByRecursion (NodeFits width height) (replicate m corner)
 corners_fit width height zero wide high = tt
@@ -74,10 +65,7 @@ answers_fit b a k on_it below few winning =
     }
 
 pub node_fits : (b : Grid) (n : Node) (i : ℕ) → NamesOnBoard b n → IsNode n i → i ≤ MAX_NODES → NodeFits b.width b.height n
-node_fits b n i on_it is few = record {
-  attack = within_on b n.attack on_it.attack;
-  answers = answers_fit b (answers_of n) i on_it.replies is.below few is.winning;
-}
+node_fits b n i on_it is few = search (rules, within_on, answers_fit)
 
 pub nodes_fit : (b : Grid) (ns : List Node) → TableOnBoard b ns → IsTable ns → AllByRecursion (NodeFits b.width b.height) ns
 nodes_fit b ns on_it table = all_from (NodeFits b.width b.height) ns corner (λ i within.

@@ -1,9 +1,9 @@
 -- Where bytes leave the texts of games, and that a text is that of one game.
-use Rattle.std.proofs.Common.{◌≡◌, ℕ, ◌+◌, true, refl, sym, ap, subst, ◌∙◌, arith, List, [], ◌∷◌, ◌++◌, length, take}
-use Rattle.std.specs.Prelude.{None, Some, Err, codes}
+use Rattle.std.proofs.Common.{rules, ◌≡◌, ℕ, ◌+◌, true, refl, sym, ap, subst, ◌∙◌, arith, List, [], ◌∷◌, ◌++◌}
+use Rattle.std.proofs.Common.{length, take, None, Some, Err, codes}
 use Rattle.std.specs.List.{AllByRecursion}
 use Rattle.std.proofs.lemmas.List.{append_cancel_left}
-use Rattle.game_rules.specs.Grid.{Grid, IsBoard}
+use Rattle.game_rules.proofs.Common.{Grid, IsBoard}
 use Rattle.game_rules.specs.declared.Point.{Point}
 use Rattle.game_rules.specs.declared.RuleKind.{RuleKind}
 use Rattle.game_rules.specs.declared.RuleKind.TheVariants.{Freestyle}
@@ -15,14 +15,11 @@ use Rattle.position_files.specs.declared.error.HeadError.{HeadError}
 use Rattle.position_files.specs.declared.error.HeadError.TheVariants.{BadLine as BadHead, Memory as NoRoom}
 use Rattle.text_lines.specs.declared.fault.Fault.{Fault}
 use Rattle.text_lines.specs.declared.fault.Fault.TheVariants.{Bad, Memory}
-use Rattle.text_lines.specs.Lines.{line_feed, text_of, FirstBad, LeavesAt}
-use Rattle.text_lines.specs.Spellings.{point_text, points_text}
-use Rattle.text_lines.specs.Reading.{Gives, GivesLine, ReadsLine, IsWithin, is_free}
-use Rattle.position_files.specs.Positions.{board_lines}
-use Rattle.position_files.specs.Boards.{IsSide}
+use Rattle.text_lines.proofs.Common.{line_feed, text_of, FirstBad, LeavesAt, point_text, points_text, Gives, GivesLine, ReadsLine, IsWithin}
+use Rattle.text_lines.proofs.Common.{is_free}
+use Rattle.position_files.proofs.Common.{board_lines, IsSide, IsBoardLines, IsSectionFault, after_lines, at_line}
 use Rattle.position_files.specs.Games.{AreOn, IsGameText, IsTextOfGame, game_text, moves_line}
-use Rattle.position_files.specs.Sections.{IsBoardLines, IsSectionFault}
-use Rattle.position_files.specs.Faults.{IsGameFault, after_lines, at_line, in_game}
+use Rattle.position_files.specs.Faults.{IsGameFault, in_game}
 use Rattle.text_lines.proofs.Cuts.{is_free-append}
 use Rattle.text_lines.proofs.Items.{items_text-injective}
 use Rattle.text_lines.proofs.LineLaws.{bad_line, point_items, points-free}
@@ -38,8 +35,7 @@ use Rattle.position_files.proofs.BoardLines.{width_side, height_side, board-free
 
 module _ (width height : ℕ) (wide : IsSide width) (high : IsSide height) where
   moves-free : (ms : List Point) → AllByRecursion (IsWithin width height) ms → is_free line_feed (moves_line ms) ≡ true
-  moves-free ms all = is_free-append line_feed (codes "moves") (points_text ms) refl
-      (points-free width height (side_fits width wide) (side_fits height high) ms all)
+  moves-free ms all = search (rules, is_free-append, points-free, side_fits)
 
   moves-injective : (ms ns : List Point) → AllByRecursion (IsWithin width height) ms → AllByRecursion (IsWithin width height) ns
       → moves_line ms ≡ moves_line ns → ms ≡ ns
@@ -115,21 +111,11 @@ unfolding board_lines
 same_front kind other b c l m e = (cc, cc)
 
 moves_same : (b c : Grid) (ms ns : List Point) → IsBoard c → b ≡ c → AreOn b ms → AreOn c ns → moves_line ms ≡ moves_line ns → ms ≡ ns
-moves_same b c ms ns ok same on_b on_c e = moves-injective c.width c.height (width_side c ok) (height_side c ok) ms ns
-    (subst (λ (g : Grid). AreOn g ms) same on_b) on_c e
+moves_same b c ms ns ok same on_b on_c e = search (rules, moves-injective, width_side, height_side)
 
 pub one_game : (file other : GameFile) (bytes : List ℕ) → IsTextOfGame file bytes → IsTextOfGame other bytes → other ≡ file
 unfolding game_text
-one_game file other bytes a b =
-    let lines = text_of-injective (game_lines other.kind other.board other.moves) (game_lines file.kind file.board file.moves)
-    (game-free other.kind other.board other.moves b.board b.on_board) (game-free file.kind file.board file.moves a.board a.on_board)
-    (sym b.spelled ∙ a.spelled) in
-    let parts = same_front other.kind file.kind other.board file.board (moves_line other.moves) (moves_line file.moves) lines in
-    let same = board_lines-injective other.kind file.kind other.board file.board b.board a.board parts.0 in
-    let kind = same.0 in
-    let board = same.1 in
-    let moves = moves_same other.board file.board other.moves file.moves a.board board b.on_board a.on_board parts.1 in
-    λ i. record { kind = kind i; board = board i; moves = moves i }
+one_game file other bytes a b = search (rules, text_of-injective, game-free, same_front, board_lines-injective, moves_same)
 
 -- ---- whole texts
 
@@ -178,8 +164,7 @@ module _ (bytes : List ℕ) where
 
     module _ (kind : RuleKind) (b : Grid) (tail : List ℕ) (ok : IsBoard b) (lines : rest ≡ text_of (board_lines kind b) ++ tail) where
       five_lines : bytes ≡ text_of (codes "renju-game 1" ∷ board_lines kind b) ++ tail
-      five_lines = e ∙ ap (λ (l : List ℕ). codes "renju-game 1" ++ line_feed ∷ l) lines ∙ text_of-cons (codes "renju-game 1")
-          (board_lines kind b) tail
+      five_lines = search (rules, text_of-cons)
 
       -- other lines of a game that the bytes begin with have the same board, and the same line after it
       same_moves_line : (other : RuleKind) (c : Grid) (l others : List ℕ) → IsBoard c
@@ -241,5 +226,4 @@ unlawful_fault file bytes why text first = (
 -- moves within the width and the height of the board are on it
 pub sized : (b : Grid) (width height : ℕ) (ms : List Point) → width ≡ b.width → height ≡ b.height
     → AllByRecursion (IsWithin width height) ms → AreOn b ms
-sized b width height ms w h all = subst (λ n. AllByRecursion (IsWithin b.width n) ms) h
-    (subst (λ n. AllByRecursion (IsWithin n height) ms) w all)
+sized b width height ms w h all = search rules

@@ -1,4 +1,5 @@
 -- Texts that grow by one piece after another.
+use Rattle.std.proofs.Common.{rules}
 use Rattle.std.proofs.Common.{◌≡◌, ℕ, ◌+◌, sym, ap, ◌∙◌, List, [], ◌∷◌, ◌++◌, append_assoc, take, map, length, Some, slice_get, codes}
 use Rattle.std.specs.Fmt.{decimal}
 use Rattle.std.proofs.lemmas.List.{map-append, take_more, flat_map_more}
@@ -31,9 +32,7 @@ head_grown kind b old t1 t2 t3 t4 e1 e2 e3 e4 =
 -- the same after a first line
 pub board_grown : (kind : RuleKind) (b : Grid) (first none t0 t1 : List ℕ) → none ≡ [] → t0 ≡ none ++ ended first
     → t1 ≡ t0 ++ text_of (board_lines kind b) → t1 ≡ text_of (first ∷ board_lines kind b)
-board_grown kind b first none t0 t1 e e0 e1 =
-    let s0 : t0 ≡ ended first = e0 ∙ ap (λ (l : List ℕ). l ++ ended first) e in
-    e1 ∙ ap (λ (l : List ℕ). l ++ text_of (board_lines kind b)) s0
+board_grown kind b first none t0 t1 e e0 e1 = search rules
 
 -- one more node
 pub node_grown : (old before after : List ℕ) (t : List Node) (i : ℕ) (n : Node) → before ≡ old ++ text_of (map node_line (take i t))
@@ -49,8 +48,7 @@ node_grown old before after t i n so_far at e =
 -- all nodes
 pub nodes_grown : (old text : List ℕ) (t : List Node) (i : ℕ) → text ≡ old ++ text_of (map node_line (take i t)) → i ≡ length t
     → text ≡ old ++ text_of (map node_line t)
-nodes_grown old text t i so_far end = so_far ∙ ap (λ k. old ++ text_of (map node_line (take k t))) end
-    ∙ ap (λ (ns : List Node). old ++ text_of (map node_line ns)) (take-length t)
+nodes_grown old text t i so_far end = search (rules, take-length)
 
 -- the numbers of moves and of nodes, and the nodes
 pub table_grown : (nodes : List Node) (moves count : ℕ) (old t0 t1 t2 : List ℕ) → count ≡ length nodes

@@ -1,8 +1,8 @@
 -- Where bytes leave the texts of positions, and that a text is that of one position.
-use Rattle.std.proofs.Common.{◌≡◌, ℕ, ◌+◌, refl, sym, ap, subst, ◌∙◌, arith, List, [], ◌∷◌, ◌++◌, length, take, codes}
-use Rattle.std.specs.Prelude.{Some}
+use Rattle.std.proofs.Common.{rules, ◌≡◌, ℕ, ◌+◌, refl, sym, ap, subst, ◌∙◌, arith, List, [], ◌∷◌, ◌++◌, length}
+use Rattle.std.proofs.Common.{take, codes, Some}
 use Rattle.std.proofs.lemmas.List.{append-nil}
-use Rattle.game_rules.specs.Grid.{Grid, IsBoard}
+use Rattle.game_rules.proofs.Common.{Grid, IsBoard}
 use Rattle.game_rules.specs.declared.RuleKind.{RuleKind}
 use Rattle.game_rules.specs.declared.RuleKind.TheVariants.{Freestyle}
 use Rattle.game_rules.specs.declared.TheConstants.{MIN_SIDE}
@@ -11,7 +11,7 @@ use Rattle.foul_judge.specs.Lawful.{refusal}
 use Rattle.position_files.specs.declared.PositionFile.{PositionFile}
 use Rattle.position_files.specs.declared.error.HeadError.{HeadError}
 use Rattle.position_files.specs.declared.error.HeadError.TheVariants.{BadLine as BadHead, Memory as NoRoom}
-use Rattle.text_lines.specs.Lines.{line_feed, text_of, FirstBad}
+use Rattle.text_lines.proofs.Common.{line_feed, text_of, FirstBad}
 use Rattle.position_files.proofs.Stones.{IsBoard-empty}
 use Rattle.text_lines.proofs.TextLaws.{text_of-cons, AreFree, text_of-injective, whole_text}
 use Rattle.text_lines.proofs.Leaving.{HasParts, leaves_after}
@@ -59,14 +59,7 @@ head_part = record {
 
 pub one_position : (file other : PositionFile) (bytes : List ℕ) → IsTextOfPosition file bytes → IsTextOfPosition other bytes → other ≡ file
 unfolding position_text
-one_position file other bytes a b =
-    let lines = text_of-injective (codes "renju-position 1" ∷ board_lines other.kind other.board)
-    (codes "renju-position 1" ∷ board_lines file.kind file.board) (refl, board-free other.kind other.board b.board)
-    (refl, board-free file.kind file.board a.board) (sym b.spelled ∙ a.spelled) in
-    let same = board_lines-injective other.kind file.kind other.board file.board b.board a.board (let f = lines in cc) in
-    let kind = same.0 in
-    let board = same.1 in
-    λ i. record { kind = kind i; board = board i }
+one_position file other bytes a b = search (rules, text_of-injective, board-free, board_lines-injective)
 
 -- ---- whole texts
 
@@ -74,10 +67,7 @@ pub position_found : (kind : RuleKind) (b found : Grid) (bytes rest tail : List 
     → bytes ≡ codes "renju-position 1" ++ line_feed ∷ rest → rest ≡ text_of (board_lines kind b) ++ tail → tail ≡ [] → found ≡ b
     → IsTextOfPosition (record { kind = kind; board = found }) bytes
 unfolding position_text
-position_found kind b found bytes rest tail ok e1 e2 e3 same =
-    let made : IsTextOfPosition (record { kind = kind; board = b }) bytes =
-    record { board = ok; spelled = whole_text (codes "renju-position 1") (board_lines kind b) bytes rest tail e1 e2 e3 } in
-    subst (λ (g : Grid). IsTextOfPosition (record { kind = kind; board = g }) bytes) (sym same) made
+position_found kind b found bytes rest tail ok e1 e2 e3 same = search (rules, whole_text)
 
 -- ---- the faults
 

@@ -1,4 +1,5 @@
 -- A text is that of one value, and nothing is said against the text of a lawful one.
+use Rattle.std.proofs.Common.{rules}
 use Rattle.std.proofs.Common.{◌≡◌, refl, sym, ◌∙◌, ℕ, List, [], ◌∷◌, ◌++◌, map, subst, ap, length, Some, None}
 use Rattle.std.proofs.lemmas.List.{length-map}
 use Rattle.text_lines.proofs.Badness.{front_bad}
@@ -26,7 +27,7 @@ use Rattle.position_files.proofs.PositionBad.{one_position}
 use Rattle.position_files.proofs.TableTexts.{one_table}
 use Rattle.position_files.specs.declared.GameFile.{GameFile}
 use Rattle.position_files.specs.declared.error.GameError.{GameError}
-use Rattle.position_files.specs.declared.error.GameError.TheVariants.{BadLine as BadGame, Unlawful as UnlawfulGame, Memory as NoGame}
+use Rattle.position_files.specs.declared.error.GameError.TheVariants.{Memory as NoGame}
 use Rattle.position_files.specs.Games.{IsTextOfGame}
 use Rattle.position_files.proofs.GameLaws.{one_game}
 use Rattle.position_files.proofs.Common.{IsTextOfPosition, board_lines, IsTextOfTable, node_line, start_line, IsPositionFault, IsTableFault}
@@ -56,30 +57,19 @@ table-fault file bytes text lawful moves Memory h = refl
 
 -- the text of a lawful position is read back as that position
 pub position-read-back : PositionsReadBack
-position-read-back file bytes text lawful = record {
-  no_other = λ other is. one_position file other bytes text is;
-  no_fault = position-fault file bytes text lawful;
-}
+position-read-back file bytes text lawful = search (rules, one_position, position-fault)
 
 -- the text of a table at a lawful position, whose moves are the depth of its root, is read back as that table
 pub table-read-back : TablesReadBack
-table-read-back file bytes text lawful moves = record {
-  no_other = λ other is. one_table file other bytes text is;
-  no_fault = table-fault file bytes text lawful moves;
-}
+table-read-back file bytes text lawful moves = search (rules, one_table, table-fault)
 
 game-fault : (file : GameFile) (bytes : List ℕ) → IsTextOfGame file bytes → IsPosition file.kind file.board → (error : GameError)
     → IsGameFault bytes error → error ≡ NoGame
-game-fault file bytes text lawful (BadGame n) h = absurd (h.no_further bytes (file, text) refl)
-game-fault file bytes text lawful (UnlawfulGame why) h = absurd (not-unlawful file.kind file.board why lawful (h.1 file text))
-game-fault file bytes text lawful NoGame h = refl
+game-fault file bytes text lawful error h = search (rules, not-unlawful)
 
 -- the text of a game from a lawful position is read back as that game
 pub game-read-back : GamesReadBack
-game-read-back file bytes text lawful = record {
-  no_other = λ other is. one_game file other bytes text is;
-  no_fault = game-fault file bytes text lawful;
-}
+game-read-back file bytes text lawful = search (rules, one_game, game-fault)
 
 -- ---- sections
 

@@ -1,7 +1,7 @@
 -- What bytes begin with is one head, one list of nodes, or one start. Lines that are those of no node. Nodes that are read one after
 -- another.
 use Rattle.std.proofs.Common.{◌≡◌, ℕ, sym, ap, ◌∙◌, List, [], ◌∷◌, ◌++◌, length, map, append_assoc, codes, ◌+◌, ◌-◌, ◌≤◌, ◌<◌, true, refl}
-use Rattle.std.proofs.Common.{subst, arith, ◌^◌, inl, take, drop, replicate, get_or, Err}
+use Rattle.std.proofs.Common.{subst, arith, ◌^◌, inl, take, drop, replicate, get_or, Err, rules}
 use Rattle.std.specs.List.{AllByRecursion}
 use Rattle.std.specs.Fmt.{decimal}
 use Rattle.std.proofs.lemmas.List.Concat.{flat_map-append}
@@ -53,8 +53,7 @@ replies_on b (r ∷ rs) all = (is_on_within b r.at all.0.at, replies_on b rs all
 
 pub nodes_on : (b : Grid) (ns : List Node) → AllByRecursion (NodeFits b.width b.height) ns → TableOnBoard b ns
 nodes_on b [] all = tt
-nodes_on b (n ∷ ns) all =
-    (record { attack = is_on_within b n.attack all.0.attack; replies = replies_on b n.replies all.0.answers.replies }, nodes_on b ns all.1)
+nodes_on b (n ∷ ns) all = search (rules, is_on_within, replies_on, nodes_on b ns all.1)
 
 pub body_text : (kind : RuleKind) (b : Grid) (nodes : List Node) (moves count : ℕ) (bytes r1 r2 r3 rest : List ℕ)
     → bytes ≡ text_of (board_lines kind b) ++ r1 → r1 ≡ (codes "moves " ++ decimal moves) ++ line_feed ∷ r2
@@ -114,8 +113,7 @@ pub record NodesEnd (width height count : ℕ) (bytes : List ℕ) (j : ℕ) : Ty
 pub node_lines-free : (width height : ℕ) → IsSide width → IsSide height → (ns : List Node) → AllByRecursion (NodeFits width height) ns
     → AreFree (map node_line ns)
 node_lines-free width height wide high [] all = tt
-node_lines-free width height wide high (n ∷ ns) all =
-    (node_line-free width height wide high n all.0, node_lines-free width height wide high ns all.1)
+node_lines-free width height wide high (n ∷ ns) all = search (rules, node_line-free, node_lines-free width height wide high ns all.1)
 
 module _ (width height count : ℕ) (wide : IsSide width) (high : IsSide height) (few : count ≤ MAX_NODES) (bytes : List ℕ) (j : ℕ)
     (end : NodesEnd width height count bytes j) where
@@ -137,12 +135,7 @@ module _ (width height count : ℕ) (wide : IsSide width) (high : IsSide height)
 
   known_nodes : take j (map node_line all_nodes) ≡ map node_line end.nodes
   unfolding all_nodes
-  known_nodes =
-      let count_lines : length (map node_line end.nodes) ≡ j = length-map end.nodes node_line ∙ end.read.counted in
-      let added : List (List ℕ) = map node_line (replicate (count - j) corner) in
-      ap (take j) (map-append node_line end.nodes (replicate (count - j) corner))
-      ∙ ap (λ n. take n (map node_line end.nodes ++ added)) (sym count_lines)
-      ∙ take-append_seam (map node_line end.nodes) added
+  known_nodes = search (rules, length-map, corner, map-append, take-append_seam)
 
   -- no other nodes have one more line there
   no_next_node : (ns : List Node) (others : List ℕ) → AreNodes width height count ns
@@ -164,34 +157,13 @@ module _ (width height count : ℕ) (wide : IsSide width) (high : IsSide height)
       end.none n others (all_at (NodeFits width height) ns j corner are.fit within) (node_at ns j are.table within) same.1
 
   pub nodes_leave : LeavesAt (AreNodeLines width height count) bytes j
-  nodes_leave = record {
-    lines = map node_line all_nodes;
-    rest = end.rest;
-    are = (all_nodes, are_all, refl);
-    enough = let lines = length-map all_nodes node_line in let all = are_all.counted in let fewer =
-        end.fewer in omega (arith, lines, all, fewer);
-    so_far = end.read.text ∙ ap (λ (l : List (List ℕ)). text_of l ++ end.rest) (sym known_nodes);
-    no_further = λ ls others is e. no_next_node is.0 others is.1 (e ∙ ap (λ (l : List (List ℕ)). text_of (take (j + 1) l) ++ others) is.2);
-  }
+  nodes_leave = search (rules, all_nodes, are_all, length-map, known_nodes, no_next_node)
 
 pub nodes_fault : (width height count : ℕ) (nodes : List Node) (j : ℕ) (bytes rest : List ℕ) (fault : Fault) → IsSide width → IsSide height
     → AreRead width height nodes j bytes rest → IsTable nodes → j < count → count ≤ MAX_NODES
     → (fault ≡ Bad → (n : Node) (others : List ℕ) → NodeFits width height n → IsNode n (length nodes) → length nodes < MAX_NODES
     → rest ≡ node_line n ++ line_feed ∷ others → ⊥) → IsSectionFault (AreNodeLines width height count) bytes (at_line fault (j + 1))
-nodes_fault width height count nodes j bytes rest Bad wide high read table fewer few none = (
-  j,
-  refl,
-  nodes_leave width height count wide high few bytes j (record {
-    nodes = nodes;
-    rest = rest;
-    table = table;
-    read = read;
-    fewer = fewer;
-    none = λ n others fits is e. none refl n others fits (subst (IsNode n) (sym read.counted) is) (let c = read.counted in omega (arith, c))
-        e;
-  }),
-)
-nodes_fault width height count nodes j bytes rest Memory wide high read table fewer few none = tt
+nodes_fault width height count nodes j bytes rest fault wide high read table fewer few none = search (rules, nodes_leave)
 
 -- the line of the start, and what comes after it
 pub start_text : (a : Answers) (bytes rest : List ℕ) → bytes ≡ ended (start_line a) ++ rest → bytes ≡ start_line a ++ line_feed ∷ rest
@@ -200,28 +172,13 @@ start_text a bytes rest e = e ∙ append_assoc (start_line a) (line_feed ∷ [])
 -- bytes begin with one head, before one rest
 pub one_head : (head other : Head) (rest more bytes : List ℕ) → IsHeadOf head rest bytes → IsHeadOf other more bytes
     → (other ≡ head) × (more ≡ rest)
-one_head head other rest more bytes h k =
-    let count : length (board_lines other.kind other.board) ≡ length (board_lines head.kind head.board) =
-    board-length other.kind other.board ∙ sym (board-length head.kind head.board) in
-    let same = same_lines (board_lines other.kind other.board) (board_lines head.kind head.board) more rest
-    (board-free other.kind other.board k.board) (board-free head.kind head.board h.board) count (sym k.text ∙ h.text) in
-    let boards = board_lines-injective other.kind head.kind other.board head.board k.board h.board same.0 in
-    let kind = boards.0 in
-    let board = boards.1 in
-    let head_is : other ≡ head = λ i. record { kind = kind i; board = board i } in
-    (head_is, same.1)
+one_head head other rest more bytes h k = search (rules, board-length, same_lines, board-free, board_lines-injective)
 
 module _ (width height : ℕ) (wide : IsSide width) (high : IsSide height) where
   -- bytes begin with one list of so many nodes
   pub one_list : (count : ℕ) (found other : List Node) (rest more bytes : List ℕ) → IsNodesOf width height count found rest bytes
       → IsNodesOf width height count other more bytes → (other ≡ found) × (more ≡ rest)
-  one_list count found other rest more bytes h k =
-      let lengths : length (map node_line other) ≡ length (map node_line found) =
-      length-map other node_line ∙ k.nodes.counted ∙ sym (length-map found node_line ∙ h.nodes.counted) in
-      let same = same_lines (map node_line other) (map node_line found) more rest
-      (node_lines-free width height wide high other k.nodes.fit) (node_lines-free width height wide high found h.nodes.fit) lengths
-      (sym k.text ∙ h.text) in
-      (nodes_injective width height wide high other found k.nodes.fit h.nodes.fit same.0, same.1)
+  one_list count found other rest more bytes h k = search (rules, length-map, same_lines, node_lines-free, nodes_injective)
 
   -- bytes begin with the line of one start
   pub one_start : (below : ℕ) (found other : Answers) (rest more bytes : List ℕ) → IsStartOf width height below found rest bytes
@@ -244,11 +201,7 @@ only_start = record { replies = []; rest = Nothing }
 
 pub only_fits : (width height len : ℕ) → StartFits width height len only_start
 unfolding only_start
-only_fits width height len = record {
-  answers = record { replies = tt; rest = tt; winning = λ wins. absurd cc };
-  start = record { not_winning = refl; rising = refl };
-  below = refl;
-}
+only_fits width height len = search rules
 
 -- the first line is that of none
 pub start_left : (width height below : ℕ) (bytes : List ℕ) (fault : Fault)

@@ -1,4 +1,5 @@
 -- The stones of a board, as they come in the list of its cells.
+use Rattle.std.proofs.Common.{rules}
 use Rattle.std.proofs.Common.{◌≡◌, ℕ, zero, suc, ◌+◌, ◌-◌, ◌*◌, ◌/◌, ◌%◌, ◌≤◌, ◌<◌, Bool, true, false, cond, not, ◌&&◌, refl, sym, ap, ◌∙◌}
 use Rattle.std.proofs.Common.{arith, List, [], ◌∷◌, ◌++◌, length, take, drop, set, get_or, filter, nat_lt, replicate, inl, inr}
 use Rattle.std.specs.List.{flat_map, range_with_len, AllByRecursion}
@@ -26,21 +27,9 @@ module _ (at : ℕ → Point) (test : Cell → Bool) where
   marked-set_last : (k i : ℕ) (cs : List Cell) (stone : Cell) → test stone ≡ true → i < length cs → (is_clear at test) (drop i cs) ≡ true
       → (marked at test) k (set cs i stone) ≡ (marked at test) k cs ++ at (k + i) ∷ []
   marked-set_last k i [] stone passes within clear = absurd (omega arith)
-  marked-set_last k zero (c ∷ cs) stone passes within clear =
-      let parts = and_parts (not (test c)) ((is_clear at test) cs) clear in
-      let none : (marked at test) (k + 1) cs ≡ [] = (clear_none at test) (k + 1) cs parts.1 in
-      let was : test c ≡ false = not-true (test c) parts.0 in
-      let here : k + 0 ≡ k = omega arith in
-      rw (passes, was, none, here) refl
+  marked-set_last k zero (c ∷ cs) stone passes within clear = search (rules, and_parts, is_clear, marked, clear_none, not-true)
   marked-set_last k (suc i) (c ∷ cs) stone passes within clear =
-      let next : k + suc i ≡ k + 1 + i = omega arith in
-      rw next (set_last_by k (at (k + 1 + i)) (test c) ((marked at test) (k + 1) cs) ((marked at test) (k + 1) (set cs i stone))
-      (marked-set_last (k + 1) i cs stone passes (omega arith) clear))
-    where
-      set_last_by : (k : ℕ) (p : Point) (r : Bool) (before after : List Point) → after ≡ before ++ p ∷ []
-          → cond r (at k ∷ after) after ≡ cond r (at k ∷ before) before ++ p ∷ []
-      set_last_by k p true before after h = ap (λ (l : List Point). at k ∷ l) h
-      set_last_by k p false before after h = h
+      search (rules, marked, marked-set_last (k + 1) i cs stone passes (omega arith) clear)
 
 -- ---- the stones of a board are the marks of its cells
 
@@ -123,15 +112,7 @@ pub record ArePut (first now : Grid) (s : Side) (points : List Point) (i least :
       → marked (point_at b.width) (is_stone_of s) least (drop least b.cells) ≡ drop i points
 
 pub none_put : (b : Grid) (s : Side) (points : List Point) → IsBoard b → stones b s ≡ [] → ArePut b b s points 0 0
-none_put b s points ok none = record {
-  board = ok;
-  width = refl;
-  height = refl;
-  own = none;
-  others = refl;
-  clear = clear_from_none (point_at b.width) (is_stone_of s) 0 b.cells (sym (stones-marked b s ok) ∙ none);
-  only = λ d ok_d w h e. sym (stones-marked d s ok_d) ∙ e;
-}
+none_put b s points ok none = search (rules, clear_from_none, point_at, stones-marked)
 
 module _ (first now : Grid) (s : Side) (points : List Point) (i least : ℕ) (p : Point) (h : ArePut first now s points i least)
     (empty : is_empty now p ≡ true) (later : least ≤ place_of now p) where
@@ -196,15 +177,7 @@ module _ (first now : Grid) (s : Side) (points : List Point) (i least : ℕ) (p 
   -- one more stone is put
   pub one_put : take (i + 1) points ≡ take i points ++ p ∷ [] → drop i points ≡ p ∷ drop (i + 1) points
       → ArePut first (put now s p) s points (i + 1) (place_of now p + 1)
-  one_put more next = record {
-    board = IsBoard-put now s p h.board;
-    width = h.width;
-    height = h.height;
-    own = put_own ∙ ap (λ (l : List Point). l ++ p ∷ []) h.own ∙ sym more;
-    others = put_others ∙ h.others;
-    clear = clear_after;
-    only = put_only next;
-  }
+  one_put more next = search (rules, IsBoard-put, put_own, put_others, clear_after, put_only)
 
 -- a point that comes before one of those put, or is taken, is not the next on any board
 pub not_earlier : (first now : Grid) (s : Side) (points : List Point) (i least : ℕ) (p : Point) → ArePut first now s points i least
@@ -250,8 +223,7 @@ not_taken first now s points i least p h next later on taken b ok same_rest own_
 
 pub all_put : (first now : Grid) (s : Side) (points : List Point) (i least : ℕ) → ArePut first now s points i least → i ≡ length points
     → SameBut s first now × (stones now s ≡ points)
-all_put first now s points i least h end =
-    (record { width = h.width; height = h.height; others = h.others }, h.own ∙ rw end (take-length points))
+all_put first now s points i least h end = search (rules, take-length)
 
 pub is_within_at : (width height : ℕ) (points : List Point) (i : ℕ) → AllByRecursion (IsWithin width height) points → i < length points
     → IsWithin width height (get_or points i (record { x = 0; y = 0 }))
@@ -260,32 +232,18 @@ is_within_at width height (p ∷ ps) zero all within = all.0
 is_within_at width height (p ∷ ps) (suc i) all within = is_within_at width height ps i all.1 (omega arith)
 
 pub is_on_within : (b : Grid) (p : Point) → IsWithin b.width b.height p → is_on b p ≡ true
-is_on_within b p within =
-    let left : nat_lt p.x b.width ≡ true = lt-ltb _ _ within.column in
-    let above : nat_lt p.y b.height ≡ true = lt-ltb _ _ within.row in
-    rw (left, above) refl
+is_on_within b p within = search (rules, lt-ltb)
 
 pub on_board : (first now : Grid) (s : Side) (points : List Point) (i least : ℕ) → ArePut first now s points i least
     → AllByRecursion (IsWithin first.width first.height) points → i < length points
     → is_on now (get_or points i (record { x = 0; y = 0 })) ≡ true
-on_board first now s points i least h all within =
-    let p : Point = get_or points i (record { x = 0; y = 0 }) in
-    let is = is_within_at first.width first.height points i all within in
-    is_on_within now p (record {
-      column = let c = is.column in let w = h.width in omega (arith, c, w);
-      row = let r = is.row in let e =
-          h.height in omega (arith, r, e);
-    })
+on_board first now s points i least h all within = search (rules, is_within_at, is_on_within)
 
 -- ---- stones are on the board
 
 all_on_by : (b : Grid) (s : Side) (x : Point) (rest : List Point) → AllByRecursion (IsWithin b.width b.height) rest → (r : Bool)
     → is_on b x ≡ r → (h : Bool) → holds b s x ≡ h → AllByRecursion (IsWithin b.width b.height) (cond h (x ∷ rest) rest)
-all_on_by b s x rest all r _ false h = all
-all_on_by b s x rest all true on true h = (record { column = on_x b x on; row = on_y b x on }, all)
-all_on_by b s x rest all false on true h =
-    let none : holds b s x ≡ false = ap (λ q. q && is_stone_of s (cell_at b x)) on in
-    absurd (both_ways (holds b s x) none h)
+all_on_by b s x rest all r on there h = search (rules, on_x, on_y, both_ways)
 
 all_on : (b : Grid) (s : Side) (xs : List Point) → AllByRecursion (IsWithin b.width b.height) (filter (holds b s) xs)
 all_on b s [] = tt
@@ -298,13 +256,7 @@ stones-within b s = all_on b s (points_of b)
 -- ---- an empty board
 
 pub IsBoard-empty : (width height : ℕ) → IsSide width → IsSide height → IsBoard (empty_board width height)
-IsBoard-empty width height wide high = record {
-  wide = wide.long;
-  width_fits = wide.fits;
-  high = high.long;
-  height_fits = high.fits;
-  filled = length-replicate (width * height) Empty;
-}
+IsBoard-empty width height wide high = search (rules, length-replicate)
 
 -- no stones stand on an empty board
 pub stones-empty : (width height : ℕ) (s : Side) → IsSide width → IsSide height → stones (empty_board width height) s ≡ []

@@ -1,6 +1,6 @@
 -- Where bytes leave the texts of tables.
-use Rattle.std.proofs.Common.{◌≡◌, ℕ, suc, ◌+◌, true, refl, sym, ap, subst, ◌∙◌, arith, List, [], ◌∷◌, ◌++◌, length, take, get_or, inl, inr}
-use Rattle.std.proofs.Common.{None, codes}
+use Rattle.std.proofs.Common.{◌≡◌, ℕ, suc, ◌+◌, true, refl, sym, ap, subst, ◌∙◌, arith, List, [], ◌∷◌, ◌++◌, length, take, inl, inr}
+use Rattle.std.proofs.Common.{None, codes, rules}
 use Rattle.std.proofs.lemmas.List.{append-nil, length-append, take_all}
 use Rattle.std.proofs.Math.Seq.{take-append_seam}
 use Rattle.game_rules.specs.declared.RuleKind.TheVariants.{Freestyle}
@@ -94,34 +94,14 @@ split_of header IsLines ls p = record {
 }
 
 attack_fronts : (ls : List (List ℕ)) → IsTableLines ls → Fronts (codes "renju-table 1") (IsBodyLines 1) ls
-attack_fronts ls (inl h) = (codes "renju-table 1", h.0, h.2, refl, λ same. h.1)
-attack_fronts ls (inr h) = (
-  codes "renju-table 2",
-  h.0,
-  h.2,
-  refl,
-  λ same. let digit : 50 ≡ 49 =
-      ap (λ (l : List ℕ). get_or l 12 0) same in absurd (omega (arith, digit)),
-)
+attack_fronts ls h = search rules
 
 defend_fronts : (ls : List (List ℕ)) → IsTableLines ls → Fronts (codes "renju-table 2") IsDefendLines ls
-defend_fronts ls (inl h) = (
-  codes "renju-table 1",
-  h.0,
-  h.2,
-  refl,
-  λ same. let digit : 49 ≡ 50 =
-      ap (λ (l : List ℕ). get_or l 12 0) same in absurd (omega (arith, digit)),
-)
-defend_fronts ls (inr h) = (codes "renju-table 2", h.0, h.2, refl, λ same. h.1)
+defend_fronts ls h = search rules
 
 -- a body stands in a table after its first line, and so does a body with a start
 attack_part : HasParts (codes "renju-table 1" ∷ []) (IsBodyLines 1) IsTableLines
-attack_part = record {
-  free = (refl, tt);
-  whole = λ l is. ([], inl (l, is, ap (λ (k : List (List ℕ)). codes "renju-table 1" ∷ k) (append-nil l)));
-  parts = λ ls is. split_of (codes "renju-table 1") (IsBodyLines 1) ls (attack_fronts ls is);
-}
+attack_part = search (rules, append-nil, split_of, attack_fronts)
 
 defend_part : HasParts (codes "renju-table 2" ∷ []) IsDefendLines IsTableLines
 defend_part = record {
@@ -215,8 +195,7 @@ body_part = record {
 module _ (bytes rest : List ℕ) (e : bytes ≡ codes "renju-table 2" ++ line_feed ∷ rest) where
   pub defend_body_fault : (error : HeadError) → IsSectionFault (IsBodyLines 0) rest error
       → IsTableFault bytes (in_file (after_lines 1 error))
-  defend_body_fault error h = first_fault (codes "renju-table 2") IsDefendLines defend_part bytes rest e error
-      (fault_in (IsBodyLines 0) IsDefendLines body_part rest error h)
+  defend_body_fault error h = search (rules, first_fault, defend_part, fault_in, body_part)
 
   module _ (body : Body) (tail : List ℕ) (fits : BodyFits 0 body) (table : IsTable body.table)
       (text : rest ≡ text_of (body_lines body) ++ tail) where

@@ -1,5 +1,6 @@
 -- Whole texts of tables.
-use Rattle.std.proofs.Common.{◌≡◌, ℕ, ◌-◌, true, refl, sym, ap, subst, ◌∙◌, arith, List, [], ◌∷◌, ◌++◌, length, codes}
+use Rattle.std.proofs.Common.{rules}
+use Rattle.std.proofs.Common.{◌≡◌, ℕ, ◌-◌, true, refl, sym, ap, subst, ◌∙◌, List, [], ◌∷◌, ◌++◌, length, codes}
 use Rattle.strategy_graph.specs.Tables.{Answers, IsTable, names_below}
 use Rattle.strategy_graph.specs.declared.roots.Root.{Root}
 use Rattle.strategy_graph.specs.declared.roots.Root.TheVariants.{Attack, Defend}
@@ -23,22 +24,12 @@ pub attack_text_of : (body : Body) (len : ℕ) (bytes rest : List ℕ) → BodyF
     → bytes ≡ text_of (body_lines body) ++ rest → rest ≡ []
     → IsTextOfTable (file_of body (Attack (len - 1))) (codes "renju-table 1" ++ line_feed ∷ bytes)
 unfolding table_text
-attack_text_of body len bytes rest fits table count text end =
-    let some = fits.nodes.enough in
-    record {
-      board = fits.board;
-      table = table;
-      on_board = fits.on_board;
-      root = (omega (arith, some, count), fits.moves.enough, fits.moves.few);
-      spelled = whole_text (codes "renju-table 1") (body_lines body) (codes "renju-table 1" ++ line_feed ∷ bytes) bytes rest refl text end;
-    }
+attack_text_of body len bytes rest fits table count text end = search (rules, whole_text)
 
 pub attack_text : (body : Body) (len : ℕ) (file : TableFile) (bytes rest : List ℕ) → BodyFits 1 body → IsTable body.table
     → len ≡ length body.table → bytes ≡ text_of (body_lines body) ++ rest → rest ≡ [] → IsFinished body (Attack (len - 1)) file
     → IsTextOfTable file (codes "renju-table 1" ++ line_feed ∷ bytes)
-attack_text body len file bytes rest fits table count text end done =
-    finished_text body (Attack (len - 1)) file (codes "renju-table 1" ++ line_feed ∷ bytes) done
-    (attack_text_of body len bytes rest fits table count text end)
+attack_text body len file bytes rest fits table count text end done = search (rules, finished_text, attack_text_of)
 
 -- a body and a start that end the bytes are the text of a table whose root is the start
 pub defend_text_of : (body : Body) (a : Answers) (len : ℕ) (bytes rest tail : List ℕ) → BodyFits 0 body → IsTable body.table
@@ -67,6 +58,4 @@ pub defend_text : (body : Body) (a : Answers) (len : ℕ) (file : TableFile) (by
     → len ≡ length body.table → StartFits body.board.width body.board.height len a → bytes ≡ text_of (body_lines body) ++ rest
     → rest ≡ start_line a ++ line_feed ∷ tail → tail ≡ [] → IsFinished body (Defend a) file
     → IsTextOfTable file (codes "renju-table 2" ++ line_feed ∷ bytes)
-defend_text body a len file bytes rest tail fits table count start text line end done =
-    finished_text body (Defend a) file (codes "renju-table 2" ++ line_feed ∷ bytes) done
-    (defend_text_of body a len bytes rest tail fits table count start text line end)
+defend_text body a len file bytes rest tail fits table count start text line end done = search (rules, finished_text, defend_text_of)

@@ -1,6 +1,6 @@
 -- The lines of whole tables, and that a text is that of one table.
 use Rattle.std.proofs.Common.{◌≡◌, ℕ, suc, ◌+◌, ◌-◌, true, refl, sym, ap, subst, ◌∙◌, arith, List, [], ◌∷◌, ◌++◌, length, take, drop, map}
-use Rattle.std.proofs.Common.{get_or, inl, inr, ◌⊎◌, codes}
+use Rattle.std.proofs.Common.{get_or, inl, inr, ◌⊎◌, codes, rules}
 use Rattle.std.specs.List.{AllByRecursion}
 use Rattle.std.specs.Fmt.{decimal}
 use Rattle.std.proofs.lemmas.Fmt.{decimal_injective}
@@ -73,12 +73,7 @@ body_of kind b nodes moves = record { kind = kind; board = b; table = nodes; mov
 
 attack_fits : (kind : RuleKind) (b : Grid) (nodes : List Node) (r moves : ℕ) → IsBoard b → IsTable nodes → TableOnBoard b nodes
     → RootFits b nodes (Attack r) moves → BodyFits 1 (body_of kind b nodes moves)
-attack_fits kind b nodes r moves ok table on_it root = record {
-  board = ok;
-  on_board = on_it;
-  nodes = record { enough = let count = root.0 in omega (arith, count); few = let size = table.size in omega (arith, size) };
-  moves = record { enough = root.1; few = let most = root.2 in omega (arith, most) };
-}
+attack_fits kind b nodes r moves ok table on_it root = search rules
 
 defend_fits : (kind : RuleKind) (b : Grid) (nodes : List Node) (a : Answers) (moves : ℕ) → IsBoard b → IsTable nodes → TableOnBoard b nodes
     → RootFits b nodes (Defend a) moves → BodyFits 0 (body_of kind b nodes moves) × StartFits b.width b.height (length nodes) a

@@ -1,7 +1,7 @@
-use Rattle.std.proofs.Common.{ℕ, arith, List, [], ◌∷◌, Bor, length, length-append, ap, subst, option_copied, Option}
+use Rattle.std.proofs.Common.{ℕ, arith, List, [], ◌∷◌, Bor, length, length-append, ap, option_copied, Option}
 use Rattle.text_lines.proofs.Common.{space, tail_text}
 use Rattle.position_files.proofs.Common.{reply_text, ReplyFits}
-use Rattle.text_lines.proofs.Items.{Follows, begins, stops, goes_on, ends}
+use Rattle.text_lines.proofs.Items.{begins, stops, goes_on, ends}
 use Rattle.position_files.proofs.AnswerLaws.{reply_items}
 use Rattle.position_files.proofs.answers.replies.Goals as goal
 
@@ -11,10 +11,7 @@ loop-rest-init c = rw c.new-replies.ensures.empty
 
 pub returns-in_default-reply : goal.returns-in_default-reply
 returns-in_default-reply c =
-    let now : Follows (ReplyFits c.args.width c.args.height) reply_text c.loop-rest.replies (space ∷ c.in-Some.text.now)
-    (tail_text space (option_copied c.args.tail)) =
-    subst (λ (t : Option (Bor (List ℕ))). Follows (ReplyFits c.args.width c.args.height) reply_text c.loop-rest.replies
-    (tail_text space (option_copied t)) (tail_text space (option_copied c.args.tail))) c.in-Some.is c.loop-rest.invariant in
+    let now = rw c.in-Some.is at c.loop-rest.invariant in
     record {
       replies = stops (ReplyFits c.args.width c.args.height) reply_text
           (reply_items c.args.width c.args.height c.requires.wide c.requires.high) c.loop-rest.replies c.in-Some.text.now c.cut.result.0.now
@@ -28,10 +25,7 @@ loop-rest-smaller c =
 
 pub loop-rest-preserved : goal.loop-rest-preserved
 loop-rest-preserved c =
-    let now : Follows (ReplyFits c.args.width c.args.height) reply_text c.loop-rest.replies (space ∷ c.in-Some.text.now)
-    (tail_text space (option_copied c.args.tail)) =
-    subst (λ (t : Option (Bor (List ℕ))). Follows (ReplyFits c.args.width c.args.height) reply_text c.loop-rest.replies
-    (tail_text space (option_copied t)) (tail_text space (option_copied c.args.tail))) c.in-Some.is c.loop-rest.invariant in
+    let now = rw c.in-Some.is at c.loop-rest.invariant in
     rw c.in_ok-push.ensures.pushed
     (goes_on (ReplyFits c.args.width c.args.height) reply_text (reply_items c.args.width c.args.height c.requires.wide c.requires.high)
     c.loop-rest.replies c.in-Some-reply.found c.in-Some.text.now c.cut.result.0.now _ (tail_text space (option_copied c.args.tail)) now
@@ -39,10 +33,7 @@ loop-rest-preserved c =
 
 pub returns : goal.returns
 returns c =
-    let now : Follows (ReplyFits c.args.width c.args.height) reply_text c.loop-rest.replies []
-    (tail_text space (option_copied c.args.tail)) =
-    subst (λ (t : Option (Bor (List ℕ))). Follows (ReplyFits c.args.width c.args.height) reply_text c.loop-rest.replies
-    (tail_text space (option_copied t)) (tail_text space (option_copied c.args.tail))) c.in_default.is c.loop-rest.invariant in
+    let now = rw c.in_default.is at c.loop-rest.invariant in
     record {
       replies = ends (ReplyFits c.args.width c.args.height) reply_text c.loop-rest.replies
           (tail_text space (option_copied c.args.tail)) now;

@@ -1,10 +1,10 @@
 use Rattle.std.proofs.Common.{refl, sym, ◌∙◌}
 use Rattle.text_lines.proofs.TextLaws.{no_bytes, some_bytes}
-use Rattle.position_files.specs.declared.GameFile.{GameFile}
 use Rattle.position_files.specs.Games.{IsTextOfGame}
 use Rattle.position_files.proofs.GameLaws.{sized, no_first_line, board_fault, moves_fault, more_lines_than_six, unlawful_fault, one_game}
 use Rattle.position_files.proofs.GameLaws.{game_found}
 use Rattle.position_files.proofs.games.read_game.Goals as goal
+use Rattle.position_files.proofs.games.read_game.Goals.{Else-not-is_empty}
 
 pub returns-in_default-clause-refused : goal.returns-in_default-clause-refused
 returns-in_default-clause-refused c = no_first_line c.args.bytes.now (λ rest e. c.in_default.ensures.rest rest tt e)
@@ -32,38 +32,25 @@ returns-then-not-is_empty-clause-refused c =
     moves.0) moves.1
     (some_bytes c.in-Ok-moves_line.found.1.now (sym c.is_empty.ensures ∙ c.if-not-is_empty.true))
 
-pub returns-in-Some-refusal-clause-refused : goal.returns-in-Some-refusal-clause-refused
-returns-in-Some-refusal-clause-refused c =
-    let moves = c.in-Ok-moves_line.ensures.moves in
-    let file : GameFile = record { kind = c.in-Ok.found.0; board = c.in-Ok.found.1; moves = c.in-Ok-moves_line.found.0 } in
-    let text : IsTextOfGame file c.args.bytes.now =
-    game_found c.in-Ok.found.0 c.in-Ok.found.1 c.in-Ok.found.1 c.in-Ok-moves_line.found.0 c.args.bytes.now c.in-Some.rest.now _
-    c.in-Ok-moves_line.found.1.now c.in-Ok.ensures.board
-    (sized c.in-Ok.found.1 c.width.result c.height.result c.in-Ok-moves_line.found.0 c.width.ensures.width c.height.ensures.height
-    moves.0) c.in-Some.ensures.rest.1
-    c.in-Ok.ensures.text moves.1
-    (no_bytes c.in-Ok-moves_line.found.1.now (sym c.is_empty.ensures ∙ c.if-not-is_empty.false)) refl in
-    unlawful_fault file c.args.bytes.now c.in-Some-refusal.why text (sym c.in-Some-refusal.ensures.refusal)
-
-pub returns-in-None-clause-found : goal.returns-in-None-clause-found
-returns-in-None-clause-found c =
+-- the bytes are the text of the file that is read
+text : (c : Else-not-is_empty)
+    → IsTextOfGame (record { kind = c.in-Ok.found.0; board = c.in-Ok.found.1; moves = c.in-Ok-moves_line.found.0 }) c.args.bytes.now
+text c =
     let moves = c.in-Ok-moves_line.ensures.moves in
     game_found c.in-Ok.found.0 c.in-Ok.found.1 c.in-Ok.found.1 c.in-Ok-moves_line.found.0 c.args.bytes.now c.in-Some.rest.now _
     c.in-Ok-moves_line.found.1.now c.in-Ok.ensures.board
     (sized c.in-Ok.found.1 c.width.result c.height.result c.in-Ok-moves_line.found.0 c.width.ensures.width c.height.ensures.height
-    moves.0) c.in-Some.ensures.rest.1
-    c.in-Ok.ensures.text moves.1
+    moves.0) c.in-Some.ensures.rest.1 c.in-Ok.ensures.text moves.1
     (no_bytes c.in-Ok-moves_line.found.1.now (sym c.is_empty.ensures ∙ c.if-not-is_empty.false)) refl
 
+pub returns-in-Some-refusal-clause-refused : goal.returns-in-Some-refusal-clause-refused
+returns-in-Some-refusal-clause-refused c =
+    let read = text (goal.at.returns-in-Some-refusal-clause-refused c).Else-not-is_empty in
+    unlawful_fault _ c.args.bytes.now c.in-Some-refusal.why read (sym c.in-Some-refusal.ensures.refusal)
+
+pub returns-in-None-clause-found : goal.returns-in-None-clause-found
+returns-in-None-clause-found c = text (goal.at.returns-in-None-clause-found c).Else-not-is_empty
+
 pub returns-in-None-clause-only : goal.returns-in-None-clause-only
-returns-in-None-clause-only c = λ other is.
-    let moves = c.in-Ok-moves_line.ensures.moves in
-    let file : GameFile = record { kind = c.in-Ok.found.0; board = c.in-Ok.found.1; moves = c.in-Ok-moves_line.found.0 } in
-    let text : IsTextOfGame file c.args.bytes.now =
-    game_found c.in-Ok.found.0 c.in-Ok.found.1 c.in-Ok.found.1 c.in-Ok-moves_line.found.0 c.args.bytes.now c.in-Some.rest.now _
-    c.in-Ok-moves_line.found.1.now c.in-Ok.ensures.board
-    (sized c.in-Ok.found.1 c.width.result c.height.result c.in-Ok-moves_line.found.0 c.width.ensures.width c.height.ensures.height
-    moves.0) c.in-Some.ensures.rest.1
-    c.in-Ok.ensures.text moves.1
-    (no_bytes c.in-Ok-moves_line.found.1.now (sym c.is_empty.ensures ∙ c.if-not-is_empty.false)) refl in
-    one_game file other c.args.bytes.now text is
+returns-in-None-clause-only c =
+    λ other is. one_game _ other c.args.bytes.now (text (goal.at.returns-in-None-clause-only c).Else-not-is_empty) is

@@ -1,6 +1,6 @@
-use Rattle.std.proofs.Common.{ℕ, arith, List, [], ◌∷◌, Bor, length, length-append, ap, subst, option_copied, Option}
+use Rattle.std.proofs.Common.{ℕ, arith, List, [], ◌∷◌, Bor, length, length-append, ap, option_copied, Option}
 use Rattle.text_lines.proofs.Common.{space, point_text, IsWithin, tail_text}
-use Rattle.text_lines.proofs.Items.{Follows, begins, stops, goes_on, ends}
+use Rattle.text_lines.proofs.Items.{begins, stops, goes_on, ends}
 use Rattle.text_lines.proofs.LineLaws.{point_items}
 use Rattle.position_files.proofs.Spellings.{side_fits}
 use Rattle.position_files.proofs.lines.points.Goals as goal
@@ -11,10 +11,7 @@ loop-rest-init c = rw c.new-points.ensures.empty
 
 pub returns-in_default-point : goal.returns-in_default-point
 returns-in_default-point c =
-    let now : Follows (IsWithin c.args.width c.args.height) point_text c.loop-rest.points (space ∷ c.in-Some.text.now)
-    (tail_text space (option_copied c.args.tail)) =
-    subst (λ (t : Option (Bor (List ℕ))). Follows (IsWithin c.args.width c.args.height) point_text c.loop-rest.points
-    (tail_text space (option_copied t)) (tail_text space (option_copied c.args.tail))) c.in-Some.is c.loop-rest.invariant in
+    let now = rw c.in-Some.is at c.loop-rest.invariant in
     record {
       points = stops (IsWithin c.args.width c.args.height) point_text
           (point_items c.args.width c.args.height (side_fits c.args.width c.requires.wide) (side_fits c.args.height c.requires.high))
@@ -29,10 +26,7 @@ loop-rest-smaller c =
 
 pub loop-rest-preserved : goal.loop-rest-preserved
 loop-rest-preserved c =
-    let now : Follows (IsWithin c.args.width c.args.height) point_text c.loop-rest.points (space ∷ c.in-Some.text.now)
-    (tail_text space (option_copied c.args.tail)) =
-    subst (λ (t : Option (Bor (List ℕ))). Follows (IsWithin c.args.width c.args.height) point_text c.loop-rest.points
-    (tail_text space (option_copied t)) (tail_text space (option_copied c.args.tail))) c.in-Some.is c.loop-rest.invariant in
+    let now = rw c.in-Some.is at c.loop-rest.invariant in
     rw c.in_ok-push.ensures.ok
     (goes_on (IsWithin c.args.width c.args.height) point_text
     (point_items c.args.width c.args.height (side_fits c.args.width c.requires.wide) (side_fits c.args.height c.requires.high))
@@ -41,9 +35,7 @@ loop-rest-preserved c =
 
 pub returns : goal.returns
 returns c =
-    let now : Follows (IsWithin c.args.width c.args.height) point_text c.loop-rest.points [] (tail_text space (option_copied c.args.tail)) =
-    subst (λ (t : Option (Bor (List ℕ))). Follows (IsWithin c.args.width c.args.height) point_text c.loop-rest.points
-    (tail_text space (option_copied t)) (tail_text space (option_copied c.args.tail))) c.in_default.is c.loop-rest.invariant in
+    let now = rw c.in_default.is at c.loop-rest.invariant in
     record {
       points = ends (IsWithin c.args.width c.args.height) point_text c.loop-rest.points (tail_text space (option_copied c.args.tail))
           now;

@@ -5,7 +5,7 @@ use Rattle.strategy_graph.specs.declared.roots.Root.TheVariants.{Defend}
 use Rattle.text_lines.specs.Lines.{line_feed, FirstBad}
 use Rattle.text_lines.proofs.TextLaws.{no_bytes, some_bytes}
 use Rattle.position_files.specs.declared.TableFile.{TableFile}
-use Rattle.position_files.proofs.Common.{IsTextOfTable, IsTableText, StartFits, IsFinished, IsFinishFault, IsTableFault}
+use Rattle.position_files.proofs.Common.{IsTextOfTable, IsTableText, IsFinished, IsFinishFault, IsTableFault}
 use Rattle.position_files.proofs.TableLaws.{defend_text, defend_text_of}
 use Rattle.position_files.proofs.SectionLaws.{start_text}
 use Rattle.position_files.proofs.TableBad.{defend_body_fault, start_fault, defend_too_many, finish_fault}
@@ -29,29 +29,22 @@ pub returns-then-not-is_empty-clause-refused : goal.returns-then-not-is_empty-cl
 returns-then-not-is_empty-clause-refused c =
     let a : Answers = c.in-Ok-read_start.found.0 in
     let text = start_text a c.in-Ok.found.1.now c.in-Ok-read_start.found.1.now c.in-Ok-read_start.ensures.found.text in
-    let start : StartFits c.in-Ok.found.0.board.width c.in-Ok.found.0.board.height c.len-len.result a =
-    subst (λ n. StartFits c.in-Ok.found.0.board.width n c.len-len.result a) c.height.ensures.height
-    (subst (λ n. StartFits n c.height.result c.len-len.result a) c.width.ensures.width c.in-Ok-read_start.ensures.found.start) in
+    let start = rw (c.width.ensures.width, c.height.ensures.height) at c.in-Ok-read_start.ensures.found.start in
     subst (FirstBad IsTableText (codes "renju-table 2" ++ line_feed ∷ c.args.bytes.now)) (omega arith)
     (defend_too_many (codes "renju-table 2" ++ line_feed ∷ c.args.bytes.now) c.args.bytes.now refl c.in-Ok.found.0 c.in-Ok.found.1.now
     c.in-Ok.ensures.fits c.len-len.ensures.table c.in-Ok.ensures.text
-    a c.len-len.result _ c.len-len.ensures.count
-    (subst (λ n. StartFits c.in-Ok.found.0.board.width c.in-Ok.found.0.board.height n a) c.len-len.ensures.count start)
-    text
+    a c.len-len.result _ c.len-len.ensures.count (rw c.len-len.ensures.count at start) text
     (some_bytes c.in-Ok-read_start.found.1.now (sym c.is_empty.ensures ∙ c.if-not-is_empty.true)))
 
 pub returns-clause-text : goal.returns-clause-text
 returns-clause-text c =
     let a : Answers = c.in-Ok-read_start.found.0 in
     let text = start_text a c.in-Ok.found.1.now c.in-Ok-read_start.found.1.now c.in-Ok-read_start.ensures.found.text in
-    let start : StartFits c.in-Ok.found.0.board.width c.in-Ok.found.0.board.height c.len-len.result a =
-    subst (λ n. StartFits c.in-Ok.found.0.board.width n c.len-len.result a) c.height.ensures.height
-    (subst (λ n. StartFits n c.height.result c.len-len.result a) c.width.ensures.width c.in-Ok-read_start.ensures.found.start) in
+    let start = rw (c.width.ensures.width, c.height.ensures.height) at c.in-Ok-read_start.ensures.found.start in
     IfOk-weaker c.finish.result (IsFinished c.in-Ok.found.0 (Defend a))
     (λ (file : TableFile). IsTextOfTable file (codes "renju-table 2" ++ line_feed ∷ c.args.bytes.now))
     (λ file done. defend_text c.in-Ok.found.0 a c.len-len.result file c.args.bytes.now c.in-Ok.found.1.now _ c.in-Ok.ensures.fits
-    c.len-len.ensures.table c.len-len.ensures.count start c.in-Ok.ensures.text
-    text
+    c.len-len.ensures.table c.len-len.ensures.count start c.in-Ok.ensures.text text
     (no_bytes c.in-Ok-read_start.found.1.now (sym c.is_empty.ensures ∙ c.if-not-is_empty.false)) done)
     c.finish.ensures.finished
 
@@ -59,14 +52,11 @@ pub returns-clause-refused : goal.returns-clause-refused
 returns-clause-refused c =
     let a : Answers = c.in-Ok-read_start.found.0 in
     let text = start_text a c.in-Ok.found.1.now c.in-Ok-read_start.found.1.now c.in-Ok-read_start.ensures.found.text in
-    let start : StartFits c.in-Ok.found.0.board.width c.in-Ok.found.0.board.height c.len-len.result a =
-    subst (λ n. StartFits c.in-Ok.found.0.board.width n c.len-len.result a) c.height.ensures.height
-    (subst (λ n. StartFits n c.height.result c.len-len.result a) c.width.ensures.width c.in-Ok-read_start.ensures.found.start) in
+    let start = rw (c.width.ensures.width, c.height.ensures.height) at c.in-Ok-read_start.ensures.found.start in
     IfErr-weaker c.finish.result (IsFinishFault c.in-Ok.found.0 (Defend a))
     (IsTableFault (codes "renju-table 2" ++ line_feed ∷ c.args.bytes.now))
     (finish_fault c.in-Ok.found.0 (Defend a) (codes "renju-table 2" ++ line_feed ∷ c.args.bytes.now)
     (defend_text_of c.in-Ok.found.0 a c.len-len.result c.args.bytes.now c.in-Ok.found.1.now _ c.in-Ok.ensures.fits c.len-len.ensures.table
-    c.len-len.ensures.count start c.in-Ok.ensures.text
-    text
+    c.len-len.ensures.count start c.in-Ok.ensures.text text
     (no_bytes c.in-Ok-read_start.found.1.now (sym c.is_empty.ensures ∙ c.if-not-is_empty.false))))
     c.finish.ensures.refused
