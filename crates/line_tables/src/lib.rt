@@ -1,15 +1,10 @@
-//! A position with the codes of all its lines, which change step by step as stones come and go.
+//! A position and a table of shapes: whether a move is a foul is a look at the shapes of its lines.
 //!
-//! Each point keeps, for each axis and each side, the code of its neighbours. A stone that is put or lifted changes one digit
-//! of the codes of its own neighbours and no more, and a look at the table of shapes then tells what a stone would make
-//! there. The five points of both sides are kept in reading order, so that whether a side has one, and which, is a look.
+//! Nothing is kept of the lines, so a play costs what it costs on a plain position. The code of a line at a point is worked out from
+//! the bits of the line when it is asked for, and a look at the table of shapes then tells what a stone would make there.
 #![tactic(auto)]
 
-mod axis_codes;
 mod codes;
-mod ends;
-mod five_list;
-mod fouls;
 mod line_shapes;
 mod outcome;
 mod tables;

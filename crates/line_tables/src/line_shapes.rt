@@ -3,13 +3,16 @@
 //! Black and White may have other shapes under one rule, and other reaches: each side has the table that its rule names.
 #![tactic(auto)]
 
-ghost use Rattle.std.specs.Prelude.{◌≡◌, ◌<◌, ◌*◌, ◌^◌};
+ghost use Rattle.std.specs.Prelude.{◌≡◌, ◌<◌, ◌*◌, ◌^◌, IsTrue};
+ghost use Rattle.game_rules.specs.Grid.{IsBoard, is_on};
 ghost use Rattle.row_shapes.specs.Rule.{reach_of};
+ghost use Rattle.row_shapes.specs.LineCodes.{line_code};
 ghost use Rattle.row_shapes.specs.LineShapes.{shape_of};
 
+use crate::codes::code_at;
 use row_shapes::{Rule, Shape, Shapes};
 use std::alloc::{AllocError, Global};
-use stone_board::Side;
+use stone_board::{Axis, Board, Point, Side};
 
 /// The shapes of all codes of both sides. They are worked out once, and serve the tables of any position.
 #[derive(Drop)]
@@ -37,6 +40,16 @@ impl<R: Rule> LineShapes<R> {
             Side::Black => self.black.shape(code),
             Side::White => self.white.shape(code),
         }
+    }
+
+    /// The shape that a stone of the side makes on an empty point of a board. No memory is taken.
+    #[inline(always)]
+    pub(crate) fn shape_at(&self, board: &Board, p: Point, axis: Axis, side: Side) -> Shape
+        requires on { IsTrue (is_on board.now p) }
+        ensures shape { result ≡ shape_of (reach_of R.KIND side) (line_code (reach_of R.KIND side) board.now side axis p) }
+        ensures board { IsBoard board.now }
+    {
+        self.shape(side, code_at(board, p, axis, side, reach::<R>(side)))
     }
 }
 

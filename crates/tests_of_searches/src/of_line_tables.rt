@@ -44,8 +44,9 @@ impl Chance {
 fn same_fives<R: Rule>(alloc: Global, tables: &LineTables<R>, side: Side) -> Option<bool> {
     let board = tables.board();
     let plain = five_points::<R>(alloc, board, side).ok()?;
+    let told = tables.five_points(side).ok()?;
     Some(
-        tables.fives(side) == plain.as_slice()
+        told.as_slice() == plain.as_slice()
             && tables.has_five(side) == has_five::<R>(board, side)
             && tables.fives_in_short(side) == fives_in_short::<R>(board, side),
     )
