@@ -9,6 +9,8 @@ pub mod Strides
 mod Orders
 mod Counts
 pub mod LineBits
+-- a point of each line
+mod LinePoints
 -- the points along a line, by its bits
 pub mod LineStones
 mod LineRuns

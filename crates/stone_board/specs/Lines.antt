@@ -39,6 +39,12 @@ places_left Behind i = i
 pub record TellsLine (b : Grid) (s : Side) (d : Axis) (n bits : ℕ) : Type 0 where
   pub stones : (p : Point) → is_on b p ≡ true → line_of d p ≡ n → bit_at bits (place_on d p) ≡ (if holds b s p then 1 else 0)
 
+-- a point of the board is on line n of the axis
+pub record HasPointOnLine (b : Grid) (d : Axis) (n : ℕ) : Type 0 where
+  pub point : Point
+  pub on : is_on b point ≡ true
+  pub line : line_of d point ≡ n
+
 -- ---- where a board keeps its lines
 
 abbrev pub axis_number : Axis → ℕ

@@ -4,7 +4,7 @@
 //! `empties` look at no cell, and so are the lines as bits, so that what a whole line holds is told at once.
 #![tactic(auto)]
 
-ghost use Rattle.std.specs.Prelude.{◌≡◌, ◌↔◌, ◌≤◌, ◌<◌, ◌+◌, ◌*◌, pos, negsuc, ◌≤ℤ◌, true, IsTrue, IfOk, replicate};
+ghost use Rattle.std.specs.Prelude.{◌≡◌, ◌↔◌, ◌≤◌, ◌<◌, ◌+◌, ◌*◌, pos, negsuc, ◌≤ℤ◌, ℕ, true, IsTrue, IfOk, replicate};
 ghost use Rattle.std.specs.List.{find};
 ghost use Rattle.game_rules.specs.declared.Side.{Side};
 ghost use Rattle.game_rules.specs.declared.Point.{Point};
@@ -13,7 +13,7 @@ ghost use Rattle.game_rules.specs.Shapes.{run_of, stone_at, stones_ahead as ston
 ghost use Rattle.game_rules.specs.Ways.{stones_towards as stones_towards_lem, towards as towards_lem};
 ghost use Rattle.stone_board.specs.Order.{points_left, first_empty_from as first_empty_from_lem};
 ghost use Rattle.stone_board.specs.Steps.{holds_stone, kept_on};
-ghost use Rattle.stone_board.specs.Lines.{TellsLine, line_of as line_of_lem};
+ghost use Rattle.stone_board.specs.Lines.{HasPointOnLine, TellsLine, line_of as line_of_lem};
 
 use crate::ReadingOrder;
 use crate::lines::{ALL_LINES, LINES, index_of, line_of, ones_towards, place_on, turn_all};
@@ -274,9 +274,11 @@ impl Board {
         }
     }
 
-    /// Numbers of lines of the axis, from the first to the one past the last, among which is each line with a point of the board.
+    /// The numbers of the lines of the axis that have a point of the board, from the first to the one past the last.
+    #[tactic(auto, using(crate::proofs::LinePoints::line_points))]
     pub fn lines(&self, axis: Axis) -> (u8, u8)
         ensures covers { (p : Point) → is_on self.now p ≡ true → (result.0 ≤ line_of_lem axis p) × (line_of_lem axis p < result.1) }
+        ensures only { (n : ℕ) → result.0 ≤ n → n < result.1 → HasPointOnLine self.now axis n }
         ensures bound { result.1 ≤ LINES }
         ensures board { IsBoard self.now }
     {
