@@ -1,7 +1,8 @@
 -- A game in which something is followed, a held node or a win of the brain's own: what each later command does to it.
-use Rattle.std.proofs.Common.{◌≡◌, ℕ, suc, ◌<◌, arith, Bool, true, false, cond, List, [], ◌∷◌, refl, sym, ap, ◌∙◌, not}
-use Rattle.std.specs.Prelude.{Option, Some, None}
-use Rattle.game_rules.specs.Grid.{Grid}
+use Rattle.std.proofs.Common.{◌≡◌, ℕ, suc, ◌<◌, arith, Bool, true, false, cond, List, [], ◌∷◌, refl, sym, ap, subst, ◌∙◌, not}
+use Rattle.std.specs.Prelude.{Option, Some, None, is_some}
+use Rattle.game_rules.specs.Grid.{Grid, is_empty}
+use Rattle.game_rules.proofs.Outcomes.{moved}
 use Rattle.game_rules.specs.Play.{is_foul, outcome, after, IsPosition, mover, other, goes_on}
 use Rattle.game_rules.specs.Games.{WinsOr, LosesOr}
 use Rattle.game_rules.specs.declared.RuleKind.{RuleKind}
@@ -26,7 +27,9 @@ use Rattle.brain_session.specs.ChosenMoves.{Choice, chosen}
 use Rattle.brain_session.specs.Steps.{Row, Chooses, fails, rule_of, if_supported, same_side, with_move, end_row, move_row, row_of}
 use Rattle.brain_session.specs.Steps.{with_choice, step_by}
 use Rattle.brain_session.specs.HeldGames.{ends_with_foul, IsWonWithin, is_no_reply, then_replies, replies, then_answers_to}
-use Rattle.brain_session.specs.HeldGames.{answers_to_replies}
+use Rattle.brain_session.specs.HeldGames.{answers_to_replies, turns}
+use Rattle.brain_session.specs.Sessions.{answers_from, then_answers}
+use Rattle.brain_session.proofs.SessionLaws.{answers-none}
 
 -- the state in which this game goes on, with this wish and no batch
 abbrev pub state_in : HeldTable → ℕ → Game → State
@@ -64,6 +67,18 @@ answers-by : (s : State) (c : Command) (cs : List Command) (r : Row) → row_of 
     → answers_to_replies s (c ∷ cs) ≡ then_answers_to c (step_by s r).reaction (answers_to_replies (step_by s r).next cs)
 unfolding answers_to_replies
 answers-by s c cs r e = rw e refl
+
+answers-row : (s : State) (c : Command) (cs : List Command) (r : Row) → row_of s c ≡ r
+    → answers_from s (c ∷ cs) ≡ then_answers (step_by s r).reaction (answers_from (step_by s r).next cs)
+unfolding answers_from
+answers-row s c cs r e = rw e refl
+
+-- the rule of a wish that is supported
+rule_by : (w : ℕ) → is_some (rule_of w) ≡ true → (rule : RuleKind) × (rule_of w ≡ Some rule)
+rule_by w h = by_cases (rule_of w) refl h where
+  by_cases : (o : Option RuleKind) → rule_of w ≡ o → is_some o ≡ true → (rule : RuleKind) × (rule_of w ≡ Some rule)
+  by_cases None e k = cc
+  by_cases (Some rule) e k = (rule, e)
 
 -- ---- an ended game: no reply is left
 
@@ -106,20 +121,22 @@ turn_going h w g x y e m = let f = other_side g.brain (mover (board_of g)) m in 
 -- ---- what is followed
 
 -- In the game g, to which the opponent replied q after the choice by x, the choice by another is made, which stands there; and what
--- goes well from there goes well with the reply and the move before it.
+-- goes well from there goes well with the reply and the move before it. Later replies are legal there where they are with this one.
 pub record IsNextTo (h : HeldTable) (X : Type 0) (choice : X → Choice) (Stands : X → Game → Type 0)
-    (Goes : X → Game → List Point → List Answer → Type 0) (x : X) (g : Game) (q : Point) : Type 0 where
+    (Legal : X → Game → List Point → Type 0) (Goes : X → Game → List Point → List Answer → Type 0) (x : X) (g : Game) (q : Point) :
+    Type 0 where
   pub next : X
   pub stands : Stands next (game_then g (choice x) q)
   pub chooses : chosen h (game_then g (choice x) q) ≡ choice next
   pub more : (qs : List Point) (said : List Answer) → Goes next (game_then g (choice x) q) qs said
       → Goes x g (q ∷ qs) (Move (choice next).at ∷ said)
+  pub legal : (qs : List Point) → Legal x g (q ∷ qs) → Legal next (game_then g (choice x) q) qs
 
 -- What is followed may be told by an X: where it stands in a game, the brain is to move in a lawful position, and the move of its
 -- choice wins or goes on; with no reply the game goes well, and with a reply that fouls; no reply wins or draws, and where one goes
--- on the next choice is made.
+-- on the next choice is made. A legal reply is an empty point after a move that goes on, and the last one if it fouls.
 pub record IsFollowed (h : HeldTable) (X : Type 0) (choice : X → Choice) (Stands : X → Game → Type 0)
-    (Goes : X → Game → List Point → List Answer → Type 0) : Type 0 where
+    (Legal : X → Game → List Point → Type 0) (Goes : X → Game → List Point → List Answer → Type 0) : Type 0 where
   pub lawful : (x : X) (g : Game) → Stands x g → IsPosition g.rule (board_of g)
   pub turn : (x : X) (g : Game) → Stands x g → mover (board_of g) ≡ g.brain
   pub wins : (x : X) (g : Game) → Stands x g → WinsOr (outcome g.rule (board_of g) (choice x).at) (Unit {0})
@@ -127,13 +144,17 @@ pub record IsFollowed (h : HeldTable) (X : Type 0) (choice : X → Choice) (Stan
   pub fouls : (x : X) (g : Game) → Stands x g → outcome g.rule (board_of g) (choice x).at ≡ GoesOn → (q : Point) (f : Foul)
       → outcome g.rule (after (board_of g) (choice x).at) q ≡ Fouls f → Goes x g (q ∷ []) (Error OpponentFoul ∷ [])
   pub replied : (x : X) (g : Game) → Stands x g → outcome g.rule (board_of g) (choice x).at ≡ GoesOn → (q : Point)
-      → LosesOr (outcome g.rule (after (board_of g) (choice x).at) q) (IsNextTo h X choice Stands Goes x g q)
+      → LosesOr (outcome g.rule (after (board_of g) (choice x).at) q) (IsNextTo h X choice Stands Legal Goes x g q)
+  pub legal_first : (x : X) (g : Game) → Stands x g → (q : Point) (qs : List Point) → Legal x g (q ∷ qs)
+      → (outcome g.rule (board_of g) (choice x).at ≡ GoesOn) × (is_empty (after (board_of g) (choice x).at) q ≡ true)
+  pub legal_foul : (x : X) (g : Game) → Stands x g → outcome g.rule (board_of g) (choice x).at ≡ GoesOn → (q : Point) (f : Foul)
+      → outcome g.rule (after (board_of g) (choice x).at) q ≡ Fouls f → (qs : List Point) → Legal x g (q ∷ qs) → qs ≡ []
 
 -- ---- all later commands
 
-module _ (h : HeldTable) (X : Type 0) (choice : X → Choice) (Stands : X → Game → Type 0)
+module _ (h : HeldTable) (X : Type 0) (choice : X → Choice) (Stands : X → Game → Type 0) (Legal : X → Game → List Point → Type 0)
     (Goes : X → Game → List Point → List Answer → Type 0)
-    (followed : IsFollowed h X choice Stands Goes) where
+    (followed : IsFollowed h X choice Stands Legal Goes) where
   -- the state after the choice by x in the game
   abbrev then_state : ℕ → X → Game → State
   then_state w x g = state_in h w (with_choice g (choice x))
@@ -182,7 +203,7 @@ module _ (h : HeldTable) (X : Type 0) (choice : X → Choice) (Stands : X → Ga
     -- a reply that goes on is answered by the next choice
     next_reply : (w a b : ℕ) (cs : List Command) → AllGoWell cs
         → row_of (then_state w x g) (Turn a b) ≡ Chooses (game_then g (choice x) (point_at a b))
-        → IsNextTo h X choice Stands Goes x g (point_at a b) → GoesOver w x g (Turn a b ∷ cs)
+        → IsNextTo h X choice Stands Legal Goes x g (point_at a b) → GoesOver w x g (Turn a b ∷ cs)
     next_reply w a b cs all row next =
         let s = then_state w x g in
         let g2 = game_then g (choice x) (point_at a b) in
@@ -197,7 +218,7 @@ module _ (h : HeldTable) (X : Type 0) (choice : X → Choice) (Stands : X → Ga
         → outcome g.rule (after (board_of g) (choice x).at) (point_at a b) ≡ p
         → row_of (then_state w x g) (Turn a b) ≡ if_supported r (then_state w x g)
         (λ rule. move_row (then_state w x g) (with_choice g (choice x)) (point_at a b) p)
-        → LosesOr p (IsNextTo h X choice Stands Goes x g (point_at a b)) → GoesOver w x g (Turn a b ∷ cs)
+        → LosesOr p (IsNextTo h X choice Stands Legal Goes x g (point_at a b)) → GoesOver w x g (Turn a b ∷ cs)
     turn_by w a b cs None p all e row met = no_reply w a b cs UnsupportedRule refl row (all w x g stands)
     turn_by w a b cs (Some rule) Refused all e row met = no_reply w a b cs BadMove refl row (all w x g stands)
     turn_by w a b cs (Some rule) WinsNow all e row met = absurd met
@@ -206,7 +227,7 @@ module _ (h : HeldTable) (X : Type 0) (choice : X → Choice) (Stands : X → Ga
     turn_by w a b cs (Some rule) GoesOn all e row met = next_reply w a b cs all row met
 
     -- the row of a TURN
-    pub turn_row-then : (w : ℕ) (q : Point) → row_of (then_state w x g) (Turn q.x q.y)
+    turn_row-then : (w : ℕ) (q : Point) → row_of (then_state w x g) (Turn q.x q.y)
         ≡ if_supported (rule_of w) (then_state w x g)
         (λ rule. move_row (then_state w x g) (with_choice g (choice x)) q (outcome g.rule (after (board_of g) (choice x).at) q))
     turn_row-then w q =
@@ -235,3 +256,48 @@ module _ (h : HeldTable) (X : Type 0) (choice : X → Choice) (Stands : X → Ga
   all-go_well (EndCommand ∷ cs) w x g stands = followed.none x g stands
   all-go_well (Rule v ∷ cs) w x g stands = all-go_well cs v x g stands
   all-go_well (_ ∷ cs) w x g stands = all-go_well cs w x g stands
+
+  -- ---- legal replies are answered
+
+  module _ (w : ℕ) (rule : RuleKind) (wish : rule_of w ≡ Some rule) (x : X) (g : Game) (stands : Stands x g)
+      (on : outcome g.rule (board_of g) (choice x).at ≡ GoesOn) (q : Point) (qs : List Point) (legal : Legal x g (q ∷ qs)) where
+    row_is : (p : Outcome) → outcome g.rule (after (board_of g) (choice x).at) q ≡ p
+        → row_of (then_state w x g) (Turn q.x q.y) ≡ move_row (then_state w x g) (with_choice g (choice x)) q p
+    row_is p e =
+        turn_row-then x g stands on w q
+        ∙ ap (λ (o : Option RuleKind). if_supported o (then_state w x g) (λ rule. move_row (then_state w x g) (with_choice g (choice x)) q
+        (outcome g.rule (after (board_of g) (choice x).at) q))) wish
+        ∙ ap (λ (o : Outcome). move_row (then_state w x g) (with_choice g (choice x)) q o) e
+
+    reply_answered : ((v : ℕ) (y : X) (k : Game) → Stands y k → is_some (rule_of v) ≡ true → Legal y k qs
+        → Goes y k qs (answers_from (then_state v y k) (turns qs)))
+        → is_empty (after (board_of g) (choice x).at) q ≡ true → (p : Outcome) → outcome g.rule (after (board_of g) (choice x).at) q ≡ p
+        → LosesOr p (IsNextTo h X choice Stands Legal Goes x g q) → Goes x g (q ∷ qs) (answers_from (then_state w x g) (turns (q ∷ qs)))
+    reply_answered all empty Refused e met = absurd (moved g.rule (after (board_of g) (choice x).at) q empty e)
+    reply_answered all empty WinsNow e met = absurd met
+    reply_answered all empty (Fouls f) e met =
+        let s = then_state w x g in
+        let said : answers_from s (turns (q ∷ [])) ≡ Error OpponentFoul ∷ [] =
+        answers-row s (Turn q.x q.y) [] _ (row_is (Fouls f) e)
+        ∙ ap (λ (l : List Answer). Error OpponentFoul ∷ l) (answers-none (state_in h w (with_move (with_choice g (choice x)) q true))) in
+        subst (λ (vs : List Point). Goes x g (q ∷ vs) (answers_from s (turns (q ∷ vs))))
+        (sym (followed.legal_foul x g stands on q f e qs legal))
+        (subst (Goes x g (q ∷ [])) (sym said) (followed.fouls x g stands on q f e))
+    reply_answered all empty Draws e met = absurd met
+    reply_answered all empty GoesOn e next =
+        let s = then_state w x g in
+        let g2 = game_then g (choice x) q in
+        let said : answers_from s (turns (q ∷ qs)) ≡ Move (choice next.next).at ∷ answers_from (then_state w next.next g2) (turns qs) =
+        answers-row s (Turn q.x q.y) (turns qs) _ (row_is GoesOn e)
+        ∙ ap (λ (c : Choice). Move c.at ∷ answers_from (state_in h w (with_choice g2 c)) (turns qs)) next.chooses in
+        subst (Goes x g (q ∷ qs)) (sym said)
+        (next.more qs _ (all w next.next g2 next.stands (ap is_some wish) (next.legal qs legal)))
+
+  pub all-answered : (qs : List Point) (w : ℕ) (x : X) (g : Game) → Stands x g → is_some (rule_of w) ≡ true → Legal x g qs
+      → Goes x g qs (answers_from (then_state w x g) (turns qs))
+  all-answered [] w x g stands wish legal = subst (Goes x g []) (sym (answers-none (then_state w x g))) (followed.none x g stands)
+  all-answered (q ∷ qs) w x g stands wish legal =
+      let rule = rule_by w wish in
+      let first = followed.legal_first x g stands q qs legal in
+      reply_answered w rule.0 rule.1 x g stands first.0 q qs legal (all-answered qs) first.1
+      (outcome g.rule (after (board_of g) (choice x).at) q) refl (followed.replied x g stands first.0 q)

@@ -1,6 +1,6 @@
 -- A game in which a held node is followed: how it goes on by one reply, over plain values, and what each later command does to it.
-use Rattle.std.specs.Prelude.{Some, slice_get, IsSomeAnd}
-use Rattle.std.proofs.Common.{◌≡◌, ℕ, suc, ◌≤◌, ◌<◌, Bool, false, cond, List, [], ◌∷◌, ◌++◌, map, length, refl, sym, ap, ◌∙◌, arith, not}
+use Rattle.std.specs.Prelude.{Some, slice_get, is_some, IsSomeAnd}
+use Rattle.std.proofs.Common.{◌≡◌, ℕ, suc, ◌≤◌, ◌<◌, Bool, true, false, cond, List, [], ◌∷◌, ◌++◌, map, length, refl, sym, ap, ◌∙◌, arith, not}
 use Rattle.std.proofs.Common.{subst}
 use Rattle.game_rules.specs.Grid.{Grid}
 use Rattle.game_rules.specs.Play.{outcome, after, IsPosition, mover, other, goes_on}
@@ -28,10 +28,11 @@ use Rattle.gomocup_text.specs.declared.ErrorText.TheVariants.{OpponentFoul}
 use Rattle.gomocup_text.specs.declared.Command.{Command}
 use Rattle.gomocup_text.specs.declared.Command.TheVariants.{Turn}
 use Rattle.brain_session.specs.ChosenMoves.{Choice, chosen}
-use Rattle.brain_session.specs.HeldGames.{ends_with_foul, game_answers, IsWonWithin, replies, answers_to_replies}
+use Rattle.brain_session.specs.HeldGames.{AreReplies, ends_with_foul, game_answers, IsWonWithin, replies, answers_to_replies, turns}
+use Rattle.brain_session.specs.Sessions.{answers_from}
 use Rattle.brain_session.specs.States.{HeldNode, Game, board_of}
 use Rattle.brain_session.specs.Steps.{rule_of, if_supported, with_move, move_row, row_of, with_choice}
-use Rattle.brain_session.proofs.FollowedGames.{foul-later, won-later, state_in, IsNextTo, IsFollowed, turn_going, all-go_well}
+use Rattle.brain_session.proofs.FollowedGames.{foul-later, won-later, state_in, IsNextTo, IsFollowed, all-answered, all-go_well, turn_going}
 
 -- the answers to the attack a and to these replies are those of the game from node i at b, which is won within d or open
 pub record GoesBy (rule : RuleKind) (t : List Node) (d i : ℕ) (b : Grid) (a : Point) (rs : List Point) (said : List Answer) : Type 0 where
@@ -210,6 +211,11 @@ module _ (h : HeldTable) (g : Game) (i : ℕ) (n : Node) (k : ℕ) (s : StandsIn
             (deeper h.table i n k q j s.node reply);
       }
 
+-- no reply is legal once no attack is left
+pub none_left : (rule : RuleKind) (b : Grid) (qs : List Point) → AreReplies rule b [] qs → qs ≡ []
+none_left rule b [] are = refl
+none_left rule b (q ∷ qs) are = absurd are
+
 -- ---- a held node is followed
 
 -- node i, which is n, after which so many nodes more follow one another
@@ -225,13 +231,16 @@ module _ (h : HeldTable) where
   abbrev HeldStands : HeldAt → Game → Type 0
   HeldStands x g = StandsIn h g x.i x.n x.k
 
+  abbrev HeldLegal : HeldAt → Game → List Point → Type 0
+  HeldLegal x g qs = AreReplies g.rule (board_of g) (attacks g.rule h.table x.i (board_of g) qs) qs
+
   abbrev HeldGoes : HeldAt → Game → List Point → List Answer → Type 0
   HeldGoes x g qs said = GoesBy g.rule h.table (depth_within (suc x.k) h.table x.i) x.i (board_of g) x.n.attack qs said
 
   next_held : (x : HeldAt) (g : Game) → HeldStands x g → outcome g.rule (board_of g) x.n.attack ≡ GoesOn → (q : Point)
       → outcome g.rule (after (board_of g) x.n.attack) q ≡ GoesOn → (j : ℕ) → answer (answers_of x.n) q ≡ Some j
       → AcceptedWithin x.k g.rule h.table j (after (after (board_of g) x.n.attack) q)
-      → IsNextTo h HeldAt held_choice HeldStands HeldGoes x g q
+      → IsNextTo h HeldAt held_choice HeldStands HeldLegal HeldGoes x g q
   next_held x g s o q on j reply accepted =
       let next = next_stands h g x.i x.n x.k s o q on j reply accepted in
       record {
@@ -241,9 +250,12 @@ module _ (h : HeldTable) where
         more = λ qs said goes.
             by_next g.rule h.table _ x.i (board_of g) x.n s.node (depth_some h.table x.i x.n x.k s.node) o
             (parts h g x.i x.n x.k s o).0 q _ j next.node qs said on reply next.shallower goes;
+        legal = λ qs legal. (subst (λ (ps : List Point). AreReplies g.rule (board_of g) ps (q ∷ qs))
+            (attacks-next g.rule h.table 1 x.i (board_of g) x.n s.node (omega arith) o (parts h g x.i x.n x.k s o).0 q j qs on reply)
+            legal).2;
       }
 
-  held_followed : IsFollowed h HeldAt held_choice HeldStands HeldGoes
+  held_followed : IsFollowed h HeldAt held_choice HeldStands HeldLegal HeldGoes
   held_followed = record {
     lawful = λ x g s. s.lawful;
     turn = λ x g s. s.turn;
@@ -253,12 +265,20 @@ module _ (h : HeldTable) where
         by_foul g.rule h.table _ x.i (board_of g) x.n s.node (depth_some h.table x.i x.n x.k s.node) o
         (parts h g x.i x.n x.k s o).0 q f e;
     replied = λ x g s o q. by_reply x g s o q (outcome g.rule (after (board_of g) x.n.attack) q) refl ((parts h g x.i x.n x.k s o).1 q);
+    legal_first = λ x g s q qs legal.
+        let first = attacks-first g.rule h.table 1 x.i (board_of g) x.n s.node (omega arith) (q ∷ qs) in
+        let are = subst (λ (ps : List Point). AreReplies g.rule (board_of g) ps (q ∷ qs)) first.1 legal in
+        (are.0, are.1);
+    legal_foul = λ x g s o q f e qs legal.
+        none_left g.rule (after (after (board_of g) x.n.attack) q) qs
+        (subst (λ (ps : List Point). AreReplies g.rule (board_of g) ps (q ∷ qs))
+        (attacks-foul g.rule h.table 1 x.i (board_of g) x.n s.node (omega arith) o (parts h g x.i x.n x.k s o).0 q qs f e) legal).2;
   } where
     by_reply : (x : HeldAt) (g : Game) → HeldStands x g → outcome g.rule (board_of g) x.n.attack ≡ GoesOn → (q : Point) (p : Outcome)
         → outcome g.rule (after (board_of g) x.n.attack) q ≡ p
         → LosesOr p (IsSomeAnd (answer (answers_of x.n) q)
         (λ j. AcceptedWithin x.k g.rule h.table j (after (after (board_of g) x.n.attack) q)))
-        → LosesOr p (IsNextTo h HeldAt held_choice HeldStands HeldGoes x g q)
+        → LosesOr p (IsNextTo h HeldAt held_choice HeldStands HeldLegal HeldGoes x g q)
     by_reply x g s o q GoesOn e met = IsSomeAnd-elim (answer (answers_of x.n) q) _ _
         (λ j reply accepted. next_held x g s o q e j reply accepted) met
     by_reply x g s o q Refused e met = met
@@ -272,4 +292,12 @@ module _ (h : HeldTable) where
       (board_of g) n.attack (replies (state_in h w (with_choice g (by_node i n))) cs)
       (answers_to_replies (state_in h w (with_choice g (by_node i n))) cs)
   held-go_well cs k w g i n s =
-      all-go_well h HeldAt held_choice HeldStands HeldGoes held_followed cs w (record { i = i; n = n; k = k }) g s
+      all-go_well h HeldAt held_choice HeldStands HeldLegal HeldGoes held_followed cs w (record { i = i; n = n; k = k }) g s
+
+  -- and legal replies that are sent are answered
+  pub held-answered : (qs : List Point) (k w : ℕ) (g : Game) (i : ℕ) (n : Node) → StandsIn h g i n k → is_some (rule_of w) ≡ true
+      → AreReplies g.rule (board_of g) (attacks g.rule h.table i (board_of g) qs) qs
+      → GoesBy g.rule h.table (depth_within (suc k) h.table i) i (board_of g) n.attack qs
+      (answers_from (state_in h w (with_choice g (by_node i n))) (turns qs))
+  held-answered qs k w g i n s =
+      all-answered h HeldAt held_choice HeldStands HeldLegal HeldGoes held_followed qs w (record { i = i; n = n; k = k }) g s

@@ -43,14 +43,17 @@ use Rattle.brain_session.specs.ChosenMoves.{Choice, or_else, followed_after, by_
 use Rattle.brain_session.specs.ChosenMoves.{by_followed, first_node, own_win}
 use Rattle.brain_session.specs.Steps.{Step, step_by, with_choice, brain_step}
 use Rattle.brain_session.specs.Sessions.{state_after}
-use Rattle.brain_session.specs.HeldGames.{IsWonWithin, replies, answers_to_replies, answers_by}
+use Rattle.brain_session.specs.HeldGames.{AreReplies, IsWonWithin, replies, answers_to_replies, answers_by, turns}
 use Rattle.brain_session.specs.OwnGames.{BeginsOwnGame, PlaysWin, win_game, win_attacks, win_answers, OwnGameGoesWell, OwnGamesGoWell}
+use Rattle.brain_session.specs.OwnGames.{OwnRepliesAreAnswered}
 use Rattle.brain_session.proofs.OwnWins.{own_win-wins}
 use Rattle.brain_session.proofs.SessionGames.{along-lawful, chosen-followed}
 use Rattle.brain_session.proofs.Choosing.{chosen-own}
 use Rattle.strategy_graph.proofs.Endings.{none_on}
 use Rattle.strategy_graph.proofs.Fuel.{accepted_node}
-use Rattle.brain_session.proofs.FollowedGames.{foul-later, won-later, state_in, game_then, IsNextTo, IsFollowed, all-go_well}
+use Rattle.brain_session.proofs.FollowedGames.{all-answered, foul-later, won-later, state_in, game_then, IsNextTo, IsFollowed, all-go_well}
+use Rattle.brain_session.proofs.HeldSteps.{none_left}
+use Rattle.brain_session.proofs.HeldReplies.{session_by, supported}
 use Rattle.brain_session.proofs.LawfulStates.{LawfulState, IsToMove, LawfulRow, row-lawful, session-lawful, new-lawful}
 
 -- ---- the chosen move of a win by fours
@@ -108,10 +111,18 @@ module _ (rule : RuleKind) (n : ℕ) (b : Grid) (p : Point) (chosen_is : four_mo
     won = rw chosen_is (open_or_won (outcome rule b p) n some wins);
   }
 
+  -- the chosen move is the first attack
+  attacks_first : (q : Point) (qs : List Point) → (rest : List Point) × (win_attacks rule n b (q ∷ qs) ≡ p ∷ rest)
+  unfolding win_attacks
+  attacks_first q qs = (
+    points_on (outcome rule b p) (points_on (outcome rule (after b p) q) (win_attacks rule (n - 1) (after (after b p) q) qs)),
+    rw chosen_is refl,
+  )
+
   module _ (on : outcome rule b p ≡ GoesOn) (q : Point) where
-    attacks_foul : (f : Foul) → outcome rule (after b p) q ≡ Fouls f → win_attacks rule n b (q ∷ []) ≡ p ∷ []
+    attacks_foul : (qs : List Point) (f : Foul) → outcome rule (after b p) q ≡ Fouls f → win_attacks rule n b (q ∷ qs) ≡ p ∷ []
     unfolding win_attacks
-    attacks_foul f e = rw (chosen_is, on, e) refl
+    attacks_foul qs f e = rw (chosen_is, on, e) refl
 
     said_foul : (f : Foul) → outcome rule (after b p) q ≡ Fouls f → Move p ∷ Error OpponentFoul ∷ [] ≡ answers_by rule b (p ∷ []) (q ∷ [])
     said_foul f e = rw e refl
@@ -119,7 +130,7 @@ module _ (rule : RuleKind) (n : ℕ) (b : Grid) (p : Point) (chosen_is : four_mo
     by_foul : (f : Foul) → outcome rule (after b p) q ≡ Fouls f → GoesByWin rule n b p (q ∷ []) (Error OpponentFoul ∷ [])
     unfolding win_game
     by_foul f e = record {
-      answers = said_foul f e ∙ attacks_are rule n b (q ∷ []) (p ∷ []) (attacks_foul f e);
+      answers = said_foul f e ∙ attacks_are rule n b (q ∷ []) (p ∷ []) (attacks_foul [] f e);
       won = rw (chosen_is, on, e) (omega arith, some);
     }
 
@@ -166,6 +177,9 @@ record OwnStands (x : OwnAt) (g : Game) : Type 0 where
 abbrev own_choice : OwnAt → Choice
 own_choice x = record { at = x.at; followed = Some (OwnWin x.moves) }
 
+abbrev OwnLegal : OwnAt → Game → List Point → Type 0
+OwnLegal x g qs = AreReplies g.rule (board_of g) (win_attacks g.rule x.moves (board_of g) qs) qs
+
 abbrev OwnGoes : OwnAt → Game → List Point → List Answer → Type 0
 OwnGoes x g qs said = GoesByWin g.rule x.moves (board_of g) x.at qs said
 
@@ -181,7 +195,7 @@ chosen_next h g n p q before f ms e = chosen-followed h g (record { at = p; foll
 module _ (h : HeldTable) (x : OwnAt) (g : Game) (s : OwnStands x g) (o : outcome g.rule (board_of g) x.at ≡ GoesOn) where
   next_own : (q : Point) → outcome g.rule (after (board_of g) x.at) q ≡ GoesOn
       → wins_by_fours g.rule (x.moves - 1) (after (after (board_of g) x.at) q) ≡ true
-      → IsNextTo h OwnAt own_choice OwnStands OwnGoes x g q
+      → IsNextTo h OwnAt own_choice OwnStands OwnLegal OwnGoes x g q
   next_own q on wins =
       let g2 = game_then g (own_choice x) q in
       let move = four_move-some g.rule (x.moves - 1) (board_of g2) wins in
@@ -197,6 +211,8 @@ module _ (h : HeldTable) (x : OwnAt) (g : Game) (s : OwnStands x g) (o : outcome
         };
         chooses = chosen_next h g2 x.moves move.0 q (x.at ∷ g.moves) refl refl move.1;
         more = λ qs said goes. by_next g.rule x.moves (board_of g) x.at s.chosen_is s.some o q move.0 qs said on goes;
+        legal = λ qs legal. (subst (λ (ps : List Point). AreReplies g.rule (board_of g) ps (q ∷ qs))
+            (attacks_next g.rule x.moves (board_of g) x.at s.chosen_is s.some o q qs on) legal).2;
       }
 
   replies_lose : RepliesLose g.rule (x.moves - 1) (after (board_of g) x.at)
@@ -204,11 +220,12 @@ module _ (h : HeldTable) (x : OwnAt) (g : Game) (s : OwnStands x g) (o : outcome
       subst (λ (r : Outcome). WinsOr r (RepliesLose g.rule (x.moves - 1) (after (board_of g) x.at))) o
       (move-wins g.rule x.moves (board_of g) x.at s.chosen_is)
 
-  own_replied : (q : Point) → LosesOr (outcome g.rule (after (board_of g) x.at) q) (IsNextTo h OwnAt own_choice OwnStands OwnGoes x g q)
+  own_replied : (q : Point) → LosesOr (outcome g.rule (after (board_of g) x.at) q)
+      (IsNextTo h OwnAt own_choice OwnStands OwnLegal OwnGoes x g q)
   own_replied q = by_reply (outcome g.rule (after (board_of g) x.at) q) refl (replies_lose q) where
     by_reply : (r : Outcome) → outcome g.rule (after (board_of g) x.at) q ≡ r
         → LosesOr r (wins_by_fours g.rule (x.moves - 1) (after (after (board_of g) x.at) q) ≡ true)
-        → LosesOr r (IsNextTo h OwnAt own_choice OwnStands OwnGoes x g q)
+        → LosesOr r (IsNextTo h OwnAt own_choice OwnStands OwnLegal OwnGoes x g q)
     by_reply GoesOn e met = next_own q e met
     by_reply Refused e met = met
     by_reply WinsNow e met = met
@@ -218,7 +235,7 @@ module _ (h : HeldTable) (x : OwnAt) (g : Game) (s : OwnStands x g) (o : outcome
 own_wins : (x : OwnAt) (g : Game) → OwnStands x g → WinsOr (outcome g.rule (board_of g) x.at) (Unit {0})
 own_wins x g s = WinsOr-map (outcome g.rule (board_of g) x.at) _ _ (λ w. tt) (move-wins g.rule x.moves (board_of g) x.at s.chosen_is)
 
-own_followed : (h : HeldTable) → IsFollowed h OwnAt own_choice OwnStands OwnGoes
+own_followed : (h : HeldTable) → IsFollowed h OwnAt own_choice OwnStands OwnLegal OwnGoes
 own_followed h = record {
   lawful = λ x g s. s.lawful;
   turn = λ x g s. s.turn;
@@ -226,6 +243,13 @@ own_followed h = record {
   none = λ x g s. by_none g.rule x.moves (board_of g) x.at s.chosen_is s.some (own_wins x g s);
   fouls = λ x g s o q f e. by_foul g.rule x.moves (board_of g) x.at s.chosen_is s.some o q f e;
   replied = λ x g s o q. own_replied h x g s o q;
+  legal_first = λ x g s q qs legal.
+      let first = attacks_first g.rule x.moves (board_of g) x.at s.chosen_is s.some q qs in
+      let are = subst (λ (ps : List Point). AreReplies g.rule (board_of g) ps (q ∷ qs)) first.1 legal in
+      (are.0, are.1);
+  legal_foul = λ x g s o q f e qs legal.
+      none_left g.rule (after (after (board_of g) x.at) q) qs (subst (λ (ps : List Point). AreReplies g.rule (board_of g) ps (q ∷ qs))
+      (attacks_foul g.rule x.moves (board_of g) x.at s.chosen_is s.some o q qs f e) legal).2;
 }
 
 -- ---- the table of the win
@@ -373,40 +397,69 @@ unfolding chosen
 chosen_own h g m p followed held found move =
     ap (λ (o : Option Choice). or_else o (λ _. chosen_anew h g)) followed ∙ chosen-own h g m p held found move
 
+-- where a game by a win of the brain's own begins, the win stands in the game, and the step is its first move
+record OwnBegins (s : State) (c : Command) (g : Game) (m : ℕ) : Type 0 where
+  wins : wins_by_fours g.rule m (board_of g) ≡ true
+  at : Point
+  stands : OwnStands (record { moves = m; at = at }) g
+  step : brain_step s c ≡ record {
+    reaction = Says (Move at);
+    next = state_in s.held s.wish (with_choice g (own_choice (record { moves = m; at = at })));
+  }
+
+own_begins : (s : State) (c : Command) (g : Game) (m : ℕ) → LawfulState s → BeginsOwnGame s c g m → OwnBegins s c g m
+own_begins s c g m lawful b =
+    let to_move : IsToMove g = subst (LawfulRow s.held) b.chooses (row-lawful s c lawful) in
+    let wins = own_win-wins g.rule (board_of g) m b.found in
+    let move = four_move-some g.rule m (board_of g) wins in
+    record {
+      wins = wins;
+      at = move.0;
+      stands = record {
+        some = wins-some g.rule m (board_of g) wins;
+        chosen_is = move.1;
+        lawful = along-lawful g.rule g.start g.moves to_move.along;
+        turn = to_move.turn;
+      };
+      step = ap (step_by s) b.chooses
+          ∙ ap (λ (ch : Choice). let st : Step = record { reaction = Says (Move ch.at); next = state_in s.held s.wish (with_choice g ch) }
+          in st) (chosen_own s.held g m move.0 b.not_followed b.not_held b.found move.1);
+    }
+
 own_game : (s : State) (c : Command) (later : List Command) (g : Game) (m : ℕ) → LawfulState s → BeginsOwnGame s c g m
     → OwnGameGoesWell s c later g m
 own_game s c later g m lawful b =
-    let to_move : IsToMove g = subst (LawfulRow s.held) b.chooses (row-lawful s c lawful) in
-    let position = along-lawful g.rule g.start g.moves to_move.along in
-    let wins = own_win-wins g.rule (board_of g) m b.found in
-    let move = four_move-some g.rule m (board_of g) wins in
-    let x : OwnAt = record { moves = m; at = move.0 } in
-    let stands : OwnStands x g = record {
-      some = wins-some g.rule m
-          (board_of g) wins;
-      chosen_is = move.1;
-      lawful = position;
-      turn = to_move.turn;
-    } in
+    let begun = own_begins s c g m lawful b in
+    let x : OwnAt = record { moves = m; at = begun.at } in
     let then = state_in s.held s.wish (with_choice g (own_choice x)) in
-    let step : brain_step s c ≡ record { reaction = Says (Move move.0); next = then } =
-    ap (step_by s) b.chooses
-    ∙ ap (λ (ch : Choice). let st : Step = record { reaction = Says (Move ch.at); next = state_in s.held s.wish (with_choice g ch) } in st)
-    (chosen_own s.held g m move.0 b.not_followed b.not_held b.found move.1) in
-    let goes : GoesByWin g.rule m (board_of g) move.0 (replies then later) (answers_to_replies then later) =
-    all-go_well s.held OwnAt own_choice OwnStands OwnGoes (own_followed s.held) later s.wish x g stands in
+    let goes : GoesByWin g.rule m (board_of g) begun.at (replies then later) (answers_to_replies then later) =
+    all-go_well s.held OwnAt own_choice OwnStands OwnLegal OwnGoes (own_followed s.held) later s.wish x g begun.stands in
     record {
       few = own_win_low g.rule (board_of g) m b.found;
-      wins = test-WinsUnder (has_five g.rule) g.rule m (board_of g) wins;
-      first = Move move.0;
-      says = ap (λ (st : Step). st.reaction) step;
-      answers = subst (λ (st : Step). Move move.0 ∷ answers_to_replies st.next later ≡ win_answers g.rule m (board_of g)
-          (replies st.next later)) (sym step) goes.answers;
+      wins = test-WinsUnder (has_five g.rule) g.rule m (board_of g) begun.wins;
+      first = Move begun.at;
+      says = ap (λ (st : Step). st.reaction) begun.step;
+      answers = subst (λ (st : Step). Move begun.at ∷ answers_to_replies st.next later ≡ win_answers g.rule m (board_of g)
+          (replies st.next later)) (sym begun.step) goes.answers;
       won = subst (λ (st : Step). IsWonWithin m (length (replies st.next later))
-          (win_game g.rule m (board_of g) (replies st.next later))) (sym step) goes.won;
-      table = plays_win g.rule m (board_of g) position wins;
+          (win_game g.rule m (board_of g) (replies st.next later))) (sym begun.step) goes.won;
+      table = plays_win g.rule m (board_of g) begun.stands.lawful begun.wins;
     }
 
 pub own-games-go_well : OwnGamesGoWell
 own-games-go_well held is_held before c later g m b =
     own_game (state_after (new_brain held) before) c later g m (session-lawful held (new_brain held) before (new-lawful held)).0 b
+
+-- ---- legal replies
+
+-- the board at which such a game begins is that of a position
+pub own-position : (s : State) (c : Command) (g : Game) (m : ℕ) → LawfulState s → BeginsOwnGame s c g m → IsPosition g.rule (board_of g)
+own-position s c g m lawful b = (own_begins s c g m lawful b).stands.lawful
+
+pub own-replies-are_answered : OwnRepliesAreAnswered
+own-replies-are_answered held is_held before c g m qs b are =
+    let s = state_after (new_brain held) before in
+    let begun = own_begins s c g m (session-lawful held (new_brain held) before (new-lawful held)).0 b in
+    session_by s c (turns qs) _ begun.step
+    ∙ (all-answered s.held OwnAt own_choice OwnStands OwnLegal OwnGoes (own_followed s.held) qs s.wish
+    (record { moves = m; at = begun.at }) g begun.stands (supported s c g b.chooses) are).answers

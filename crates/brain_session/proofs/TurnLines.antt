@@ -12,7 +12,7 @@ use Rattle.game_rules.specs.declared.TheConstants.{MAX_SIDE}
 use Rattle.game_rules.specs.declared.Point.{Point}
 use Rattle.game_rules.proofs.Boards.{and_left, and_right}
 use Rattle.game_rules.proofs.Points.{all_at}
-use Rattle.renju_io.specs.Lines.{is_line_feed, line_of, lines, HasNoLineFeed}
+use Rattle.renju_io.specs.Lines.{is_line_feed, line_of, lines, whole_lines, HasNoLineFeed}
 use Rattle.renju_io.specs.declared.TheConstants.{LINE_FEED}
 use Rattle.renju_io.proofs.LineLaws.{pieces-ended}
 use Rattle.renju_io.proofs.WholeLines.{whole_cut}
@@ -25,16 +25,19 @@ use Rattle.game_rules.specs.Play.{after}
 use Rattle.game_rules.specs.declared.RuleKind.{RuleKind}
 use Rattle.game_rules.proofs.Boards.{on_x, on_y}
 use Rattle.gomocup_text.specs.Answers.{answer_text}
-use Rattle.strategy_checker.specs.HeldRoots.{IsHeld}
+use Rattle.strategy_checker.specs.HeldRoots.{HeldTable, IsHeld}
 use Rattle.gomocup_text.specs.declared.Answer.{Answer}
 use Rattle.brain_session.specs.States.{board_of, empty_board, new_brain, State}
-use Rattle.brain_session.specs.Sessions.{answer_texts, answers_from, state_after}
+use Rattle.brain_session.specs.Sessions.{answer_texts, answers_from, session_text, state_after}
+use Rattle.brain_session.specs.Serving.{HasNoEnd}
 use Rattle.brain_session.specs.HeldGames.{AreReplies, turns}
-use Rattle.brain_session.specs.TurnLines.{turn_line, turn_lines, IsSomeBoards, RepliesAreAnsweredInBytes, TurnLinesAreRead}
+use Rattle.brain_session.specs.TurnLines.{turn_line, turn_lines, IsSomeBoards, OwnRepliesAreAnsweredInBytes, RepliesAreAnsweredInBytes}
+use Rattle.brain_session.specs.TurnLines.{TurnLinesAreRead}
 use Rattle.brain_session.proofs.SessionLaws.{answers-append}
 use Rattle.brain_session.proofs.LawfulStates.{new-lawful, session-lawful}
 use Rattle.brain_session.proofs.HeldGames.{stands_where}
 use Rattle.brain_session.proofs.HeldReplies.{legal-replies-are_answered}
+use Rattle.brain_session.proofs.OwnGames.{own-position, own-replies-are_answered}
 
 -- the bytes of a line TURN before its line feed
 abbrev line_bytes : Point → List ℕ
@@ -119,17 +122,33 @@ legal_somes rule b (p ∷ ps) (q ∷ qs) wide high are =
     All-cons IsSomeBoards q qs (record { within = omega (arith, across, wide); below = omega (arith, down, high) })
     (legal_somes rule (after (after b p) q) ps qs wide high are.2)
 
-pub replies-in_bytes : RepliesAreAnsweredInBytes
-replies-in_bytes held is_held front before c g i qs whole are no_end begins legal =
+-- behind whole lines, of which the last is answered so with the turns behind it, the bytes are those of the answers before, and of these
+in_bytes : (held : HeldTable) (front : List ℕ) (before : List Command) (c : Command) (qs : List Point) (said : List Answer)
+    → whole_lines front ≡ front → commands front ≡ before ++ c ∷ [] → HasNoEnd before → All IsSomeBoards qs
+    → answers_from (state_after (new_brain held) before) (c ∷ turns qs) ≡ said
+    → session_text (new_brain held) (front ++ turn_lines qs) ≡ answer_texts (answers_from (new_brain held) before) ++ answer_texts said
+in_bytes held front before c qs said whole are no_end some answered =
     let s : State = state_after (new_brain held) before in
-    let kept = session-lawful held (new_brain held) before (new-lawful held) in
-    let at = stands_where s c g i (subst IsHeld (sym kept.1) is_held) kept.0 begins in
-    let board = at.3.lawful.board in
-    let some : All IsSomeBoards qs = legal_somes g.rule (board_of g) _ qs board.width_fits board.height_fits legal in
     let asked : commands (front ++ turn_lines qs) ≡ before ++ c ∷ turns qs =
     turn_lines-are_read front qs whole some ∙ ap (λ (cs : List Command). cs ++ turns qs) are ∙ append_assoc before (c ∷ []) (turns qs) in
     ap (λ (cs : List Command). answer_texts (answers_from (new_brain held) cs)) asked
     ∙ ap answer_texts (answers-append (new_brain held) before (c ∷ turns qs) no_end)
     ∙ flat_map-append answer_text (answers_from (new_brain held) before) (answers_from s (c ∷ turns qs))
-    ∙ ap (λ (said : List Answer). answer_texts (answers_from (new_brain held) before) ++ answer_texts said)
+    ∙ ap (λ (said : List Answer). answer_texts (answers_from (new_brain held) before) ++ answer_texts said) answered
+
+pub replies-in_bytes : RepliesAreAnsweredInBytes
+replies-in_bytes held is_held front before c g i qs whole are no_end begins legal =
+    let kept = session-lawful held (new_brain held) before (new-lawful held) in
+    let at = stands_where (state_after (new_brain held) before) c g i (subst IsHeld (sym kept.1) is_held) kept.0 begins in
+    let board = at.3.lawful.board in
+    in_bytes held front before c qs _ whole are no_end
+    (legal_somes g.rule (board_of g) _ qs board.width_fits board.height_fits legal)
     (legal-replies-are_answered held is_held before c g i qs begins legal)
+
+pub own-replies-in_bytes : OwnRepliesAreAnsweredInBytes
+own-replies-in_bytes held is_held front before c g m qs whole are no_end begins legal =
+    let kept = session-lawful held (new_brain held) before (new-lawful held) in
+    let board = (own-position (state_after (new_brain held) before) c g m kept.0 begins).board in
+    in_bytes held front before c qs _ whole are no_end
+    (legal_somes g.rule (board_of g) _ qs board.width_fits board.height_fits legal)
+    (own-replies-are_answered held is_held before c g m qs begins legal)

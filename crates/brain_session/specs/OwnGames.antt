@@ -18,8 +18,8 @@ use Rattle.brain_session.specs.declared.Reaction.TheVariants.{Says}
 use Rattle.brain_session.specs.States.{Game, board_of, State, new_brain}
 use Rattle.brain_session.specs.ChosenMoves.{first_node, by_followed, own_win}
 use Rattle.brain_session.specs.Steps.{Chooses, row_of, brain_step}
-use Rattle.brain_session.specs.Sessions.{state_after}
-use Rattle.brain_session.specs.HeldGames.{replies, answers_to_replies, answers_by, IsWonWithin}
+use Rattle.brain_session.specs.Sessions.{answers_from, state_after}
+use Rattle.brain_session.specs.HeldGames.{replies, answers_to_replies, answers_by, turns, AreReplies, IsWonWithin}
 
 -- The command begins a game by a win of the brain's own: the brain chooses its answer in the game g, it follows nothing there yet,
 -- no held root leads to a node there, and m is the fewest moves of the win by fours that its short search finds there.
@@ -84,3 +84,11 @@ OwnGamesGoWell =
     (held : HeldTable) → IsHeld held → (before : List Command) (c : Command) (later : List Command) (g : Game) (m : ℕ)
     → BeginsOwnGame (state_after (new_brain held) before) c g m
     → OwnGameGoesWell (state_after (new_brain held) before) c later g m
+
+-- Every list of legal replies that is sent to a brain in a game by a win of its own is answered by the attacks of the win against them.
+abbrev pub OwnRepliesAreAnswered : Type 0
+OwnRepliesAreAnswered =
+    (held : HeldTable) → IsHeld held → (before : List Command) (c : Command) (g : Game) (m : ℕ) (qs : List Point)
+    → BeginsOwnGame (state_after (new_brain held) before) c g m
+    → AreReplies g.rule (board_of g) (win_attacks g.rule m (board_of g) qs) qs
+    → answers_from (state_after (new_brain held) before) (c ∷ turns qs) ≡ win_answers g.rule m (board_of g) qs

@@ -14,6 +14,7 @@ use Rattle.brain_session.specs.States.{Game, board_of, new_brain}
 use Rattle.brain_session.specs.Sessions.{answer_texts, answers_from, session_text, state_after}
 use Rattle.brain_session.specs.Serving.{HasNoEnd}
 use Rattle.brain_session.specs.HeldGames.{AreReplies, BeginsHeldGame, game_answers, turns}
+use Rattle.brain_session.specs.OwnGames.{BeginsOwnGame, win_answers, win_attacks}
 
 -- the line TURN of a point, which is written as the brain writes its moves
 abbrev pub turn_line : Point → List ℕ
@@ -49,3 +50,18 @@ AnswersInBytes held =
 -- the same of all that is held
 abbrev pub RepliesAreAnsweredInBytes : Type 0
 RepliesAreAnsweredInBytes = (held : HeldTable) → IsHeld held → AnswersInBytes held
+
+-- Bytes on both sides of a game by a win of the brain's own: behind the answers to the lines before it come the lines of the attacks of
+-- the win against the replies, one for one.
+abbrev pub OwnAnswersInBytes : HeldTable → Type 0
+OwnAnswersInBytes held =
+    (front : List ℕ) (before : List Command) (c : Command) (g : Game) (m : ℕ) (qs : List Point)
+    → whole_lines front ≡ front → commands front ≡ before ++ c ∷ [] → HasNoEnd before
+    → BeginsOwnGame (state_after (new_brain held) before) c g m
+    → AreReplies g.rule (board_of g) (win_attacks g.rule m (board_of g) qs) qs
+    → session_text (new_brain held) (front ++ turn_lines qs)
+    ≡ answer_texts (answers_from (new_brain held) before) ++ answer_texts (win_answers g.rule m (board_of g) qs)
+
+-- the same of all that is held
+abbrev pub OwnRepliesAreAnsweredInBytes : Type 0
+OwnRepliesAreAnsweredInBytes = (held : HeldTable) → IsHeld held → OwnAnswersInBytes held

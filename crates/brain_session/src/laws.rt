@@ -5,9 +5,9 @@
 
 ghost use Rattle.brain_session.specs.HeldGames.{HeldGamesAreLed, HeldGamesGoWell, LegalRepliesAreAnswered, SessionsGoWell};
 ghost use Rattle.brain_session.specs.HeldGames.{StartsAreTight, WhoeverHoldsWins};
-ghost use Rattle.brain_session.specs.OwnGames.{OwnGamesGoWell};
+ghost use Rattle.brain_session.specs.OwnGames.{OwnGamesGoWell, OwnRepliesAreAnswered};
 ghost use Rattle.brain_session.specs.RootGames.{RootsBeginGames};
-ghost use Rattle.brain_session.specs.TurnLines.{RepliesAreAnsweredInBytes, TurnLinesAreRead};
+ghost use Rattle.brain_session.specs.TurnLines.{OwnRepliesAreAnsweredInBytes, RepliesAreAnsweredInBytes, TurnLinesAreRead};
 
 /// Whatever a brain that holds accepted roots was told before, and whatever it is told later: where it begins to follow a
 /// held root, its answers are the attacks of the table against the replies, one for one, and the game is won within the
@@ -48,9 +48,10 @@ pub fn roots_begin_games()
 
 /// Whatever such a brain was told before, and whatever it is told later: where it begins to follow a win by fours that it found
 /// itself, its answers are the attacks of the win's table against the replies, one for one, and the game is won within the
-/// moves that it found, or the replies have run out.
+/// moves that it found, or the replies have run out. Every list of legal replies that it is sent then is answered by these attacks.
 pub fn own_games_go_well()
     ensures go_well { OwnGamesGoWell }
+    ensures answered { OwnRepliesAreAnswered }
 {}
 
 /// Points that are written as lines `TURN X,Y` behind whole lines are read as these turns: so what is said of replies is said of
@@ -60,7 +61,9 @@ pub fn turn_lines_are_read()
 {}
 
 /// Where the lines of legal replies are sent behind lines of which the last begins a held game, the bytes that the brain writes are
-/// those of the answers before, and then the lines of the attacks of the table, byte for byte.
+/// those of the answers before, and then the lines of the attacks of the table, byte for byte. So it is where the last line begins a
+/// game by a win of the brain's own, with the attacks of this win.
 pub fn replies_are_answered_in_bytes()
     ensures answered { RepliesAreAnsweredInBytes }
+    ensures own { OwnRepliesAreAnsweredInBytes }
 {}
