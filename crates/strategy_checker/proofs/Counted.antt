@@ -354,7 +354,7 @@ module _ (rule : RuleKind) (t : List Node) (b : Grid) (rs : List Reply) (rest : 
 
   arrivals-each : (q : Point) (r : Bool) → is_apart rs s.attack q ≡ r
       → cond r 0 (arrivals_at rule a (arrivals rule t) b q) ≡ cond (goes_on (outcome rule b q) && not r) 1 0
-  arrivals-each q x1 h = search (rules, arrivals-other)
+  arrivals-each q r h = search (rules, arrivals-other)
 
   -- the arrivals behind all replies: one for each other reply that goes on, and those behind the replies that are apart
   pub arrivals-most : is_rising rs ≡ true

@@ -87,7 +87,7 @@ module _ (rule : RuleKind) (t : List Node) (b : Grid) (rs : List Reply) (rest : 
   module _ (s : Sure) (lawful : IsPosition rule b) (is : IsSure rule t b s) (to : rest_node rest ≡ Some s.node) where
     owed-last : (r : Bool) → is_listed rs s.attack ≡ r
         → owed rule t a b (cond r [] (s.attack ∷ [])) ≡ cond r 0 (arrivals_at rule a (arrivals rule t) b s.attack)
-    owed-last x0 h = search (rules, sum_by-cons)
+    owed-last r h = search (rules, sum_by-cons)
 
     met-last : (r : Bool) → is_listed rs s.attack ≡ r → AreMet rule t a b (cond r [] (s.attack ∷ []))
         → is_listed rs s.attack ≡ false → Meets rule a (Accepted rule t) b s.attack

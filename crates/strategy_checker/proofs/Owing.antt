@@ -55,7 +55,7 @@ module _ {rule : RuleKind} {t : List Node} {a : Answers} {b : Grid} {A : Type 0}
 
   -- a stop among them
   pub owes-short : (L : Why → Type 0) (stop : Stop) → Stopped L (now.left < owed rule t a b ps) stop → Stopped L (start < n) stop
-  owes-short x0 x1 h = grind arith
+  owes-short L stop h = grind arith
 
 -- at the end all are met
 pub owes-done : {rule : RuleKind} {t : List Node} {a : Answers} {b : Grid} {A : Type 0} {n : ℕ} {now : Walk} (L : List Point → Why → Type 0)

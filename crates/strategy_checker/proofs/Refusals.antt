@@ -31,15 +31,15 @@ module _ (rule : RuleKind) (t : List Node) (root : Root) (b : Grid) (work : ℕ)
   told-right : (start : ℕ) (stop : Stop) (line : List Point) (error : HeldError) → start ≡ work
       → Stopped (λ why. LeadsRoot rule t root b line why) (start < root_arrivals rule t root b) stop → IsTold stop line error
       → IsChecked rule t root b work (Err error)
-  told-right start stop line x3 all stopped is = search (rules, leads-refutes-root)
+  told-right start stop line error all stopped is = search (rules, leads-refutes-root)
 
   -- what comes of a walk from the root is what its check answers
   pub end-right : (old new : Walk) (walked : Result (Unit {0}) Stop) (r : Result ℕ HeldError) → old.left ≡ work
       → Walked rule t (AcceptedRoot rule t root b) (root_arrivals rule t root b) (LeadsRoot rule t root b) old new walked
       → IsEndOf walked (work - new.left) (reverse new.line) r → IsChecked rule t root b work r
-  end-right old new x2 r all did is = search (rules, accepted-root-wins, told-right)
+  end-right old new walked r all did is = search (rules, accepted-root-wins, told-right)
 
   -- a verdict by what the check answers says so
   pub verdict-right : (moves : ℕ) (r : Result ℕ HeldError) (v : Verdict) → moves ≡ root_depth t root → IsChecked rule t root b work r
       → IsVerdictOf moves r v → IsRight rule t root b work v
-  verdict-right moves x1 v deep checked is = search rules
+  verdict-right moves r v deep checked is = search rules

@@ -32,20 +32,21 @@ use Rattle.strategy_checker.proofs.Walking.{attack-stops, attack-then-leads}
 
 -- a fault of the attack of a node that is entered
 pub entered-stops : (rule : RuleKind) (t : List Node) (i : ℕ) (b : Grid) {n : Node} {why : Why} {u : Outcome} {start : ℕ}
-    (mid new : Walk) (stop : Stop) → mid.left ≡ start → slice_get t i ≡ Some n → u ≡ outcome rule b n.attack → attack_fault u n.rest ≡ Some why
-    → mid.line ≡ [] → IsNoted n.attack mid.line new.line (Fault why) stop → Stops rule t i b start new stop
+    (mid new : Walk) (stop : Stop) → mid.left ≡ start → slice_get t i ≡ Some n → u ≡ outcome rule b n.attack
+    → attack_fault u n.rest ≡ Some why → mid.line ≡ [] → IsNoted n.attack mid.line new.line (Fault why) stop
+    → Stops rule t i b start new stop
 entered-stops rule t i b mid new stop left at o h none noted =
     rw (← left) (attack-stops rule t i b _ _ _ mid new stop at o h none noted)
 
 stopped-more : (L : Why → Type 0) (P Q : Type 0) → (P → Q) → (stop : Stop) → Stopped L P stop → Stopped L Q stop
-stopped-more x0 x1 x2 f x4 h = search rules
+stopped-more L P Q f stop h = search rules
 
 -- a stop behind the reply q, with the reply noted
 pub reply-stops : (rule : RuleKind) (t : List Node) (a : Answers) (b : Grid) (q : Point) (i start : ℕ)
     → outcome rule b q ≡ GoesOn → answer a q ≡ Some i → (late new : Walk) (stop last : Stop) → Stops rule t i (after b q) start late stop
     → IsNoted q late.line new.line stop last
     → Stopped (λ why. LeadsStart rule t a b (reverse new.line) why) (start < arrivals_at rule a (arrivals rule t) b q) last
-reply-stops rule t a b q i start on answered late new x11 last h noted = search (rules, reverse-append, leads-answer, arrivals-answer)
+reply-stops rule t a b q i start on answered late new stop last h noted = search (rules, reverse-append, leads-answer, arrivals-answer)
 
 -- what the replies to the attack of a node say of the node
 module _ (rule : RuleKind) (t : List Node) (i : ℕ) (b c : Grid) (n : Node) (table : IsTable t) (at : slice_get t i ≡ Some n)
@@ -138,7 +139,7 @@ module _ {rule : RuleKind} {t : List Node} {n : Node} {c : Grid} {o : Stage} whe
 pub went-on-same : (rule : RuleKind) (t : List Node) (n : Node) (c : Grid) (o : Stage) (m : Meeting) (olds news : List Stage) (now : Walk)
     (d : Grid) (r : Result (Option Stage) Stop) → WentOn rule t n c (record o { meeting = m }) olds news now d r
     → WentOn rule t n c o olds news now d r
-went-on-same rule t n c o m olds news now d r x11 = grind arith
+went-on-same rule t n c o m olds news now d r h = grind arith
 
 -- ---- the nodes that wait
 

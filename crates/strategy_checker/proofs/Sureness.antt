@@ -80,7 +80,7 @@ none-left rule b p lawful on fives told h =
 pub had_none : (rule : RuleKind) (b : Grid) (q : Point) → IsPosition rule b → outcome rule b q ≡ GoesOn → (free : Bool)
     → (free ≡ true → has_five rule b (mover b) ≡ false)
     → (c : Grid) → c ≡ after b q → AreFives rule c (fives_after free q)
-had_none rule b q lawful on x5 none c there = search (rules, lift-after)
+had_none rule b q lawful on free none c there = search (rules, lift-after)
 
 -- where the side to move has no five point and no fouls, each reply on an empty point goes on, unless that is the last
 pub quick-going : (rule : RuleKind) (b : Grid) → has_five rule b (mover b) ≡ false → has_fouls rule (mover b) ≡ false → 1 < empties_of b

@@ -33,7 +33,7 @@ module _ (rule : RuleKind) (b : Grid) (p : Point) (lawful : IsPosition rule b) (
 pub fault-stops : (rule : RuleKind) (t : List Node) (A : Type 0) (n : ℕ) (L : List Point → Why → Type 0) (p : Point) (why : Why)
     (old new : Walk) (stop : Stop)
     → old.line ≡ [] → L (p ∷ []) why → IsNoted p old.line new.line (Fault why) stop → Walked rule t A n L old new (Err stop)
-fault-stops rule t x2 n x4 p why old new x9 none here noted = search rules
+fault-stops rule t A n L p why old new stop none here noted = search rules
 
 -- ---- steps
 
@@ -41,7 +41,7 @@ fault-stops rule t x2 n x4 p why old new x9 none here noted = search rules
 pub taken : (rule : RuleKind) (t : List Node) (A : Type 0) (n : ℕ) (L : List Point → Why → Type 0) (old new : Walk)
     (r : Result (Unit {0}) Stop)
     → old.line ≡ [] → IsTrueMemo rule t old.memo → A → Takes n old new r → Walked rule t A n L old new r
-taken rule t x2 n x4 old new x7 none memo a takes = search rules
+taken rule t A n L old new r none memo a takes = search rules
 
 -- a walk that has taken arrivals may step on
 pub taken-ready : (rule : RuleKind) (t : List Node) (b : Grid) (n : ℕ) (old new : Walk) → IsReady rule t b old → Takes n old new (Ok tt)
@@ -65,7 +65,7 @@ attack-stops rule t i b n why u old new stop at o h none noted = search (rules, 
 pub attack-then-leads : (rule : RuleKind) (t : List Node) (i : ℕ) (b : Grid) (n : Node) (line : List Point) (why : Why)
     → slice_get t i ≡ Some n → outcome rule b n.attack ≡ GoesOn → is_winning n.rest ≡ false
     → LeadsStart rule t (answers_of n) (after b n.attack) line why → Leads rule t i b (n.attack ∷ line) why
-attack-then-leads rule t i b n x5 why at on more h = search (rules, leads-reply)
+attack-then-leads rule t i b n line why at on more h = search (rules, leads-reply)
 
 -- a reply that is no move is met, with no arrivals
 pub refused-reply : (rule : RuleKind) (t : List Node) (a : Answers) (b : Grid) (q : Point) (now : Walk) → IsReady rule t b now
@@ -75,7 +75,7 @@ refused-reply rule t a b q now ready taken = search (rules, arrivals-stops, take
 -- ---- the items of a list from one on
 
 pub drop-none : {X : Type 0} (xs : List X) → drop 0 xs ≡ xs
-drop-none x0 = search rules
+drop-none xs = search rules
 
 pub drop-at : {X : Type 0} (xs : List X) (i : ℕ) (x : X) → slice_get xs i ≡ Some x → drop i xs ≡ x ∷ drop (i + 1) xs
 drop-at [] i x h = cc
