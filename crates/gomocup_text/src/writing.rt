@@ -19,20 +19,21 @@ pub struct AnswerText {
 }
 
 impl Model for AnswerText {
-    ghost use Rattle.std.specs.Prelude.{List, ℕ, ◌≡◌};
+    ghost use Rattle.std.specs.Prelude.{List, ℕ, ◌≡◌, ◌≤◌, length};
     ghost use Rattle.gomocup_text.specs.declared.TheConstants.{MAX_ANSWER_BYTES};
 
     ghost Value = { List ℕ };
 
     ghost view = { λ a. a.bytes.items };
 
-    ghost invariant = { λ a. a.bytes.capacity ≡ MAX_ANSWER_BYTES };
+    ghost invariant = { λ a. (a.bytes.capacity ≡ MAX_ANSWER_BYTES) × (length a.bytes.items ≤ MAX_ANSWER_BYTES) };
 }
 
 impl AnswerText {
     /// The bytes of the line.
     pub fn as_slice(&self) -> &[u8]
         ensures bytes { result.now ≡ self.now }
+        ensures short { length result.now ≤ MAX_ANSWER_BYTES }
     {
         self.bytes.as_slice()
     }

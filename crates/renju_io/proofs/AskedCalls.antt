@@ -1,8 +1,9 @@
 -- How often a device was asked, call by call.
-use Rattle.std.proofs.Common.{◌≡◌, ℕ, zero, suc, ◌+◌, ◌<◌, ◌≤◌, min, refl, sym, ap, ◌∙◌, List, [], ◌++◌, length, Option, subst, arith}
+use Rattle.std.proofs.Common.{◌≡◌, ℕ, zero, suc, ◌+◌, ◌<◌, ◌≤◌, min, refl, sym, ap, ◌∙◌, List, [], ◌++◌, length}
+use Rattle.std.proofs.Common.{Option, Some, Bool, true, false, if◌then◌else◌, subst, arith}
 use Rattle.std.proofs.Common.{length-append}
 use Rattle.renju_io.specs.Asked.{one_more, after_calls, IsAsked, IsAskedAtMost, IsAskedOnce, IsAskedWithin, GivesByEach, piece_count}
-use Rattle.renju_io.specs.Told.{Gives}
+use Rattle.renju_io.specs.Told.{Gives, tells_end}
 use Rattle.renju_io.specs.declared.TheConstants.{MAX_PIECE_BYTES}
 use Rattle.renju_io.proofs.GivenBytes.{Gives-none, Gives-then}
 
@@ -46,12 +47,12 @@ few_once most more a b c few once le = record {
   asked = once ∙ ap one_more few.asked;
 }
 
-pub within_once : (first last more a b c : ℕ) → IsAskedWithin first last a b → IsAskedOnce b c → last + 1 ≤ more
+pub within_asked : (first last more a b c : ℕ) → IsAskedWithin first last a b → IsAskedAtMost 1 b c → last + 1 ≤ more
     → IsAskedWithin first more a c
-within_once first last more a b c few once le = record {
-  calls = suc few.calls;
-  few = omega (arith, few.few, le);
-  asked = once ∙ ap one_more few.asked;
+within_asked first last more a b c few once le = record {
+  calls = once.calls + few.calls;
+  few = omega (arith, few.few, once.few, le);
+  asked = IsAsked-then few.calls once.calls a b c few.asked once.asked;
 }
 
 -- more calls
@@ -85,21 +86,52 @@ by_each_failed left left_before left_after a b c bytes before kept few once =
     by_each left left_before left_after a b c bytes [] before (subst (λ l. Gives left_before [] l) (sym kept) (Gives-none left_before)) few
     once
 
--- a piece of a text was written: the rest has fewer pieces by one
+-- a source that may have told its end was asked once more at most than it gave bytes
+pub few_to_end : (len most : ℕ) (ended : Bool) (a b : ℕ) → len ≤ most → IsAskedAtMost (len + (if ended then 1 else 0)) a b
+    → IsAskedAtMost (most + 1) a b
+few_to_end len most true a b le few = few_more (len + 1) (most + 1) a b few (omega (arith, le))
+few_to_end len most false a b le few = few_more (len + 0) (most + 1) a b few (omega (arith, le))
+
+-- one that has not was asked no more often
+pub few_to_go_on : (len : ℕ) (ended : Bool) (a b : ℕ) → ended ≡ false → IsAskedAtMost (len + (if ended then 1 else 0)) a b
+    → IsAskedAtMost len a b
+few_to_go_on len true a b is few = absurd (cc)
+few_to_go_on len false a b is few = few_more (len + 0) len a b few (omega arith)
+
+-- a read gives a byte at least, or tells the end
+pub read_goes_on : (count : ℕ) (last : Option ℕ) → last ≡ Some count → 1 ≤ count + (if tells_end last then 1 else 0)
+read_goes_on zero last is =
+    let P : Option ℕ → Type 0 = λ l. 1 ≤ 0 + (if tells_end l then 1 else 0) in subst P (sym is) (omega arith)
+read_goes_on (suc n) last is = omega arith
+
+-- a piece of a text was written: the rest has one piece less
 pub one_piece_less : (rest piece later : List ℕ) → rest ≡ piece ++ later → length piece ≡ min MAX_PIECE_BYTES (length rest)
-    → 0 < length rest → piece_count later + 1 ≤ piece_count rest
+    → 0 < length rest → piece_count later + 1 ≡ piece_count rest
 one_piece_less rest piece later cut size some =
     omega (arith, ap length cut, length-append piece later, size, some)
 
-pub piece_written : (text rest later : List ℕ) (a b c : ℕ) → IsAskedWithin (piece_count rest) (piece_count text) a b
-    → piece_count later + 1 ≤ piece_count rest → IsAskedOnce b c → IsAskedWithin (piece_count later) (piece_count text) a c
-piece_written text rest later a b c few less once = record {
-  calls = suc few.calls;
-  few = omega (arith, few.few, less);
-  asked = once ∙ ap one_more few.asked;
+-- so many calls were made that as many are left
+pub record IsAskedUpTo (rest all old new : ℕ) : Type 0 where
+  pub calls : ℕ
+  pub exact : rest + calls ≡ all
+  pub asked : IsAsked calls old new
+
+pub up_to_begun : (all a : ℕ) → IsAskedUpTo all all a a
+up_to_begun all a = record { calls = 0; exact = omega arith; asked = refl }
+
+pub up_to_once : (rest later all a b c : ℕ) → IsAskedUpTo rest all a b → later + 1 ≡ rest → IsAskedOnce b c → IsAskedUpTo later all a c
+up_to_once rest later all a b c so_far less once = record {
+  calls = suc so_far.calls;
+  exact = omega (arith, so_far.exact, less);
+  asked = once ∙ ap one_more so_far.asked;
 }
 
--- so there were no more writes than the text has pieces
-pub writes_few : (text later : List ℕ) (a b : ℕ) → IsAskedWithin (piece_count later) (piece_count text) a b
-    → IsAskedAtMost (piece_count text) a b
-writes_few text later a b few = record { calls = few.calls; few = omega (arith, few.few); asked = few.asked }
+-- so there were no more calls than these
+pub up_to_few : (rest all a b : ℕ) → IsAskedUpTo rest all a b → IsAskedAtMost all a b
+up_to_few rest all a b so_far = record { calls = so_far.calls; few = omega (arith, so_far.exact); asked = so_far.asked }
+
+-- and all of them where none is left
+pub up_to_all : (rest all a b : ℕ) → IsAskedUpTo rest all a b → rest ≡ 0 → IsAsked all a b
+up_to_all rest all a b so_far none =
+    let all_made : so_far.calls ≡ all = omega (arith, so_far.exact, none) in
+    so_far.asked ∙ ap (λ n. after_calls n a) all_made

@@ -8,7 +8,7 @@ use Rattle.std.specs.Io.KnownBytes.{prepend_known, IsAtEnd}
 use Rattle.renju_io.specs.Told.{Gives}
 use Rattle.renju_io.specs.Lines.{LineText, Text, TooLong, begun, is_line_feed, line_of, lines, pieces, HasNoLineFeed, Tells, TellsLast}
 use Rattle.renju_io.specs.Lines.{ReaderState, StaysOpen, KeepsLine, TakesLines, TakesTooMany, IsExhausted, lines_left, told_lines}
-use Rattle.renju_io.specs.LineReads.{ReadsOn}
+use Rattle.renju_io.specs.LineReads.{OpenUntilLast, ReadsOn}
 use Rattle.renju_io.specs.declared.line_reader.Line.{Line}
 use Rattle.renju_io.specs.declared.line_reader.Line.TheVariants as kind
 use Rattle.renju_io.specs.declared.TheConstants.{LINE_FEED, MAX_LINE_BYTES, MAX_SESSION_BYTES}
@@ -352,6 +352,20 @@ Reading-read old now mid next left left_now left_next count reading same few non
     let P : ReaderState → Type 0 = λ reader. ReadsOn reader left_now count next left_next in
     Reading-on old now next left left_now left_next count reading few none (subst P same read)
     (text ∙ ap (λ (reader : ReaderState). reader.text) same)
+
+-- the line had not ended before the last read
+pub open_until_last : (old now mid next : ReaderState) (left left_now left_next : Option (List ℕ)) (last_next : Option ℕ) (count : ℕ) →
+    Reading old left now left_now → mid ≡ now → now.taken ≤ MAX_SESSION_BYTES → HasNoLineFeed now.kept →
+    ReadsOn mid left_now count next left_next → last_next ≡ Some count → OpenUntilLast old left left_next last_next
+open_until_last old now mid next left left_now left_next last_next count reading same few none read last =
+    let so_far = reading.within few in
+    record {
+      before = so_far.given;
+      final = read.given;
+      gives = Gives-then left left_now left_next so_far.given read.given so_far.gives read.gives;
+      last = last ∙ ap (λ n. Some n) (sym read.many);
+      open_still = open_before (old.kept ++ so_far.given) now.kept so_far.stands none;
+    }
 
 -- a read that gave nothing ends the input
 pub Ended-read : (old now mid next new : ReaderState) (left left_now left_next : Option (List ℕ)) (count : ℕ) (told : List LineText) →

@@ -5,6 +5,7 @@ pub mod Asked
 pub mod Told
 pub mod Files
 pub mod Memory
+pub mod Real
 pub mod Lines
 pub mod LineReads
 pub mod Reader

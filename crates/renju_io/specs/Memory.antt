@@ -1,5 +1,5 @@
 -- Devices in memory: what they hold, and which of their calls fail.
-use Rattle.std.specs.Prelude.{◌≡◌, ℕ, ◌+◌, Bool, true, false, List, [], ◌⊎◌, ◌++◌, min, length, take, drop, ◌==◌, if◌then◌else◌, nat_lt}
+use Rattle.std.specs.Prelude.{◌≡◌, ℕ, Bool, true, false, List, [], ◌⊎◌, ◌++◌, min, length, take, drop, ◌==◌, if◌then◌else◌, nat_lt}
 use Rattle.std.specs.Prelude.{Option, None, Some, Result, Ok, Err, map, string_bytes}
 use Rattle.std.specs.List.{list_any}
 use Rattle.renju_io.specs.Asked.{one_more}
@@ -29,9 +29,10 @@ abbrev pub after_call : Calls → Bool → Calls
 after_call calls failed =
     record { failing = calls.failing; made = one_more calls.made; faults = if failed then one_more calls.faults else calls.faults }
 
--- a source in memory: the bytes that are left, the most that one read gives, and the calls
+-- a source in memory: the bytes that are left, how many the last read gave, the most that one read gives, and the calls
 pub record SourceState : Type 0 where
   pub left : List ℕ
+  pub last : Option ℕ
   pub piece : ℕ
   pub calls : Calls
 
@@ -43,6 +44,7 @@ given_count source room = min room (min source.piece (length source.left))
 abbrev pub after_read : SourceState → ℕ → SourceState
 after_read source room = record {
   left = if fails_next source.calls then source.left else drop (given_count source room) source.left;
+  last = if fails_next source.calls then source.last else Some (given_count source room);
   piece = source.piece;
   calls = after_call source.calls (fails_next source.calls);
 }

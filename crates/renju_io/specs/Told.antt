@@ -1,12 +1,17 @@
 -- Bytes that a device may tell: `Some` of the bytes that a source has left or that a sink has written, or `None`
 -- where it does not tell them. `append_known` and `prepend_known` of std keep `None` as it is.
-use Rattle.std.specs.Prelude.{◌≡◌, ℕ, List, Option, take}
+use Rattle.std.specs.Prelude.{◌≡◌, ◌==◌, ℕ, Bool, false, List, Option, None, Some, take}
 use Rattle.std.specs.Io.KnownBytes.{prepend_known, append_known}
 use Rattle.renju_io.specs.Faults.{HasRisen, HasStayed}
 
 -- a source gave these bytes: they were the front of what was left, and the rest is left now
 abbrev pub Gives : Option (List ℕ) → List ℕ → Option (List ℕ) → Type 0
 Gives old given new = old ≡ prepend_known given new
+
+-- whether the last read that did not fail told the end of the input: it gave no byte
+abbrev pub tells_end : Option ℕ → Bool
+tells_end None = false
+tells_end (Some count) = count == 0
 
 -- a source gave some bytes, maybe none: what is left now is the end of what was left
 pub record GivesSome (old new : Option (List ℕ)) : Type 0 where

@@ -6,13 +6,13 @@
 //! to know that it is, so the lines do not depend on how reads cut them. Bytes after the most that may be taken are
 //! asked for one at a time: the first of them shows that a line goes on too far. Once a read has told the end of the input
 //! the source is not asked again.
-ghost use Rattle.std.specs.Prelude.{false, true, ◌≡◌, ◌≢◌, ◌+◌, ◌-◌, ◌<◌, ◌≤◌, [], ◌++◌, ◌∷◌, length, take, position, Ok, Err, IfOk, IfErr, IfSome, IfNone, IsErrOf, IsErr, OnOk, OnErr, MatchOption, MatchResult, vec_len, vec_capacity, ⊤};
+ghost use Rattle.std.specs.Prelude.{false, true, ◌≡◌, ◌≢◌, ◌+◌, ◌-◌, ◌<◌, ◌≤◌, [], ◌++◌, ◌∷◌, length, take, position, Ok, Err, IfOk, IfErr, IfSome, IfNone, IsErrOf, IsErr, OnOk, OnErr, MatchOption, MatchResult, vec_len, vec_capacity, Some, ⊤};
 ghost use Rattle.std.specs.Option.{option_map};
 ghost use Rattle.std.specs.Io.KnownBytes.{IsAtEnd};
 ghost use Rattle.renju_io.specs.Faults.{HasRisen, HasStayed, HasNotFallen};
-ghost use Rattle.renju_io.specs.Asked.{IsAskedOnce, IsAskedWithin};
+ghost use Rattle.renju_io.specs.Asked.{IsAskedAtMost, IsAskedWithin};
 ghost use Rattle.renju_io.specs.Told.{Gives, FailsAfter};
-ghost use Rattle.renju_io.specs.LineReads.{ReadsOn};
+ghost use Rattle.renju_io.specs.LineReads.{ReadsNoFurther, ReadsOn};
 ghost use Rattle.renju_io.specs.Lines.{HasNoLineFeed, Tells, KeepsLine, KnowsEnd, TakesLines, TakesTooMany, IsExhausted, is_line_feed, line_of, lines, lines_left, reads_for, told_lines};
 
 use crate::{Failed, LINE_FEED, MAX_LINE_BYTES, MAX_SESSION_BYTES, Source};
@@ -134,6 +134,9 @@ impl LineReader {
             e ≢ ReadError.Failed → HasStayed (S.faults source.old) (S.faults source.new)) }
         ensures counted { HasNotFallen (S.faults source.old) (S.faults source.new) }
 
+        ensures no_further { OnOk result (ReadsNoFurther self.old self.new (S.left source.old)
+            (S.left source.new) (S.last source.old) (S.last source.new)) }
+
         // Each read took a byte at least, but for the one that told the end, and the one that failed.
         ensures few_reads { OnOk result
             (IsAskedWithin (reads_for self.old) (reads_for self.new) (S.asked source.old) (S.asked source.new)) }
@@ -213,13 +216,14 @@ impl LineReader {
         ensures ok { IfOk result (λ count.
             ReadsOn self.old (S.left source.old) count self.new (S.left source.new)) }
         ensures end { result ≡ Ok 0 → IsAtEnd (S.left source.new) }
+        ensures last { IfOk result (λ count. S.last source.new ≡ Some count) }
         ensures kept { OnErr result (S.left source.new ≡ S.left source.old) }
         ensures stays { OnErr result (self.new
             ≡ record self.old { kept = take (MAX_LINE_BYTES + 1) self.old.kept }) }
         ensures failed { OnErr result (HasRisen (S.faults source.old) (S.faults source.new)) }
         ensures uncounted { OnOk result (HasStayed (S.faults source.old) (S.faults source.new)) }
         ensures counted { HasNotFallen (S.faults source.old) (S.faults source.new) }
-        ensures asks { IsAskedOnce (S.asked source.old) (S.asked source.new) }
+        ensures asks { IsAskedAtMost 1 (S.asked source.old) (S.asked source.new) }
     {
         append_front(
             &mut self.line,
@@ -276,19 +280,23 @@ fn tell(text: &mut Vec<u8>, line: &mut Vec<u8>) -> Line
     Line::Text
 }
 
-// Reads into the front of a buffer, at most so many bytes.
+// Reads into the front of a buffer, at most so many bytes, unless the source has told its end.
 fn read_front<S: Source>(source: &mut S, buffer: &mut [u8], most: usize) -> Result<usize, Failed>
     requires some { 0 < most }
     requires room { 0 < length buffer.old }
     ensures fits { IfOk result (λ count. (count ≤ most) × (count ≤ length buffer.old)) }
     ensures given { IfOk result (λ count. Gives (S.left source.old) (take count buffer.new) (S.left source.new)) }
     ensures end { result ≡ Ok 0 → IsAtEnd (S.left source.new) }
+    ensures last { IfOk result (λ count. S.last source.new ≡ Some count) }
     ensures kept { OnErr result (S.left source.new ≡ S.left source.old) }
     ensures failed { OnErr result (HasRisen (S.faults source.old) (S.faults source.new)) }
     ensures uncounted { OnOk result (HasStayed (S.faults source.old) (S.faults source.new)) }
     ensures counted { HasNotFallen (S.faults source.old) (S.faults source.new) }
-    ensures asks { IsAskedOnce (S.asked source.old) (S.asked source.new) }
+    ensures asks { IsAskedAtMost 1 (S.asked source.old) (S.asked source.new) }
 {
+    if source.has_ended() {
+        return Ok(0);
+    }
     let count = most.min(buffer.len());
     source.read(&mut buffer[..count])
 }

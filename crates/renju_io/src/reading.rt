@@ -2,11 +2,11 @@
 //!
 //! Reads are asked for until one tells the end, and none after that or after one that failed. The bytes are those of all
 //! reads, one behind the other, whatever the reads cut them into.
-ghost use Rattle.std.specs.Prelude.{◌≡◌, ◌≢◌, ◌+◌, ◌<◌, ◌≤◌, length, IfOk, IfErr, IfSome, IsErrOf, OnOk, vec_len};
+ghost use Rattle.std.specs.Prelude.{◌≡◌, ◌≢◌, ◌+◌, ◌<◌, ◌≤◌, true, length, IfOk, IfErr, IfSome, IsErrOf, OnOk, vec_len};
 ghost use Rattle.std.specs.Io.KnownBytes.{IsAtEnd};
 ghost use Rattle.renju_io.specs.Faults.{HasRisen, HasStayed, HasNotFallen};
 ghost use Rattle.renju_io.specs.Asked.{GivesByEach, IsAskedAtMost};
-ghost use Rattle.renju_io.specs.Told.{GivesSome, FailsAfter};
+ghost use Rattle.renju_io.specs.Told.{GivesSome, FailsAfter, tells_end};
 
 use crate::{MAX_INPUT_BYTES, Source};
 use std::alloc::{AllocError, Global};
@@ -34,6 +34,7 @@ const READ_BYTES: usize = 8_192;
 pub fn read_all<S: Source>(alloc: Global, source: &mut S) -> Result<Vec<u8>, ReadAllError>
     ensures whole { IfOk result (λ bytes. IfSome (S.left source.old) (λ left. bytes.items ≡ left)) }
     ensures at_end { OnOk result (IsAtEnd (S.left source.new)) }
+    ensures told_end { OnOk result (tells_end (S.last source.new) ≡ true) }
     ensures short { IfOk result (λ bytes. length bytes.items ≤ MAX_INPUT_BYTES) }
 
     ensures too_long { IsErrOf result ReadAllError.TooLong →
@@ -55,13 +56,10 @@ pub fn read_all<S: Source>(alloc: Global, source: &mut S) -> Result<Vec<u8>, Rea
         return Err(ReadAllError::Memory);
     };
     let mut bytes = Vec::new(alloc);
-    loop {
+    while !source.has_ended() {
         let Ok(count) = source.read(&mut piece) else {
             return Err(ReadAllError::Failed);
         };
-        if count == 0 {
-            return Ok(bytes);
-        }
         if count > MAX_INPUT_BYTES - bytes.len() {
             return Err(ReadAllError::TooLong);
         }
@@ -69,6 +67,7 @@ pub fn read_all<S: Source>(alloc: Global, source: &mut S) -> Result<Vec<u8>, Rea
             return Err(ReadAllError::Memory);
         }
     }
+    Ok(bytes)
 }
 
 // Room for what one read gives. That it isn't empty is all that the reader needs to know.

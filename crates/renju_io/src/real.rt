@@ -1,8 +1,13 @@
-//! The devices of the system: standard input and output, and files. They are the edge that is trusted. They are safe
-//! and true to their counts of calls and of faults, and tell nothing of content: what a file or a terminal holds is not proved.
-ghost use Rattle.std.specs.Prelude.{◌≡◌, ◌≤◌, None, length, IfOk, min, ◌+◌};
-ghost use Rattle.renju_io.specs.Faults.{HasRisen, HasNotFallen};
-ghost use Rattle.renju_io.specs.Asked.{no_counts};
+//! The devices of the system: standard input and output, and files.
+//!
+//! A source is an adapter of any reader of std and a sink one of any writer: a read takes what the reader gives, a write stands
+//! behind what the writer holds, and a failure is told, as std tells of the bytes of the two. Of those of the system, and of files by
+//! their names, std tells nothing: what is asked of them is proved, and what they do with it is trusted.
+ghost use Rattle.std.specs.Prelude.{◌≡◌, ◌<◌, ◌≤◌, true, None, Some, length, Ok, IfOk, OnOk, OnErr};
+ghost use Rattle.std.specs.Io.KnownBytes.{Appends, ReadConsumes};
+ghost use Rattle.renju_io.specs.Faults.{HasRisen, HasStayed, HasNotFallen};
+ghost use Rattle.renju_io.specs.Asked.{IsAskedOnce, no_counts};
+ghost use Rattle.renju_io.specs.Told.{tells_end};
 
 use crate::{Failed, LoadError, MAX_INPUT_BYTES, ReadAllError, Shelf, Sink, Source, read_all};
 use std::alloc::Global;
@@ -11,29 +16,31 @@ use std::io::{ErrorKind, Read, Write};
 use std::marker::Model;
 use std::rt::Files;
 
-/// A source over a reader of the system, as standard input.
+/// A source over a reader of std, as standard input.
 #[derive(Drop)]
 pub struct RealSource<R: Read + Drop> {
     reader: R,
+    last: Option<usize>,
     asked: u64,
     faults: u64,
 }
 
 impl<R: Read + Drop> Model for RealSource<R> {
-    ghost use Rattle.renju_io.specs.Asked.{Counts};
+    ghost use Rattle.renju_io.specs.Real.{ReaderDevice};
 
-    ghost Value = { Counts };
+    ghost Value = { ReaderDevice };
 
-    ghost view = { λ s. record { asked = s.asked; faults = s.faults } };
+    ghost view = { λ s. record { remaining = R.remaining s.reader; last = s.last; asked = s.asked; faults = s.faults } };
 }
 
 impl<R: Read + Drop> RealSource<R> {
     /// The source starts with both counts at 0.
     pub fn new(reader: R) -> RealSource<R>
-        ensures fresh { result ≡ no_counts }
+        ensures fresh { result ≡ record { remaining = R.remaining reader; last = None; asked = 0; faults = 0 } }
     {
         RealSource {
             reader,
+            last: None,
             asked: 0,
             faults: 0,
         }
@@ -43,16 +50,38 @@ impl<R: Read + Drop> RealSource<R> {
 impl<R: Read + Drop> Source for RealSource<R> {
     ghost left = { λ _. None };
 
+    ghost last = { λ s. s.last };
+
     ghost faults = { λ s. s.faults };
 
     ghost asked = { λ s. s.asked };
 
-    /// One read of the system into the whole buffer.
-    fn read(&mut self, buf: &mut [u8]) -> Result<usize, Failed> {
+    fn has_ended(&self) -> bool
+        ensures told { result ≡ tells_end self.now.last }
+    {
+        match self.last {
+            Some(count) => count == 0,
+            None => false,
+        }
+    }
+
+    /// One read of the reader into the whole buffer.
+    fn read(&mut self, buf: &mut [u8]) -> Result<usize, Failed>
+        requires room { 0 < length buf.old }
+        ensures fits { IfOk result (λ count. count ≤ length buf.old) }
+        ensures consumes { ReadConsumes self.old.remaining self.new.remaining result buf.new }
+        ensures last { IfOk result (λ count. self.new.last ≡ Some count) }
+        ensures last_kept { OnErr result (self.new.last ≡ self.old.last) }
+        ensures failed { OnErr result (HasRisen self.old.faults self.new.faults) }
+        ensures uncounted { OnOk result (HasStayed self.old.faults self.new.faults) }
+        ensures counted { HasNotFallen self.old.faults self.new.faults }
+        ensures asks { IsAskedOnce self.old.asked self.new.asked }
+    {
         self.asked = self.asked.saturating_add(1);
         let answer = read_retrying(&mut self.reader, buf);
-        if answer.is_err() {
-            self.faults = self.faults.saturating_add(1);
+        match answer {
+            Ok(count) => self.last = Some(count),
+            Err(Failed) => self.faults = self.faults.saturating_add(1),
         }
         answer
     }
@@ -61,6 +90,7 @@ impl<R: Read + Drop> Source for RealSource<R> {
 // A read that is made again where a signal cuts it off.
 fn read_retrying<R: Read>(reader: &mut R, buf: &mut [u8]) -> Result<usize, Failed>
     ensures fits { IfOk result (λ count. count ≤ length buf.old) }
+    ensures consumes { ReadConsumes (R.remaining reader.old) (R.remaining reader.new) result buf.new }
 {
     for _ in 0..u64::MAX {
         match reader.read(buf) {
@@ -72,7 +102,7 @@ fn read_retrying<R: Read>(reader: &mut R, buf: &mut [u8]) -> Result<usize, Faile
     Err(Failed)
 }
 
-/// A sink over a writer of the system, as standard output. No byte is kept back from one write to the next.
+/// A sink over a writer of std, as standard output. No byte is kept back from one write to the next.
 #[derive(Drop)]
 pub struct RealSink<W: Write + Drop> {
     writer: W,
@@ -81,17 +111,17 @@ pub struct RealSink<W: Write + Drop> {
 }
 
 impl<W: Write + Drop> Model for RealSink<W> {
-    ghost use Rattle.renju_io.specs.Asked.{Counts};
+    ghost use Rattle.renju_io.specs.Real.{WriterDevice};
 
-    ghost Value = { Counts };
+    ghost Value = { WriterDevice };
 
-    ghost view = { λ s. record { asked = s.asked; faults = s.faults } };
+    ghost view = { λ s. record { contents = W.contents s.writer; asked = s.asked; faults = s.faults } };
 }
 
 impl<W: Write + Drop> RealSink<W> {
     /// The sink starts with both counts at 0.
     pub fn new(writer: W) -> RealSink<W>
-        ensures fresh { result ≡ no_counts }
+        ensures fresh { result ≡ record { contents = W.contents writer; asked = 0; faults = 0 } }
     {
         RealSink {
             writer,
@@ -108,7 +138,13 @@ impl<W: Write + Drop> Sink for RealSink<W> {
 
     ghost asked = { λ s. s.asked };
 
-    fn write(&mut self, piece: &[u8]) -> Result<(), Failed> {
+    fn write(&mut self, piece: &[u8]) -> Result<(), Failed>
+        ensures appends { OnOk result (Appends self.old.contents self.new.contents piece.now) }
+        ensures failed { OnErr result (HasRisen self.old.faults self.new.faults) }
+        ensures uncounted { OnOk result (HasStayed self.old.faults self.new.faults) }
+        ensures counted { HasNotFallen self.old.faults self.new.faults }
+        ensures asks { IsAskedOnce self.old.asked self.new.asked }
+    {
         self.asked = self.asked.saturating_add(1);
         if self.writer.write_all(piece).is_ok() && self.writer.flush().is_ok() {
             return Ok(());

@@ -1,13 +1,13 @@
 //! What takes bytes, piece by piece.
 //!
 //! A sink may tell the bytes that were written. A write that fails leaves a front of its piece written, so that what a
-//! reader of the output sees is always a front of what was meant.
-ghost use Rattle.std.specs.Prelude.{◌≡◌, ℕ, List, Option, OnOk, OnErr};
+//! reader of the output sees is always a front of what was meant. A longer text is cut into pieces by `write_text`.
+ghost use Rattle.std.specs.Prelude.{◌≡◌, ◌≤◌, ℕ, List, Option, length, OnOk, OnErr};
 ghost use Rattle.renju_io.specs.Faults.{HasRisen, HasStayed, HasNotFallen};
 ghost use Rattle.renju_io.specs.Asked.{IsAskedOnce};
 ghost use Rattle.renju_io.specs.Told.{Takes, TakesPart};
 
-use crate::Failed;
+use crate::{Failed, MAX_PIECE_BYTES};
 
 /// A sink of bytes.
 pub trait Sink {
@@ -23,6 +23,7 @@ pub trait Sink {
     /// Writes the whole piece behind what was written. A write that fails has written some first bytes of the piece,
     /// maybe none or all of them.
     fn write(&mut self, piece: &[u8]) -> Result<(), Failed>
+        requires short { length piece.now ≤ MAX_PIECE_BYTES }
         ensures whole { OnOk result (Takes (written self.old) piece.now (written self.new)) }
         ensures part { OnErr result (TakesPart (written self.old) piece.now (written self.new)) }
         ensures failed { OnErr result (HasRisen (faults self.old) (faults self.new)) }

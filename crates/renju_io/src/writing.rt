@@ -3,7 +3,7 @@
 //! No write is asked for more than a limit, nor for an empty piece, and none after one that failed.
 ghost use Rattle.std.specs.Prelude.{OnOk, OnErr};
 ghost use Rattle.renju_io.specs.Faults.{HasRisen, HasStayed, HasNotFallen};
-ghost use Rattle.renju_io.specs.Asked.{IsAskedAtMost, piece_count};
+ghost use Rattle.renju_io.specs.Asked.{IsAsked, IsAskedAtMost, piece_count};
 ghost use Rattle.renju_io.specs.Told.{CutAfter, Takes, TakesPart};
 
 use crate::{Failed, MAX_PIECE_BYTES, Sink};
@@ -17,6 +17,7 @@ pub fn write_text<O: Sink>(sink: &mut O, text: &[u8]) -> Result<(), Failed>
     ensures failed { OnErr result (HasRisen (O.faults sink.old) (O.faults sink.new)) }
     ensures uncounted { OnOk result (HasStayed (O.faults sink.old) (O.faults sink.new)) }
     ensures counted { HasNotFallen (O.faults sink.old) (O.faults sink.new) }
+    ensures writes { OnOk result (IsAsked (piece_count text.now) (O.asked sink.old) (O.asked sink.new)) }
     ensures few_writes { IsAskedAtMost (piece_count text.now) (O.asked sink.old) (O.asked sink.new) }
 {
     for piece in text.chunks(MAX_PIECE_BYTES) {

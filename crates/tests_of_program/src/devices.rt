@@ -1,6 +1,6 @@
 //! Devices in memory, and texts of many bytes. What makes and asks them promises nothing, which keeps the tests quick to prove.
 
-ghost use Rattle.std.specs.Prelude.{◌<◌};
+ghost use Rattle.std.specs.Prelude.{◌<◌, length};
 
 use renju_io::{Failed, MemoryFile, MemoryShelf, MemorySink, MemorySource, Sink, Source};
 use std::alloc::{AllocError, Global};
@@ -59,8 +59,10 @@ pub(crate) fn shelf_of(
     Ok(MemoryShelf::new(vec![in alloc; file]?, loads))
 }
 
-/// What one read answers.
-pub(crate) fn read_once<S: Source>(source: &mut S, buffer: &mut [u8]) -> Result<usize, Failed> {
+/// What one read answers, maybe of a source that has told its end.
+pub(crate) fn read_once(source: &mut MemorySource, buffer: &mut [u8]) -> Result<usize, Failed>
+    requires { 0 < length buffer.old }
+{
     source.read(buffer)
 }
 
@@ -72,7 +74,7 @@ pub(crate) fn next_byte(source: &mut MemorySource) -> Result<u8, Failed> {
 }
 
 /// What one write answers.
-pub(crate) fn write_once<O: Sink>(sink: &mut O, piece: &[u8]) -> Result<(), Failed> {
+pub(crate) fn write_once(sink: &mut MemorySink, piece: &[u8]) -> Result<(), Failed> {
     sink.write(piece)
 }
 

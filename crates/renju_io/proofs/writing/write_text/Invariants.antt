@@ -1,8 +1,9 @@
 use Rattle.std.proofs.Common.{◌≡◌}
 use Rattle.std.specs.Slice.Iter.{chunks_rest, chunks_size}
-use Rattle.renju_io.specs.Asked.{IsAskedWithin, piece_count}
+use Rattle.renju_io.specs.Asked.{piece_count}
 use Rattle.renju_io.specs.Faults.{HasStayed}
 use Rattle.renju_io.specs.declared.TheConstants.{MAX_PIECE_BYTES}
+use Rattle.renju_io.proofs.AskedCalls.{IsAskedUpTo}
 use Rattle.renju_io.proofs.TakenText.{HasTaken}
 use Rattle.renju_io.proofs.writing.write_text.Given as goal
 
@@ -10,6 +11,6 @@ use Rattle.renju_io.proofs.writing.write_text.Given as goal
 abbrev pub invariant-loop-piece : goal.invariant-loop-piece
 invariant-loop-piece g l = HasTaken (g.O.Sink.written l.initial.sink) (g.O.Sink.written l.sink) l.text (chunks_rest l.piece-iterator)
     × HasStayed (g.O.Sink.faults l.initial.sink) (g.O.Sink.faults l.sink)
-    × IsAskedWithin (piece_count (chunks_rest l.piece-iterator)) (piece_count l.text)
+    × IsAskedUpTo (piece_count (chunks_rest l.piece-iterator)) (piece_count l.text)
     (g.O.Sink.asked l.initial.sink) (g.O.Sink.asked l.sink)
     × (chunks_size l.piece-iterator ≡ MAX_PIECE_BYTES)

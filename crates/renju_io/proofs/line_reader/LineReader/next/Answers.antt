@@ -1,8 +1,9 @@
-use Rattle.std.proofs.Common.{ℕ, ◌≢◌, ◌≤◌, ◌∙◌, length, ap, sym, subst, Some, Ok, Result, arith}
+use Rattle.std.proofs.Common.{ℕ, ◌≢◌, ◌≤◌, ◌∙◌, length, ap, sym, subst, inl, inr, Some, Ok, Result, arith}
 use Rattle.renju_io.specs.Lines.{HasNoLineFeed, ReaderState, told_lines}
 use Rattle.renju_io.specs.declared.TheConstants.{MAX_SESSION_BYTES}
-use Rattle.renju_io.proofs.AskedCalls.{within_more, within_once}
+use Rattle.renju_io.proofs.AskedCalls.{within_more, within_asked}
 use Rattle.renju_io.proofs.LinesSoFar.{Ended, ReadSoFar, Reading-read, Ended-read, KeepsLine-failed, lines_left-told, IsExhausted-past}
+use Rattle.renju_io.proofs.LinesSoFar.{open_until_last}
 use Rattle.renju_io.proofs.LinesSoFar.{not_exhausted_line, not_exhausted_last, open_after, ends_as_before, some_kept}
 use Rattle.renju_io.specs.declared.line_reader.Line.{Line}
 use Rattle.renju_io.specs.declared.line_reader.Line.TheVariants.{Text}
@@ -82,9 +83,25 @@ loop-self-preserved g c =
           c.loop-self.invariant.0 c.in_default.ensures.none few c.in_default.ensures.open c.in-Ok.ensures.ok c.in-Ok.ensures.text,
       c.in-Ok.ensures.ended ∙ ap (λ (reader : ReaderState). reader.ended) c.in_default.ensures.none ∙ c.loop-self.invariant.1,
       c.in-Ok.ensures.uncounted ∙ c.loop-self.invariant.2,
-      within_once _ _ _ _ _ _ c.loop-self.invariant.3 c.read_on.ensures.asks
+      within_asked _ _ _ _ _ _ c.loop-self.invariant.3 c.read_on.ensures.asks
           (omega (arith, c.in-Ok.field-0-test.1, c.in-Ok.ensures.ok.counted, ap taken c.in_default.ensures.none)),
+      inr (open_until_last c.args.self.now c.loop-self.self c.end_line.new.self c.read_on.new.self _ _ _ _ _
+          c.loop-self.invariant.0 c.in_default.ensures.none few c.in_default.ensures.open c.in-Ok.ensures.ok c.in-Ok.ensures.last),
     )
+
+-- no read was made once the line had ended
+pub returns-in-Some-clause-no_further : goal.returns-in-Some-clause-no_further
+returns-in-Some-clause-no_further g c = elim c.loop-self.invariant.4 [
+  | inl unread ↦ inl (c.in-Some.ensures.taken ∙ unread.0, unread.1, unread.2)
+  | inr read ↦ inr read
+]
+
+pub returns-in-Ok-eq0-clause-no_further : goal.returns-in-Ok-eq0-clause-no_further
+returns-in-Ok-eq0-clause-no_further g c =
+    let few : c.loop-self.self.taken ≤ MAX_SESSION_BYTES =
+    omega (arith, c.loop-self-test.true, ap (λ (reader : ReaderState). reader.taken) c.self-in-loop-self.view_is) in
+    inr (open_until_last c.args.self.now c.loop-self.self c.end_line.new.self c.read_on.new.self _ _ _ _ _
+    c.loop-self.invariant.0 c.in_default.ensures.none few c.in_default.ensures.open c.in-Ok-eq0.ensures.ok c.in-Ok-eq0.ensures.last)
 
 -- each read before the last took a byte at least
 pub returns-in-Some-clause-few_reads : goal.returns-in-Some-clause-few_reads
@@ -93,13 +110,13 @@ returns-in-Some-clause-few_reads g c =
 
 pub returns-in-Ok-eq0-clause-few_reads : goal.returns-in-Ok-eq0-clause-few_reads
 returns-in-Ok-eq0-clause-few_reads g c =
-    within_once _ _ _ _ _ _ c.loop-self.invariant.3 c.read_on.ensures.asks
+    within_asked _ _ _ _ _ _ c.loop-self.invariant.3 c.read_on.ensures.asks
     (rw c.end_input.ensures.ended
     (omega (arith, c.in-Ok-eq0.ensures.ok.counted, ap taken c.in_default.ensures.none, c.end_input.ensures.taken)))
 
 pub returns-in-Err-clause-few_failed : goal.returns-in-Err-clause-few_failed
 returns-in-Err-clause-few_failed g c = λ _.
-    within_once _ _ _ _ _ _ c.loop-self.invariant.3 c.read_on.ensures.asks
+    within_asked _ _ _ _ _ _ c.loop-self.invariant.3 c.read_on.ensures.asks
     (omega (arith, ap taken c.in-Err.ensures.stays, ap taken c.in_default.ensures.none))
 
 pub returns-in-Err-clause-stays : goal.returns-in-Err-clause-stays
