@@ -27,6 +27,7 @@ use Rattle.threat_game.proofs.TreeLaws.{IsTriedMove, replies-positive, tried-at,
 use Rattle.proof_number.proofs.ExpandedCounts.{Expansion, IsNewNote, expanded-grown, new_behind, unwritten_child, sum-nothing, sum-under}
 use Rattle.proof_number.proofs.Expanding.{IsNewChild}
 use Rattle.proof_number.proofs.Recording.{keeps-all}
+use Rattle.proof_number.proofs.RunningOut.{defences-out}
 use Rattle.proof_number.proofs.Steps.{attack-moves, attack-no_five, leaf-compiled, leaf-lawful, leaf-noted, lost-step}
 use Rattle.proof_number.proofs.Sums.{sum-le, sum-less, sum-list}
 use Rattle.threat_game.proofs.AttackLaws.{none-tried, tried-enough, tried-or-saved}
@@ -173,6 +174,7 @@ module _ {rule : RuleKind} {s : Search} {t : Tree} {c : List Node} {leaf : ℕ} 
     moves-spent over = record {
       spent = (let a = defences-fit in let d = moves-few rule s.board lawful-here no-five others m one-move in let e =
           tree-here in omega (arith, over, a, d, e));
+      ran_out = defences-out stands attack over;
       same = refl;
       keeps = keeps-all s;
     }

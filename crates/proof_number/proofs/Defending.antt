@@ -1,6 +1,7 @@
 -- The numbers and notes of the children of a node of the defender, one after another. A leaf of the defender is settled where a reply
 -- leaves no win, or else gets a child for each reply.
 use Rattle.std.proofs.Common.{◌≡◌, ◌⊎◌, inl, inr, ℕ, ◌+◌, ◌<◌, ◌≤◌, refl, sym, ap, subst, ◌∙◌, arith, List, [], ◌∷◌, ◌++◌, length, take}
+use Rattle.std.proofs.Common.{Result, Err}
 use Rattle.std.proofs.Common.{Option, Some, None, IfSome, is_none, sum_by, suc, ◌-◌, Bool, true, false, cond, ◌&&◌, not, map, All}
 use Rattle.std.proofs.lemmas.Bool.{cases_lt, eq-eqb, ne_eqb}
 use Rattle.std.proofs.lemmas.List.{get_or_append_left, get_or_push, length_push, get_or-map}
@@ -46,6 +47,11 @@ use Rattle.proof_number.proofs.Opening.{leaf-facts}
 use Rattle.proof_number.proofs.Common.{most_nodes, room_in}
 use Rattle.proof_number.proofs.Common.{AreSettled, IsSettledChild, child_at, child_note, child_numbers, no_child, no_note, note_at, win_of}
 use Rattle.proof_number.proofs.Common.{open_numbers, AreMet, CanGrow, GameTree, HasTried, TellsTruly, WinsAt, among, board_at, left_at}
+use Rattle.strategy_compiler.specs.declared.error.SearchError.{SearchError}
+use Rattle.strategy_compiler.specs.declared.error.SearchError.TheVariants.{Full}
+use Rattle.strategy_compiler.proofs.Common.{Writes}
+use Rattle.proof_number.proofs.RunningOut.{attacks-out, room-out, same-error}
+use Rattle.proof_number.proofs.Common.{HasNoRoom}
 use Rattle.proof_number.proofs.Common.{IsTrueMemo, Grows, HasGrown, HasSpent, IsAtLeaf, IsExpandedAt, IsNotedWin, IsSettledAt, StandsAt}
 use Rattle.proof_number.proofs.Common.{attacks_behind, behind_at, defences_behind, game_of, is_attack, sum_below, IsLostAt, WinsByFewFours}
 use Rattle.proof_number.proofs.ExpandedCounts.{Expansion, IsNewNote, expanded-grown, new_behind, unwritten_child, sum-nothing}
@@ -423,6 +429,7 @@ module _ {rule : RuleKind} {s : Search} {t : Tree} {c : List Node} {leaf : ℕ} 
     pub replies-spent : s.budget < s.attacked + children.count → (b : Grid) → b ≡ s.board → HasSpent rule s (record s { board = b }) t t
     replies-spent over b same = record {
       spent = (let a = attacks-fit in let few = are.few in omega (arith, a, few, over));
+      ran_out = attacks-out stands Defend defend children.count (inr (children, are, refl)) over;
       same = refl;
       keeps = record { rest = ap (λ (x : Grid). record s { board = x }) same; places = λ r w. refl };
     }
@@ -432,6 +439,18 @@ module _ {rule : RuleKind} {s : Search} {t : Tree} {c : List Node} {leaf : ℕ} 
         let parts = sum-parts (λ (x : Child). nodes_for x.judged) open_one (λ (x : Child). counted_for x.judged)
         (λ x. counted-parts x.judged) children.all.items in
         omega (arith, parts, are.count_is)
+
+    -- where the nodes of the children don't fit there is no room
+    pub replies-no_room : {A B : Type 0} {d : List Node} {e : SearchError} {r : Result B SearchError} (nodes : ℕ)
+        → nodes ≡ sum_by (λ (x : Child). nodes_for x.judged) children.all.items → Writes {A = A} c d nodes (Err e) → r ≡ Err e
+        → r ≡ Err Full
+        → HasNoRoom rule s.depth s.budget s.root t s.before
+    replies-no_room {e = e} nodes are_nodes writes is full =
+        let same = same-error (Err e) refl is full in
+        let over = writes.full same in
+        let few = nodes-few in
+        let fits = here.searching.few in
+        room-out stands Defend defend children.count (inr (children, are, refl)) (omega (arith, over, few, fits, are_nodes))
 
     pub children-many : length children.all.items ≤ children.count
     children-many =

@@ -1,12 +1,14 @@
 -- The end of the search: what the note and the numbers of the root tell.
-use Rattle.std.proofs.Common.{◌≡◌, ◌∙◌, inl, inr, ℕ, zero, suc, ◌*◌, ◌<◌, ◌≤◌, Bool, true, false, cond, sym, ap, subst, arith, List}
+use Rattle.std.proofs.Common.{◌≡◌, ◌⊎◌, ◌∙◌, inl, inr, ℕ, zero, suc, ◌*◌, ◌<◌, ◌≤◌, Bool, true, false, cond, sym, ap, subst, arith, List}
 use Rattle.std.proofs.Common.{length, get_or, min, Some, None, Result, Ok, Err, IfOk, OnOk, refl}
 use Rattle.std.proofs.lemmas.List.{get_or_default, length-map}
 use Rattle.game_rules.proofs.Common.{Grid, WinsByThreats, WinsWithin}
 use Rattle.game_rules.specs.declared.RuleKind.{RuleKind}
 use Rattle.game_rules.proofs.Games.{WinsByFours-WinsByThreats}
 use Rattle.strategy_graph.specs.declared.Node.{Node}
+use Rattle.strategy_graph.specs.declared.TheConstants.{MAX_NODES}
 use Rattle.strategy_compiler.specs.declared.error.SearchError.{SearchError}
+use Rattle.strategy_compiler.specs.declared.error.SearchError.TheVariants.{Full}
 use Rattle.strategy_compiler.proofs.Common.{Writes}
 use Rattle.strategy_graph.proofs.Soundness.{accepted-wins}
 use Rattle.strategy_compiler.specs.declared.wins.WrittenWin.{WrittenWin}
@@ -25,7 +27,8 @@ use Rattle.proof_number.proofs.Steps.{most-same}
 use Rattle.proof_number.proofs.StepLaws.{writes-on}
 use Rattle.proof_number.proofs.Common.{CanBegin, IsNew, IsSameAim, most_nodes, room_in}
 use Rattle.threat_game.proofs.TreeLaws.{tree-positive}
-use Rattle.proof_number.proofs.Common.{HasDenial, HasNoThreatWin, no_note, note_at, noted_win, win_of, GameTree, TellsTruly, WinsAt}
+use Rattle.proof_number.proofs.Common.{HasDenial, HasNoRoom, HasNoThreatWin, HasRunOut, IsSearchTree, no_note, note_at, noted_win, win_of}
+use Rattle.proof_number.proofs.Common.{GameTree, TellsTruly, WinsAt}
 use Rattle.proof_number.proofs.Common.{board_at, left_at}
 use Rattle.proof_number.proofs.Common.{IsNotedWin, IsSearching, Searches, closed_nodes, game_of, is_open_leaf, sum_below}
 use Rattle.threat_game.proofs.Common.{IsThreatWin, threat_tree}
@@ -236,11 +239,11 @@ can-begin new some_depth depth_fits some_budget budget_fits one unsettled before
 
 module _ {rule : RuleKind} {depth budget before : ℕ} {a b : Grid} {s : Search} {t u : Tree} {c d : List Node}
     {r : Result ProofAnswer SearchError} (new : IsNew depth budget before a s) (board : a ≡ b) (told : IsTold rule s t u c d r) where
-  told-true : IfOk r (IsTrueAnswer rule depth budget b d)
+  told-true : IfOk r (IsTrueAnswer rule depth budget b d u)
   told-true =
-      subst (λ (n : ℕ). IfOk r (IsTrueAnswer rule n budget b d)) new.depth_is
-      (subst (λ (k : ℕ). IfOk r (IsTrueAnswer rule s.depth k b d)) new.budget_is
-      (subst (λ (g : Grid). IfOk r (IsTrueAnswer rule s.depth s.budget g d)) (new.root_is ∙ board) told.true_answer))
+      subst (λ (n : ℕ). IfOk r (IsTrueAnswer rule n budget b d u)) new.depth_is
+      (subst (λ (k : ℕ). IfOk r (IsTrueAnswer rule s.depth k b d u)) new.budget_is
+      (subst (λ (g : Grid). IfOk r (IsTrueAnswer rule s.depth s.budget g d u)) (new.root_is ∙ board) told.true_answer))
 
   pub told-leaves : Leaves (min budget (threat_tree rule depth b)) t u c d r
   told-leaves =
@@ -250,7 +253,7 @@ module _ {rule : RuleKind} {depth budget before : ℕ} {a b : Grid} {s : Search}
 
   pub tells-win : IfOk r (λ x. OnWin x (IsThreatWin rule depth b d))
   tells-win = by_answer r told-true where
-    by_answer : (q : Result ProofAnswer SearchError) → IfOk q (IsTrueAnswer rule depth budget b d)
+    by_answer : (q : Result ProofAnswer SearchError) → IfOk q (IsTrueAnswer rule depth budget b d u)
         → IfOk q (λ x. OnWin x (IsThreatWin rule depth b d))
     by_answer (Err e) h = tt
     by_answer (Ok (Win w)) h = h
@@ -259,7 +262,7 @@ module _ {rule : RuleKind} {depth budget before : ℕ} {a b : Grid} {s : Search}
 
   pub tells-none : IfOk r (λ x. x ≡ NoWin → HasNoThreatWin rule depth b)
   tells-none = by_answer r told-true where
-    by_answer : (q : Result ProofAnswer SearchError) → IfOk q (IsTrueAnswer rule depth budget b d)
+    by_answer : (q : Result ProofAnswer SearchError) → IfOk q (IsTrueAnswer rule depth budget b d u)
         → IfOk q (λ x. x ≡ NoWin → HasNoThreatWin rule depth b)
     by_answer (Err e) h = tt
     by_answer (Ok (Win w)) h = λ is. cc
@@ -268,7 +271,7 @@ module _ {rule : RuleKind} {depth budget before : ℕ} {a b : Grid} {s : Search}
 
   pub tells-denial : IfOk r (λ x. x ≡ NoWin → HasDenial rule depth b (min budget (threat_tree rule depth b)))
   tells-denial = by_answer r told-true where
-    by_answer : (q : Result ProofAnswer SearchError) → IfOk q (IsTrueAnswer rule depth budget b d)
+    by_answer : (q : Result ProofAnswer SearchError) → IfOk q (IsTrueAnswer rule depth budget b d u)
         → IfOk q (λ x. x ≡ NoWin → HasDenial rule depth b (min budget (threat_tree rule depth b)))
     by_answer (Err e) h = tt
     by_answer (Ok (Win w)) h = λ is. cc
@@ -277,9 +280,34 @@ module _ {rule : RuleKind} {depth budget before : ℕ} {a b : Grid} {s : Search}
 
   pub tells-spent : IfOk r (λ x. x ≡ Spent → budget < threat_tree rule depth b)
   tells-spent = by_answer r told-true where
-    by_answer : (q : Result ProofAnswer SearchError) → IfOk q (IsTrueAnswer rule depth budget b d)
+    by_answer : (q : Result ProofAnswer SearchError) → IfOk q (IsTrueAnswer rule depth budget b d u)
         → IfOk q (λ x. x ≡ Spent → budget < threat_tree rule depth b)
     by_answer (Err e) h = tt
     by_answer (Ok (Win w)) h = λ is. cc
     by_answer (Ok NoWin) h = λ is. cc
-    by_answer (Ok Spent) h = λ is. h
+    by_answer (Ok Spent) h = λ is. h.0
+
+  pub tells-out : IfOk r (λ x. x ≡ Spent → HasRunOut rule depth budget b u)
+  tells-out = by_answer r told-true where
+    by_answer : (q : Result ProofAnswer SearchError) → IfOk q (IsTrueAnswer rule depth budget b d u)
+        → IfOk q (λ x. x ≡ Spent → HasRunOut rule depth budget b u)
+    by_answer (Err e) h = tt
+    by_answer (Ok (Win w)) h = λ is. cc
+    by_answer (Ok NoWin) h = λ is. cc
+    by_answer (Ok Spent) h = λ is. h.1
+
+  pub told-searched : OnOk r (IsSearchTree rule depth budget b u)
+  told-searched =
+      subst (λ (n : ℕ). OnOk r (IsSearchTree rule n budget b u)) new.depth_is
+      (subst (λ (k : ℕ). OnOk r (IsSearchTree rule s.depth k b u)) new.budget_is
+      (subst (λ (g : Grid). OnOk r (IsSearchTree rule s.depth s.budget g u)) (new.root_is ∙ board) told.searched))
+
+  pub told-room : r ≡ Err Full → (MAX_NODES ≤ length c) ⊎ HasNoRoom rule depth budget b u before
+  told-room full = elim (told.no_room full) [
+    | inl many ↦ inl many
+    | inr none ↦ inr (
+        subst (λ (k : ℕ). HasNoRoom rule depth budget b u k) new.before_is
+        (subst (λ (n : ℕ). HasNoRoom rule n budget b u s.before) new.depth_is
+        (subst (λ (k : ℕ). HasNoRoom rule s.depth k b u s.before) new.budget_is
+        (subst (λ (g : Grid). HasNoRoom rule s.depth s.budget g u s.before) (new.root_is ∙ board) none))))
+  ]

@@ -1,5 +1,5 @@
 -- A step of the search from the root to a leaf and back, of its parts.
-use Rattle.std.proofs.Common.{◌≡◌, ◌∙◌, ℕ, ◌+◌, ◌<◌, ◌≤◌, false, sym, ap, subst, arith, length, List, Ok, Err, OnOk, Result}
+use Rattle.std.proofs.Common.{◌≡◌, ◌∙◌, ℕ, ◌+◌, ◌<◌, ◌≤◌, false, refl, sym, ap, subst, arith, length, List, Ok, Err, OnOk, Result}
 use Rattle.std.proofs.lemmas.List.{get_or-map, length-append, length-map}
 use Rattle.game_rules.specs.Grid.{Grid}
 use Rattle.game_rules.specs.declared.RuleKind.{RuleKind}
@@ -19,7 +19,9 @@ use Rattle.proof_number.proofs.Opening.{grown-facts, searching-facts}
 use Rattle.proof_number.proofs.Common.{no_note, GameTree, IsGameTree, board_at, left_at, Grows, HasGrown, HasSpent, HasStayed, IsSameAim}
 use Rattle.proof_number.proofs.Common.{HasStepped, IsAbove, IsBack, IsPassed, KeepsTree, IsOverBudget, IsSearching, IsStep, IsTried, OnStep}
 use Rattle.proof_number.proofs.Common.{Searches, StandsAt, game_of}
-use Rattle.proof_number.proofs.Common.{most_nodes, room_in}
+use Rattle.proof_number.proofs.Common.{HasNoRoom, most_nodes, room_in}
+use Rattle.proof_number.proofs.RunningOut.{answer-room, back-out, out-aim, room-aim, same-error}
+use Rattle.strategy_compiler.specs.declared.error.SearchError.TheVariants.{Full}
 use Rattle.std.proofs.lemmas.Result.{on_ok_weaker}
 use Rattle.proof_number.proofs.Recording.{board-searches, root-searches}
 use Rattle.proof_number.proofs.Steps.{most-same}
@@ -184,6 +186,7 @@ module _ {rule : RuleKind} {s v : Search} {t u : Tree} {d : List Node} {leaf : �
         tree = grown.searching.tree;
         longer = grown.longer;
         writes = writes-tells c e _ _ y Done (back-writes back) (omega arith);
+        no_room = answer-room Done;
       }
 
       pub back-fails : {r : Result Step SearchError} (error : SearchError) → IsBack rule v w u d e (Err error) → r ≡ Err error
@@ -197,6 +200,7 @@ module _ {rule : RuleKind} {s v : Search} {t u : Tree} {d : List Node} {leaf : �
         tree = grown.searching.tree;
         longer = grown.longer;
         writes = writes-fails {A = Unit {0}} c e _ _ error r (back-writes back) (omega arith) is;
+        no_room = λ full. room-aim grown-aim (back-out grown.searching back.writes (same-error (Err error) refl is full));
       }
 
 -- ---- the tree is as it was
@@ -205,14 +209,16 @@ module _ {rule : RuleKind} {s : Search} {t : Tree} {c : List Node} (searching : 
   pub stayed-step : {moved v w : Search} {u : Tree} {d : List Node} {r : Result Step SearchError}
       → moved ≡ record s { board = moved.board } → HasStayed moved v t u → w ≡ record v { board = w.board } → w.board ≡ v.root
       → OnStep r (HasStepped rule w t u d) (IsOverBudget rule s t u) (Unit {0}) → Writes c d (room_in (most_nodes rule moved) c) r
-      → IsStep rule s w t u c d r
-  stayed-step {moved = moved} {v = v} {w = w} {u = u} {d = d} {r = r} rest stays back board came writes = record {
+      → (r ≡ Err Full → HasNoRoom rule moved.depth moved.budget moved.root t moved.before) → IsStep rule s w t u c d r
+  stayed-step {moved = moved} {v = v} {w = w} {u = u} {d = d} {r = r} rest stays back board came writes no_room = record {
     came = came;
     aim = stayed-aim rule s moved v t u rest stays w back;
     board = board ∙ stayed-root rule s moved v t u rest stays;
     tree = stayed-tree rule s moved v t u rest stays (searched-tree searching);
     longer = subst (λ (x : Tree). length t.links ≤ length x.links) (sym stays.same) (omega arith);
     writes = subst (λ (k : ℕ). Writes c d (room_in k c) r) (most-same rule (moved-aim s moved rest)) writes;
+    no_room = λ full. subst (λ (x : Tree). HasNoRoom rule s.depth s.budget s.root x s.before) (sym stays.same)
+        (room-aim (moved-aim s moved rest) (no_room full));
   }
 
   pub spent-step : {moved v w : Search} {u : Tree} {d : List Node} {leaf : ℕ} {x : Step} → moved ≡ record s { board = moved.board }
@@ -224,7 +230,8 @@ module _ {rule : RuleKind} {s : Search} {t : Tree} {c : List Node} (searching : 
       (record {
         same = spent.same;
         spent = subst (λ (y : Search). y.budget < threat_tree rule y.depth y.root) rest spent.spent;
-      }) (subst (λ (y : Step). Writes c d (room_in (most_nodes rule moved) c) (Ok y)) is tried.writes)
+        ran_out = out-aim (moved-aim s moved rest) spent.ran_out;
+      }) (subst (λ (y : Step). Writes c d (room_in (most_nodes rule moved) c) (Ok y)) is tried.writes) (answer-room Spent)
 
 -- ---- the way back
 

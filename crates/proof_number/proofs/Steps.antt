@@ -24,6 +24,9 @@ use Rattle.threat_game.proofs.TreeLaws.{tree-positive, one_where, counted-within
 use Rattle.threat_game.proofs.Common.{threat_tree, IsThreatWin, IsDoubleWin, answer_nodes}
 use Rattle.proof_number.specs.declared.search.Step.{Step}
 use Rattle.proof_number.specs.declared.search.Step.TheVariants.{Done, Spent}
+use Rattle.proof_number.proofs.RunningOut.{attacks-out, room-aim, room-out, same-error}
+use Rattle.proof_number.proofs.Common.{AddsAttacks, HasNoRoom}
+use Rattle.strategy_compiler.specs.declared.error.SearchError.TheVariants.{Full}
 use Rattle.proof_number.specs.declared.notes.Note.{Note}
 use Rattle.proof_number.specs.declared.notes.Settled.{Settled}
 use Rattle.proof_number.specs.declared.notes.Settled.TheVariants.{Lost}
@@ -258,7 +261,7 @@ module _ (rule : RuleKind) (s mid v : Search) (t u : Tree) (d : List Node) (leaf
   step-from (Ok Done) h = known_grown (grown-from (subst (λ (w : Search). HasGrown rule w v t u d leaf) first (grown-facts h)))
   step-from (Ok Spent) h =
       let k : HasSpent rule (record s { settled = mid.settled }) v t u = subst (λ (w : Search). HasSpent rule w v t u) first h in
-      record { spent = k.spent; same = k.same; keeps = keeps-from k.keeps }
+      record { spent = k.spent; ran_out = k.ran_out; same = k.same; keeps = keeps-from k.keeps }
   step-from (Err e) h =
       let k : HasStayed (record s { settled = mid.settled }) v t u = subst (λ (w : Search). HasStayed w v t u) first h in
       record { same = k.same; keeps = keeps-from k.keeps }
@@ -268,6 +271,7 @@ pub tried-from : {rule : RuleKind} {s mid v : Search} {t u : Tree} {c d : List N
 tried-from {rule = rule} {s = s} {mid = mid} {v = v} {t = t} {u = u} {c = c} {d = d} {leaf = leaf} {r = r} first h = record {
   step = step-from rule s mid v t u d leaf first r h.step;
   writes = subst (λ (w : ℕ). Writes c d (room_in w c) r) (most-same rule aim) h.writes;
+  no_room = λ full. room-aim aim (h.no_room full);
 } where
   aim : IsSameAim s mid
   aim = record {
@@ -335,9 +339,24 @@ module _ {rule : RuleKind} {s : Search} {t : Tree} {c : List Node} {leaf : ℕ} 
         (attack-moves stands attack)
 
     -- where the budget does not reach, the game has more positions
-    pub spent-there : (added : ℕ) → s.budget < s.attacked + added → 1 + added ≤ threat_tree rule (note_at s.notes.items leaf).left view
-        → HasSpent rule s s t t
-    spent-there added over few = record { spent = (let a = behind-fits in omega (arith, a, over, few)); same = refl; keeps = keeps-all s }
+    pub spent-there : (added : ℕ) → AddsAttacks rule added Attack (note_at s.notes.items leaf).left view → s.budget < s.attacked + added
+        → 1 + added ≤ threat_tree rule (note_at s.notes.items leaf).left view → HasSpent rule s s t t
+    spent-there added adds over few = record {
+      spent = (let a = behind-fits in omega (arith, a, over, few));
+      ran_out = attacks-out stands Attack attack added adds over;
+      same = refl;
+      keeps = keeps-all s;
+    }
+
+    -- where the nodes of a win don't fit there is no room
+    pub win-no_room : {A B : Type 0} {d : List Node} {e : SearchError} {r : Result B SearchError} (added : ℕ)
+        → AddsAttacks rule added Attack (note_at s.notes.items leaf).left view → (nodes : ℕ) → nodes ≡ 1 + added
+        → Writes {A = A} c d nodes (Err e) → r ≡ Err e → r ≡ Err Full → HasNoRoom rule s.depth s.budget s.root t s.before
+    win-no_room {e = e} added adds nodes are writes is full =
+        let same = same-error (Err e) refl is full in
+        let over = writes.full same in
+        let fits = node-fits in
+        room-out stands Attack attack added adds (omega (arith, over, fits, are))
 
     -- there is room for a win, where so many more positions are counted for it
     room-there : (added : ℕ) → s.attacked + added ≤ s.budget → 1 + added ≤ threat_tree rule (note_at s.notes.items leaf).left view

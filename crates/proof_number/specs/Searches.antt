@@ -1,9 +1,9 @@
 -- What holds of a search between its steps: its tree stands for the game, won positions are written, and positions are counted.
-use Rattle.std.specs.Prelude.{◌≡◌, Result, Ok, Err, OnOk, slice_set, min, ℕ, zero, suc, ◌+◌, ◌-◌, ◌<◌, ◌≤◌, Bool, true, false, ◌&&◌, not}
+use Rattle.std.specs.Prelude.{◌≡◌, Result, Ok, Err, OnOk, IsErrOf, slice_set, min, ℕ, ◌+◌, ◌-◌, ◌<◌, ◌≤◌, Bool, true, false, ◌&&◌}
 use Rattle.std.specs.Prelude.{nat_eq}
 use Rattle.std.specs.Prelude.{if◌then◌else◌, List, [], ◌++◌, length}
 use Rattle.game_rules.specs.Grid.{Grid}
-use Rattle.game_rules.specs.Games.{WinsByThreats, behind_replies}
+use Rattle.game_rules.specs.Games.{WinsByThreats}
 use Rattle.game_rules.specs.Play.{after, outcome}
 use Rattle.game_rules.specs.declared.Outcome.TheVariants.{GoesOn}
 use Rattle.game_rules.specs.declared.Point.{Point}
@@ -24,11 +24,13 @@ use Rattle.proof_number.specs.declared.search.Search.{Search}
 use Rattle.proof_number.specs.declared.search.Step.{Step}
 use Rattle.proof_number.specs.declared.search.Step.TheVariants.{Done, Spent}
 use Rattle.strategy_compiler.specs.declared.error.SearchError.{SearchError}
+use Rattle.strategy_compiler.specs.declared.error.SearchError.TheVariants.{Full}
 use Rattle.strategy_compiler.specs.declared.wins.WrittenWin.{WrittenWin}
 use Rattle.threat_game.specs.ThreatGame.{threat_tree}
 use Rattle.proof_number.specs.Notes.{note_at, win_of}
 use Rattle.proof_number.specs.GameTrees.{GameTree, IsGameTree, among, board_at, left_at, moves_of, noted_tree}
 use Rattle.proof_number.specs.Remembered.{IsTrueMemo}
+use Rattle.proof_number.specs.SearchTrees.{HasNoRoom, HasRunOut, IsCounted, is_attack, is_open_leaf, sum_below}
 
 -- the tree of the search as a tree of the game
 abbrev pub game_of : RuleKind → Search → Tree → GameTree
@@ -68,57 +70,9 @@ pub record AreWritten (g : GameTree) (notes : List Note) (c : List Node) (way : 
       → (q : Point) → outcome g.rule (board_at g i) q ≡ GoesOn → among (moves_of (link_at g.tree.links i) g.moves) q ≡ false
       → IsMet g notes c i q
 
--- the sum of f at the first n numbers
-unfoldable pub sum_below : ℕ → (ℕ → ℕ) → ℕ
-sum_below zero f = 0
-sum_below (suc n) f = sum_below n f + f n
-
--- whether node i is a leaf that is not settled
-abbrev pub is_open_leaf : Tree → ℕ → Bool
-is_open_leaf t i = nat_eq (link_at t.links i).count 0 && not (is_settled (numbers_at t.numbers i))
-
--- whether the kind is that of the attacker
-abbrev pub is_attack : Kind → Bool
-is_attack Attack = true
-is_attack Defend = false
-
--- how many of the nodes are the attacker's
-abbrev pub attack_nodes : List Link → ℕ
-attack_nodes links = sum_below (length links) (λ i. if is_attack (link_at links i).kind then 1 else 0)
-
 -- how many nodes are none of the open leaves
 abbrev pub closed_nodes : Tree → ℕ
 closed_nodes t = sum_below (length t.links) (λ i. if is_open_leaf t i then 0 else 1)
-
--- how many positions of the attacker may be counted behind an open leaf
-abbrev pub attacks_behind : Kind → RuleKind → ℕ → Grid → ℕ
-attacks_behind Attack rule n b = threat_tree rule n b - 1
-attacks_behind Defend rule n b = behind_replies rule (threat_tree rule n) b
-
--- how many positions of the defender may be counted behind an open leaf
-abbrev pub defences_behind : Kind → RuleKind → ℕ → Grid → ℕ
-defences_behind Attack rule n b = threat_tree rule n b - 1
-defences_behind Defend rule n b = behind_replies rule (threat_tree rule n) b - 1
-
--- what is counted behind node i, if it is an open leaf
-abbrev pub behind_at : (Kind → RuleKind → ℕ → Grid → ℕ) → GameTree → ℕ → ℕ
-behind_at count g i = if is_open_leaf g.tree i then count (link_at g.tree.links i).kind g.rule (left_at g.left i) (board_at g i) else 0
-
--- what is counted behind all open leaves
-abbrev pub behind_leaves : (Kind → RuleKind → ℕ → Grid → ℕ) → GameTree → ℕ
-behind_leaves count g = sum_below (length g.tree.links) (behind_at count g)
-
--- So many positions of each side are counted: no more than the budget, and with those behind the open leaves no more than the game
--- of threats has from the root. Each node counts as one, and the attacker's as its own. Once the root has
--- children the numbers of all leaves add up to no more than there are nodes.
-pub record IsCounted (g : GameTree) (budget attacked defended : ℕ) : Type 0 where
-  pub attacks : attacked + behind_leaves attacks_behind g ≤ threat_tree g.rule (left_at g.left 0) g.start
-  pub defences : defended + behind_leaves defences_behind g ≤ threat_tree g.rule (left_at g.left 0) g.start
-  pub nodes : length g.tree.links ≤ attacked + defended
-  pub attackers : attack_nodes g.tree.links ≤ attacked
-  pub attacked_fits : attacked ≤ budget
-  pub defended_fits : defended ≤ budget
-  pub leaves : (kind : Kind) → 1 < length g.tree.links → leaf_sum kind g.tree.links g.tree.numbers ≤ length g.tree.links
 
 -- 1 for a node of the attacker whose note tells no win
 abbrev pub unwritten : Tree → List Note → ℕ → ℕ
@@ -182,9 +136,10 @@ pub record HasGrown (rule : RuleKind) (old new : Search) (t u : Tree) (d : List 
 pub data Grows (rule : RuleKind) (old new : Search) (t u : Tree) (d : List Node) (leaf : ℕ) : Type 0 where
   known_grown : HasGrown rule old new t u d leaf → Grows rule old new t u d leaf
 
--- the budget is less than the game of threats has positions, and the tree is as it was
+-- the budget is less than the game of threats has positions, the search has run out, and the tree is as it was
 pub record HasSpent (rule : RuleKind) (old new : Search) (t u : Tree) : Type 0 where
   pub spent : old.budget < threat_tree rule old.depth old.root
+  pub ran_out : HasRunOut rule old.depth old.budget old.root t
   pub same : u ≡ t
   pub keeps : KeepsTree old new
 
@@ -207,21 +162,23 @@ room_in most c = most - length c
 unfoldable pub most_nodes : RuleKind → Search → ℕ
 most_nodes rule s = s.before + min s.budget (threat_tree rule s.depth s.root)
 
--- what comes of a leaf that is to be settled or to get children, and what is written for it
+-- what comes of a leaf that is to be settled or to get children, and what is written for it; it is `Full` only where there is no room
 pub record IsTried (rule : RuleKind) (old new : Search) (t u : Tree) (c d : List Node) (leaf : ℕ) (result : Result Step SearchError) :
     Type 0 where
   pub step : OnStep result (Grows rule old new t u d leaf) (HasSpent rule old new t u) (HasStayed old new t u)
   pub writes : Writes c d (room_in (most_nodes rule old) c) result
+  pub no_room : IsErrOf result Full → HasNoRoom rule old.depth old.budget old.root t old.before
 
 -- a step was done: all holds again, and one open leaf fewer is left to be closed
 pub record HasStepped (rule : RuleKind) (new : Search) (t u : Tree) (d : List Node) : Type 0 where
   pub searching : Searches rule new u d (λ i. ⊥)
   pub progress : closed_nodes t < closed_nodes u
 
--- the budget is spent, and the tree is as it was
+-- the budget is spent, the search has run out, and the tree is as it was
 pub record IsOverBudget (rule : RuleKind) (s : Search) (t u : Tree) : Type 0 where
   pub same : u ≡ t
   pub spent : s.budget < threat_tree rule s.depth s.root
+  pub ran_out : HasRunOut rule s.depth s.budget s.root t
 
 -- what a step from the root to a leaf and back comes to, and what it leaves
 pub record IsStep (rule : RuleKind) (old new : Search) (t u : Tree) (c d : List Node) (result : Result Step SearchError) : Type 0 where
@@ -231,6 +188,7 @@ pub record IsStep (rule : RuleKind) (old new : Search) (t u : Tree) (c d : List 
   pub tree : IsTree u
   pub longer : length t.links ≤ length u.links
   pub writes : Writes c d (room_in (most_nodes rule old) c) result
+  pub no_room : IsErrOf result Full → HasNoRoom rule old.depth old.budget old.root u old.before
 
 -- A node is passed on the way back from a leaf: it has its win, if it is a proved node of the attacker. No more nodes are written than
 -- positions are counted.

@@ -5,13 +5,15 @@
 //! win is compiled already.
 #![tactic(auto)]
 
-ghost use Rattle.std.specs.Prelude.{◌≡◌, ◌≤◌, ◌<◌, false, length, min, IfOk};
+ghost use Rattle.std.specs.Prelude.{◌≡◌, ◌⊎◌, ◌≤◌, ◌<◌, false, length, min, IfOk, IsErrOf, OnOk};
+ghost use Rattle.strategy_graph.specs.declared.TheConstants.{MAX_NODES};
 ghost use Rattle.proof_tree.specs.Combining.{is_settled};
 ghost use Rattle.proof_tree.specs.Trees.{numbers_at};
 ghost use Rattle.proof_number.specs.declared.TheConstants.{MAX_DEPTH, MAX_BUDGET};
 ghost use Rattle.threat_game.specs.ThreatGame.{threat_tree};
 ghost use Rattle.proof_number.specs.Answers.{OnWin, HasNoThreatWin, RootSays, Leaves};
 ghost use Rattle.proof_number.specs.Denials.{HasDenial};
+ghost use Rattle.proof_number.specs.SearchTrees.{HasNoRoom, HasRunOut, IsSearchTree};
 ghost use Rattle.proof_number.specs.Searches.{CanBegin};
 ghost use Rattle.proof_number.specs.Told.{IsTold};
 ghost use Rattle.threat_game.specs.Wins.{IsThreatWin};
@@ -44,12 +46,15 @@ pub enum ProofAnswer {
 /// - `None` comes only where there is none within `depth` moves, and so none by continuous fours. The root is disproved. A denial shows
 ///   it, of no more positions of the attacker than may be counted, the lesser of the budget and those of the game of threats. One
 ///   with two moves left at most need not be among them.
-/// - `Spent` comes only where the game of threats has more positions within `depth` moves than the budget. The root is not
-///   settled.
+/// - `Spent` comes only where the game of threats has more positions within `depth` moves than the budget, and the search has run out:
+///   the root is not settled, and to go on at the most-proving leaf would count more positions of one side than the budget.
+///
+/// With each answer the tree is one of the game, and lists what was counted, for neither side more than the budget.
 ///
 /// No more nodes are added to the compiler than positions may be counted, the lesser of the budget and those of the game of threats,
 /// those before a refusal too; with an answer the tree has at most twice as many. `Full` comes only where the compiler has no room for
-/// as many; `Memory` where there is no memory. After each answer and refusal the view is as before, and the compiler's earlier nodes
+/// as many, and more positions of the attacker are counted than it had room for, unless it was full before; `Memory` where there is no
+/// memory. After each answer and refusal the view is as before, and the compiler's earlier nodes
 /// stay; the tree keeps the nodes that were made.
 pub fn proof_number<R: Rule, V: Seen<R>>(
     alloc: Global,
@@ -71,6 +76,12 @@ pub fn proof_number<R: Rule, V: Seen<R>>(
         → HasDenial R.KIND depth (V.position view.old) (min budget (threat_tree R.KIND depth (V.position view.old)))) }
     ensures spent { IfOk result (λ a. a ≡ ProofAnswer.Spent → budget < threat_tree R.KIND depth (V.position view.old)) }
     ensures root { IfOk result (λ a. RootSays a (numbers_at tree.new.numbers 0)) }
+
+    // The tree lists what was counted, when the search has run out, and when there is no room for its wins.
+    ensures searched { OnOk result (IsSearchTree R.KIND depth budget (V.position view.old) tree.new) }
+    ensures ran_out { IfOk result (λ a. a ≡ ProofAnswer.Spent → HasRunOut R.KIND depth budget (V.position view.old) tree.new) }
+    ensures no_room { IsErrOf result SearchError.Full → (MAX_NODES ≤ length compiler.old)
+        ⊎ HasNoRoom R.KIND depth budget (V.position view.old) tree.new (length compiler.old) }
 
     // What every answer and refusal leaves, and when the compiler is full.
     ensures leaves { Leaves (min budget (threat_tree R.KIND depth (V.position view.old)))

@@ -1,4 +1,4 @@
-use Rattle.std.proofs.Common.{rules, ◌≡◌, ◌∙◌, ◌*◌, ◌≤◌, ℕ, sym, ap, subst, arith, length, min}
+use Rattle.std.proofs.Common.{rules, ◌≡◌, ◌∙◌, inl, inr, ◌*◌, ◌≤◌, ℕ, refl, sym, ap, subst, arith, length, min}
 use Rattle.proof_tree.specs.Combining.{is_settled}
 use Rattle.proof_tree.specs.Trees.{Tree, numbers_at}
 use Rattle.strategy_compiler.proofs.Growing.{writes-fails, writes-tells}
@@ -7,6 +7,9 @@ use Rattle.proof_number.specs.Searches.{HasStepped, IsOverBudget}
 use Rattle.proof_number.proofs.Ending.{begun-room, closed-few, leaves-told, root-noted, steps-write, told-denial, told-lost, told-none}
 use Rattle.proof_number.proofs.Ending.{told-proved, told-tree, told-win}
 use Rattle.proof_number.proofs.StepLaws.{on-done, on-spent, searched-tree}
+use Rattle.proof_number.proofs.Opening.{searching-facts}
+use Rattle.proof_number.proofs.RunningOut.{answer-room, begun-full, out-aim, room-aim, same-error, so-far-tree, tree-aim}
+use Rattle.proof_number.proofs.Common.{HasRunOut, IsSearchTree}
 use Rattle.proof_number.proofs.search.Search.run.Goals as goal
 
 pub returns-in_err-begin-clause-told : goal.returns-in_err-begin-clause-told
@@ -20,6 +23,8 @@ returns-in_err-begin-clause-told g c =
       leaves = leaves-told g.R.Rule.KIND c.args.self.now c.requires.begins.new.before_is begun.tree (omega (arith, one, still))
           (search rules)
           (writes-fails _ _ 1 _ _ _ begun.writes (begun-room g.R.Rule.KIND c.requires.begins) (search rules));
+      searched = search rules;
+      no_room = λ full. inl (begun-full begun.writes (search rules) full);
     }
 
 pub loop-self-init : goal.loop-self-init
@@ -90,6 +95,8 @@ returns-in_err-step-clause-told g c =
       leaves = leaves-told g.R.Rule.KIND c.args.self.now c.requires.begins.new.before_is step.tree (omega (arith, longer, before))
           (search rules)
           (writes-fails _ _ _ _ _ _ (steps-write g.R.Rule.KIND inv.aim inv.writes step.writes) (omega arith) (search rules));
+      searched = search rules;
+      no_room = λ full. inr (room-aim inv.aim (step.no_room (same-error _ refl (search rules) full)));
     }
 
 pub returns-in_err-step-clause-same : goal.returns-in_err-step-clause-same
@@ -110,13 +117,19 @@ returns-in-Spent-clause-told g c =
     let budget = inv.aim.budget in
     let spent = came.spent in
     record {
-      true_answer = omega (arith, spent, positions, budget);
+      true_answer = (
+        omega (arith, spent, positions, budget),
+        subst (λ (t : Tree). HasRunOut rule s.depth s.budget s.root t) (sym came.same) (out-aim inv.aim came.ran_out),
+      );
       root = ap (λ (t : Tree). is_settled (numbers_at t.numbers 0)) came.same ∙ ap is_settled (sym c.numbers.ensures.numbers)
           ∙ sym c.is_settled.ensures.settled ∙ c.loop-self-test.true;
       leaves = leaves-told g.R.Rule.KIND c.args.self.now c.requires.begins.new.before_is step.tree (omega (arith, longer, before))
           (subst (λ (t : Tree). length t.links ≤ 2 * min s.budget (threat_tree rule s.depth s.root)) (sym came.same)
           (told-tree inv.searching s.depth s.budget s.root inv.aim.depth inv.aim.budget inv.aim.root))
           (writes-tells _ _ _ _ c.in_ok-step.field-0 _ (steps-write rule inv.aim inv.writes step.writes) (omega arith));
+      searched = subst (λ (t : Tree). IsSearchTree rule s.depth s.budget s.root t) (sym came.same)
+          (tree-aim inv.aim (so-far-tree (searching-facts inv.searching)));
+      no_room = answer-room _;
     }
 
 pub returns-in-Spent-clause-same : goal.returns-in-Spent-clause-same
@@ -140,6 +153,8 @@ returns-in-Some-clause-told g c =
       leaves = leaves-told g.R.Rule.KIND c.args.self.now c.requires.begins.new.before_is (searched-tree inv.searching) inv.longer
           (told-tree inv.searching s.depth s.budget s.root inv.aim.depth inv.aim.budget inv.aim.root)
           (writes-tells _ _ _ _ tt _ inv.writes (omega arith));
+      searched = tree-aim inv.aim (so-far-tree (searching-facts inv.searching));
+      no_room = answer-room _;
     }
 
 pub returns-in-None-clause-told : goal.returns-in-None-clause-told
@@ -158,4 +173,6 @@ returns-in-None-clause-told g c =
       leaves = leaves-told g.R.Rule.KIND c.args.self.now c.requires.begins.new.before_is (searched-tree inv.searching) inv.longer
           (told-tree inv.searching s.depth s.budget s.root inv.aim.depth inv.aim.budget inv.aim.root)
           (writes-tells _ _ _ _ tt _ inv.writes (omega arith));
+      searched = tree-aim inv.aim (so-far-tree (searching-facts inv.searching));
+      no_room = answer-room _;
     }

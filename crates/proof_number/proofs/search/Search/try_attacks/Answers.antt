@@ -3,6 +3,7 @@ use Rattle.game_rules.specs.Grid.{Grid}
 use Rattle.threat_game.specs.declared.attacks.Attacks.TheVariants.{NoReply, Moves}
 use Rattle.threat_game.specs.Attacks.{AreAttacks, OthersFail, is_last_move, tried_moves}
 use Rattle.proof_number.proofs.Steps.{attack-no_five, board-stands, leaf-board, tried-on-board, writes-no_memory}
+use Rattle.proof_number.proofs.RunningOut.{memory-room}
 use Rattle.proof_number.proofs.search.Search.try_attacks.Goals as goal
 
 pub find_attacks-requires-clause-none : goal.find_attacks-requires-clause-none
@@ -42,7 +43,11 @@ expand_attack-requires-clause-others g c =
     subst (OthersFail g.R.Rule.KIND) (sym board) all.1
 
 pub returns-in_err-double-clause-tried : goal.returns-in_err-double-clause-tried
-returns-in_err-double-clause-tried g c = record { step = search rules; writes = writes-no_memory (search rules) }
+returns-in_err-double-clause-tried g c = record {
+  step = search rules;
+  writes = writes-no_memory (search rules);
+  no_room = memory-room (search rules);
+}
 
 pub returns-in-DoublePoint-clause-tried : goal.returns-in-DoublePoint-clause-tried
 returns-in-DoublePoint-clause-tried g c = tried-on-board c.find_attacks.ensures.same_board c.win_double.ensures.tried

@@ -1,7 +1,8 @@
-use Rattle.std.proofs.Common.{rules, ◌≡◌, ◌∙◌, ◌+◌, ℕ, ap, arith}
+use Rattle.std.proofs.Common.{rules, ◌≡◌, ◌∙◌, ◌+◌, ℕ, inl, refl, ap, arith}
 use Rattle.proof_number.specs.Notes.{note_at}
 use Rattle.proof_number.proofs.Steps.{attack-moves, leaf-budget, leaf-is, leaf-lawful, leaf-noted, root-open, counted-step, last-room}
-use Rattle.proof_number.proofs.Steps.{win-few}
+use Rattle.proof_number.proofs.Steps.{win-few, win-no_room}
+use Rattle.proof_number.proofs.RunningOut.{answer-room}
 use Rattle.threat_game.proofs.TreeLaws.{tree-positive}
 use Rattle.strategy_compiler.proofs.Growing.{writes-fails, writes-tells}
 use Rattle.proof_number.proofs.search.Search.win_last.Goals as goal
@@ -11,6 +12,7 @@ returns-in_err-win g c = record {
   tried = record {
     step = search rules;
     writes = writes-fails _ _ 1 _ _ _ c.in_err-win.ensures.writes (last-room c.requires.at_leaf c.requires.attack) (search rules);
+    no_room = win-no_room c.requires.at_leaf c.requires.attack 0 (inl refl) 1 refl c.in_err-win.ensures.writes (search rules);
   };
 }
 
@@ -47,5 +49,6 @@ returns g c =
             (c.in_ok-win.ensures.win g.R.Rule.KIND c.args.self.now.board (note_at c.args.self.now.notes.items c.args.leaf).left
             (leaf-lawful c.requires.at_leaf) c.requires.last (omega (arith, two)));
         writes = writes-tells _ _ 1 _ c.in_ok-win.win _ c.in_ok-win.ensures.writes (last-room c.requires.at_leaf c.requires.attack);
+        no_room = answer-room _;
       };
     }

@@ -1,0 +1,127 @@
+-- How far a search of the game of threats has come: its tree, the positions that are counted, and where it runs out of its budget or of
+-- room for its wins.
+use Rattle.std.specs.Prelude.{◌≡◌, ◌⊎◌, ℕ, zero, suc, ◌+◌, ◌-◌, ◌<◌, ◌≤◌, Bool, true, false, ◌&&◌, not, nat_eq, if◌then◌else◌, List, length}
+use Rattle.std.specs.Prelude.{Some}
+use Rattle.game_rules.specs.Grid.{Grid}
+use Rattle.game_rules.specs.Games.{behind_replies}
+use Rattle.game_rules.specs.declared.RuleKind.{RuleKind}
+use Rattle.game_rules.specs.declared.Point.{Point}
+use Rattle.strategy_graph.specs.declared.TheConstants.{MAX_NODES}
+use Rattle.proof_tree.specs.Combining.{is_settled, settled_numbers}
+use Rattle.proof_tree.specs.Trees.{IsTree, Tree, leaf_sum, link_at, most_proving, numbers_at}
+use Rattle.proof_tree.specs.declared.Link.{Link}
+use Rattle.proof_tree.specs.declared.Kind.{Kind}
+use Rattle.proof_tree.specs.declared.Kind.TheVariants.{Attack, Defend}
+use Rattle.threat_game.specs.declared.doubles.DoublePoint.{DoublePoint}
+use Rattle.threat_game.specs.declared.replies.Children.{Children}
+use Rattle.threat_game.specs.Attacks.{IsDoubleWin, tried_moves}
+use Rattle.threat_game.specs.Replies.{AreReplies, answer_nodes}
+use Rattle.threat_game.specs.ThreatGame.{threat_tree}
+use Rattle.proof_number.specs.GameTrees.{GameTree, IsGameTree, board_at, left_at}
+
+-- ---- what is counted
+
+-- the sum of f at the first n numbers
+unfoldable pub sum_below : ℕ → (ℕ → ℕ) → ℕ
+sum_below zero f = 0
+sum_below (suc n) f = sum_below n f + f n
+
+-- whether node i is a leaf that is not settled
+abbrev pub is_open_leaf : Tree → ℕ → Bool
+is_open_leaf t i = nat_eq (link_at t.links i).count 0 && not (is_settled (numbers_at t.numbers i))
+
+-- whether the kind is that of the attacker
+abbrev pub is_attack : Kind → Bool
+is_attack Attack = true
+is_attack Defend = false
+
+-- how many of the nodes are the attacker's
+abbrev pub attack_nodes : List Link → ℕ
+attack_nodes links = sum_below (length links) (λ i. if is_attack (link_at links i).kind then 1 else 0)
+
+-- how many positions of the attacker may be counted behind an open leaf
+abbrev pub attacks_behind : Kind → RuleKind → ℕ → Grid → ℕ
+attacks_behind Attack rule n b = threat_tree rule n b - 1
+attacks_behind Defend rule n b = behind_replies rule (threat_tree rule n) b
+
+-- how many positions of the defender may be counted behind an open leaf
+abbrev pub defences_behind : Kind → RuleKind → ℕ → Grid → ℕ
+defences_behind Attack rule n b = threat_tree rule n b - 1
+defences_behind Defend rule n b = behind_replies rule (threat_tree rule n) b - 1
+
+-- what is counted behind node i, if it is an open leaf
+abbrev pub behind_at : (Kind → RuleKind → ℕ → Grid → ℕ) → GameTree → ℕ → ℕ
+behind_at count g i = if is_open_leaf g.tree i then count (link_at g.tree.links i).kind g.rule (left_at g.left i) (board_at g i) else 0
+
+-- what is counted behind all open leaves
+abbrev pub behind_leaves : (Kind → RuleKind → ℕ → Grid → ℕ) → GameTree → ℕ
+behind_leaves count g = sum_below (length g.tree.links) (behind_at count g)
+
+-- So many positions of each side are counted: no more than the budget, and with those behind the open leaves no more than the game
+-- of threats has from the root. Each node counts as one, and the attacker's as its own. Once the root has
+-- children the numbers of all leaves add up to no more than there are nodes.
+pub record IsCounted (g : GameTree) (budget attacked defended : ℕ) : Type 0 where
+  pub attacks : attacked + behind_leaves attacks_behind g ≤ threat_tree g.rule (left_at g.left 0) g.start
+  pub defences : defended + behind_leaves defences_behind g ≤ threat_tree g.rule (left_at g.left 0) g.start
+  pub nodes : length g.tree.links ≤ attacked + defended
+  pub attackers : attack_nodes g.tree.links ≤ attacked
+  pub attacked_fits : attacked ≤ budget
+  pub defended_fits : defended ≤ budget
+  pub leaves : (kind : Kind) → 1 < length g.tree.links → leaf_sum kind g.tree.links g.tree.numbers ≤ length g.tree.links
+
+-- ---- how far a search has come
+
+-- A tree of the game of threats from b, with so many moves left at its root, as far as a search with this budget has grown it: the move
+-- that leads to each node and the moves that are left there, and how many positions of each side are counted.
+pub record IsSearchTree (rule : RuleKind) (limit budget : ℕ) (b : Grid) (t : Tree) : Type 0 where
+  pub moves : List Point
+  pub left : List ℕ
+  pub attacked : ℕ
+  pub defended : ℕ
+  pub tree : IsTree t
+  pub game : IsGameTree (record { rule = rule; start = b; tree = t; moves = moves; left = left })
+  pub whole : left_at left 0 ≡ limit
+  pub counted : IsCounted (record { rule = rule; start = b; tree = t; moves = moves; left = left }) budget attacked defended
+
+-- what holds of the kind, the moves left and the board of the most-proving leaf
+abbrev pub AtMostProving : (rule : RuleKind) (b : Grid) (t : Tree) → List Point → List ℕ → (Kind → ℕ → Grid → Type 0) → Type 0
+AtMostProving rule b t moves left P =
+    P (link_at t.links (most_proving t)).kind (left_at left (most_proving t))
+    (board_at (record { rule = rule; start = b; tree = t; moves = moves; left = left }) (most_proving t))
+
+-- so many positions of the attacker are counted where an open leaf is settled or gets its children: none, those after the replies to a
+-- double point that wins, or those after the replies that get a node
+abbrev pub AddsAttacks : RuleKind → ℕ → Kind → ℕ → Grid → Type 0
+AddsAttacks rule more Attack n b = (more ≡ 0) ⊎ ((d : DoublePoint) × IsDoubleWin rule b d × (more ≡ answer_nodes rule b d))
+AddsAttacks rule more Defend n b = (more ≡ 0) ⊎ ((children : Children) × AreReplies rule n b (Some children) × (more ≡ children.count))
+
+-- more positions of the defender than so many are counted where a leaf of the attacker gets a child for each move that is to be tried
+abbrev pub DefencesPass : RuleKind → ℕ → ℕ → Kind → ℕ → Grid → Type 0
+DefencesPass rule most defended Attack n b = most < defended + length (tried_moves rule b)
+DefencesPass rule most defended Defend n b = ⊥
+
+-- with so many before and those of the most-proving leaf more positions of the attacker are counted than so many at most
+pub record AttacksPass (rule : RuleKind) (limit budget : ℕ) (b : Grid) (t : Tree) (so_far : IsSearchTree rule limit budget b t)
+    (before most : ℕ) : Type 0 where
+  pub more : ℕ
+  pub adds : AtMostProving rule b t so_far.moves so_far.left (AddsAttacks rule more)
+  pub pass : most < before + so_far.attacked + more
+
+-- The search within so many moves has run out: its root is not settled, and to go on at the most-proving leaf more positions of one side
+-- would be counted than the budget.
+pub record HasRunOut (rule : RuleKind) (limit budget : ℕ) (b : Grid) (t : Tree) : Type 0 where
+  pub so_far : IsSearchTree rule limit budget b t
+  pub undecided : is_settled (numbers_at t.numbers 0) ≡ false
+  pub over : AttacksPass rule limit budget b t so_far 0 budget
+      ⊎ AtMostProving rule b t so_far.moves so_far.left (DefencesPass rule budget so_far.defended)
+
+-- the search within so many moves has disproved its root, and the tree lists what was looked at
+pub record HasDisproved (rule : RuleKind) (limit budget : ℕ) (b : Grid) (t : Tree) : Type 0 where
+  pub so_far : IsSearchTree rule limit budget b t
+  pub lost : numbers_at t.numbers 0 ≡ settled_numbers false
+
+-- The search within so many moves has no room for its wins: with those of the most-proving leaf more positions of the attacker are
+-- counted than a compiler that had so many nodes before has room for.
+pub record HasNoRoom (rule : RuleKind) (limit budget : ℕ) (b : Grid) (t : Tree) (before : ℕ) : Type 0 where
+  pub so_far : IsSearchTree rule limit budget b t
+  pub full : AttacksPass rule limit budget b t so_far before MAX_NODES
