@@ -67,7 +67,7 @@ LawfulRow h (Chooses g) = IsToMove g
 
 -- ---- moves that went on
 
-went_from : (ended : Bool) (rule : RuleKind) (start : Grid) (moves : List Point) → WentOn ended rule start moves → IsPosition rule start
+pub went_from : (ended : Bool) (rule : RuleKind) (start : Grid) (moves : List Point) → WentOn ended rule start moves → IsPosition rule start
 went_from false rule start moves h = start-lawful rule start moves h
 went_from true rule start [] h = h
 went_from true rule start (p ∷ before) h = start-lawful rule start before h

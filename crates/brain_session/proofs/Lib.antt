@@ -46,3 +46,6 @@ pub mod RootGames
 pub mod LawfulStates
 -- the stones of a batch that makes a board
 pub mod BatchStones
+-- the drawing of a session, line by line, and the held games that begin where it shows the position of a root
+pub mod Drawings
+pub mod LineGames

@@ -51,10 +51,10 @@ end_ends s = refl
 pub HasNoEnd-none : HasNoEnd []
 HasNoEnd-none = λ w. absurd (omega (arith, w.1))
 
-first_goes_on : (c : Command) (cs : List Command) → HasNoEnd (c ∷ cs) → c ≢ End
+pub first_goes_on : (c : Command) (cs : List Command) → HasNoEnd (c ∷ cs) → c ≢ End
 first_goes_on c cs no_end = λ is. no_end (0, omega arith, is)
 
-later_go_on : (c : Command) (cs : List Command) → HasNoEnd (c ∷ cs) → HasNoEnd cs
+pub later_go_on : (c : Command) (cs : List Command) → HasNoEnd (c ∷ cs) → HasNoEnd cs
 later_go_on c cs no_end = λ w. no_end (suc w.0, omega (arith, w.1), w.2)
 
 only_item : (c d : Command) → Contains (c ∷ []) d → c ≡ d
@@ -72,7 +72,7 @@ answers_go_on Silent xs ys goes_on = refl
 answers_go_on (Says a) xs ys goes_on = refl
 answers_go_on Ends xs ys goes_on = absurd (goes_on refl)
 
-state_goes_on : (r : Reaction) (s later : State) → r ≢ Ends → then_state r s later ≡ later
+pub state_goes_on : (r : Reaction) (s later : State) → r ≢ Ends → then_state r s later ≡ later
 state_goes_on Silent s later goes_on = refl
 state_goes_on (Says a) s later goes_on = refl
 state_goes_on Ends s later goes_on = absurd (goes_on refl)

@@ -12,3 +12,5 @@ pub mod Memory
 pub mod Serving
 pub mod Kept
 pub mod Nearer
+pub mod Drawings
+pub mod LineGames

@@ -7,6 +7,8 @@ ghost use Rattle.brain_session.specs.HeldGames.{HeldGamesAreLed, HeldGamesGoWell
 ghost use Rattle.brain_session.specs.HeldGames.{StartsAreTight, WhoeverHoldsWins};
 ghost use Rattle.brain_session.specs.OwnGames.{OwnGamesGoWell, OwnRepliesAreAnswered};
 ghost use Rattle.brain_session.specs.RootGames.{RootsBeginGames};
+ghost use Rattle.brain_session.specs.Drawings.{SessionsAreDrawn};
+ghost use Rattle.brain_session.specs.LineGames.{HeldLinesWin};
 ghost use Rattle.brain_session.specs.TurnLines.{OwnRepliesAreAnsweredInBytes, RepliesAreAnsweredInBytes, TurnLinesAreRead};
 
 /// Whatever a brain that holds accepted roots was told before, and whatever it is told later: where it begins to follow a
@@ -66,4 +68,17 @@ pub fn turn_lines_are_read()
 pub fn replies_are_answered_in_bytes()
     ensures answered { RepliesAreAnsweredInBytes }
     ensures own { OwnRepliesAreAnsweredInBytes }
+{}
+
+/// Whatever a session was told before: after lines that set a board up, that send a position or that make moves, the board of the
+/// brain has exactly the stones that a reader of the lines and of the answers to them has drawn.
+pub fn sessions_are_drawn()
+    ensures drawn { SessionsAreDrawn }
+{}
+
+/// Where a reader of the lines sees the position of a held root sent by BOARD, or set up before BEGIN, and the brain answers by a
+/// move, each list of legal replies that is sent behind is answered by the attacks of the table, byte for byte, and the game is won
+/// within the depth of the root, or the replies have run out.
+pub fn held_lines_win()
+    ensures win { HeldLinesWin }
 {}

@@ -23,9 +23,9 @@ pub use brain::Brain;
 use game_rules::MAX_SIDE;
 use gomocup_text::Answer;
 pub use laws::{
-    held_games_go_well, legal_replies_are_answered, own_games_go_well,
-    replies_are_answered_in_bytes, roots_begin_games, sessions_go_well, starts_are_tight,
-    turn_lines_are_read, whoever_holds_wins,
+    held_games_go_well, held_lines_win, legal_replies_are_answered, own_games_go_well,
+    replies_are_answered_in_bytes, roots_begin_games, sessions_are_drawn, sessions_go_well,
+    starts_are_tight, turn_lines_are_read, whoever_holds_wins,
 };
 pub use sessions::{ServeError, serve};
 
