@@ -43,7 +43,8 @@ use Rattle.brain_session.proofs.LawfulStates.{session-lawful, new-lawful}
 use Rattle.brain_session.proofs.HeldGames.{held-games-go_well, held-games-led, starts-are_tight}
 use Rattle.brain_session.proofs.OwnGames.{own-games-go_well}
 use Rattle.brain_session.proofs.RootGames.{roots-begin_games}
-use Rattle.brain_session.proofs.TurnLines.{replies-in_bytes}
+use Rattle.brain_session.proofs.TurnLines.{own-replies-in_bytes, replies-in_bytes}
+use Rattle.brain_session.proofs.LineGames.{held-lines-win}
 use Rattle.brain_session.specs.declared.TheConstants.{BRAIN_WORK}
 use Rattle.command_base.specs.declared.status.Status.{Status}
 use Rattle.command_base.specs.declared.status.Status.TheVariants.{Done, Memory, ReadFault, WriteFault, TooLong}
@@ -54,7 +55,7 @@ use Rattle.brain_commands.specs.Brains.{nothing_held, session_of, EndsSession, I
 use Rattle.file_loading.specs.HeldFiles.{held_by, held_with, named_entry, named_root, of_table, HeldFile, NamedRoot, IsFit, IsHeldText}
 use Rattle.file_loading.specs.HeldFiles.{FileSays, GivesHeld, TellsFile}
 use Rattle.brain_commands.specs.Games.{state_told, StandsBehind, GamesGoWell, PlaysByRoots, OwnGamesGoWellIn, AnsweredLines, IsPlayedBy}
-use Rattle.brain_commands.specs.Games.{ShowsGames, PlaysOwnWins}
+use Rattle.brain_commands.specs.Games.{PlaysByFours, ShowsGames, PlaysOwnWins}
 use Rattle.command_base.proofs.ToldLaws.{told-some, where-told}
 use Rattle.file_loading.proofs.HeldFileLaws.{found-under, IsOther, file-other, unheld-other, delivered-other, not-other}
 use Rattle.brain_commands.proofs.BrainLaws.{ends-by}
@@ -133,6 +134,7 @@ module _ (t : List Node) (named : List NamedRoot) (due : All (IsDueRoot t) named
     begin = roots-begin_games held few;
     games = games_go_well;
     bytes = replies-in_bytes held few;
+    lines = held-lines-win held few;
   } where
     tights : (rs : List NamedRoot) → All (λ r. IsTight r.kind r.board r.root) (map (λ r. r.root) rs)
         → All (λ r. IsTight r.root.kind r.root.board r.root.root) rs
@@ -146,6 +148,9 @@ own_games : (held : HeldTable) → IsHeld held → (asked : List Asked) → OwnG
 own_games held is asked before c later g m e begins =
     let goes = own-games-go_well held is before c later g m begins in
     record { goes_well = goes; stands = stand_behind held before c later goes.first goes.says }
+
+plays_by_fours : (held : HeldTable) → IsHeld held → PlaysByFours held
+plays_by_fours held is = record { games = own_games held is; bytes = own-replies-in_bytes held is }
 
 -- a brain that holds nothing holds no root that is not accepted
 nothing_is_held : IsHeld nothing_held
@@ -349,14 +354,13 @@ brain-plays name run is = where-told run.shelf.before (λ files told. record {
 -- what `brain` did in a run shows this of them
 pub brain-plays-own : (run : Run) → IsBrain run → PlaysOwnWins run
 brain-plays-own run is = record {
-  games = own_games nothing_held nothing_is_held;
+  plays = plays_by_fours nothing_held nothing_is_held;
   ends = is.ends;
   answered = answered_lines nothing_held run;
 }
 
 -- so does `brain FILE`
 pub file-plays-own : (name : List ℕ) (run : Run)
-    → IfSome run.shelf.before (λ files. (file : HeldFile) → GivesHeld name files file → (asked : List Asked)
-    → OwnGamesGoWellIn (held_by file) asked)
+    → IfSome run.shelf.before (λ files. (file : HeldFile) → GivesHeld name files file → PlaysByFours (held_by file))
 file-plays-own name run = where-told run.shelf.before
-    (λ files told file fit. own_games (held_by file) (file_held file fit.bytes fit.at))
+    (λ files told file fit. plays_by_fours (held_by file) (file_held file fit.bytes fit.at))

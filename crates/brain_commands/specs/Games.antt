@@ -19,7 +19,8 @@ use Rattle.brain_session.specs.Serving.{HasNoEnd}
 use Rattle.brain_session.specs.HeldGames.{BeginsHeldGame, HeldGameGoesWell, IsTight}
 use Rattle.brain_session.specs.OwnGames.{BeginsOwnGame, OwnGameGoesWell}
 use Rattle.brain_session.specs.RootGames.{RootsBegin}
-use Rattle.brain_session.specs.TurnLines.{AnswersInBytes}
+use Rattle.brain_session.specs.TurnLines.{AnswersInBytes, OwnAnswersInBytes}
+use Rattle.brain_session.specs.LineGames.{LinesWin}
 use Rattle.command_base.specs.declared.status.Status.TheVariants.{Done, ReadFault, WriteFault}
 use Rattle.command_base.specs.Statuses.{status_number}
 use Rattle.command_base.specs.Runs.{Run, HasFailed, IsUnbegun}
@@ -59,13 +60,15 @@ GamesGoWell t named asked =
 
 -- What holds of a table and roots of it that are held: each root wins within the moves that are named for it; where the opponent
 -- moves first, none of its moves wins or draws; a game by a root begins wherever a game has come to it; each goes well, whatever a
--- session is told; and the lines of legal replies in one are answered byte for byte by the lines of the table's attacks.
+-- session is told; the lines of legal replies in one are answered byte for byte by the lines of the table's attacks; and so it is, and the
+-- game is won, where a reader of the lines alone sees the position of a root.
 pub record PlaysByRoots (t : List Node) (named : List NamedRoot) : Type 0 where
   pub win : All (λ r. RootWins r.root.kind r.root.root r.moves r.root.board) named
   pub tight : All (λ r. IsTight r.root.kind r.root.board r.root.root) named
   pub begin : RootsBegin (held_with t named)
   pub games : (asked : List Asked) → GamesGoWell t named asked
   pub bytes : AnswersInBytes (held_with t named)
+  pub lines : LinesWin (held_with t named)
 
 -- Games by a win of the brain's own
 
@@ -119,10 +122,16 @@ ShowsHeldGames run =
     (name : List ℕ) → run.words ≡ brain_with_words name → IsFileName name
     → IfSome run.shelf.before (λ files. ShowsGames name files run)
 
--- a brain that holds nothing served the input, so that lines were answered, unless memory ran out before; and each game by a win of
--- its own goes well, whatever it is told
+-- What holds of the wins that a brain that holds this finds itself: each game by one goes well, whatever a session is told; and the
+-- lines of legal replies in one are answered byte for byte by the lines of the attacks of the win.
+pub record PlaysByFours (held : HeldTable) : Type 0 where
+  pub games : (asked : List Asked) → OwnGamesGoWellIn held asked
+  pub bytes : OwnAnswersInBytes held
+
+-- a brain that holds nothing served the input, so that lines were answered, unless memory ran out before; and it plays so by wins of its
+-- own
 pub record PlaysOwnWins (run : Run) : Type 0 where
-  pub games : (asked : List Asked) → OwnGamesGoWellIn nothing_held asked
+  pub plays : PlaysByFours nothing_held
   pub ends : IsSession nothing_held run.input run.output run.status ⊎ IsUnbegun run.input run.output run.status
   pub answered : IsSession nothing_held run.input run.output run.status → IfSome run.input.before (AnsweredLines nothing_held run)
 
@@ -131,5 +140,4 @@ pub record PlaysOwnWins (run : Run) : Type 0 where
 pub record ShowsOwnGames (run : Run) : Type 0 where
   pub alone : run.words ≡ brain_words → PlaysOwnWins run
   pub with_file : (name : List ℕ) → run.words ≡ brain_with_words name → IsFileName name
-      → IfSome run.shelf.before (λ files. (file : HeldFile) → GivesHeld name files file → (asked : List Asked)
-      → OwnGamesGoWellIn (held_by file) asked)
+      → IfSome run.shelf.before (λ files. (file : HeldFile) → GivesHeld name files file → PlaysByFours (held_by file))
