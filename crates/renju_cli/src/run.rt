@@ -12,7 +12,7 @@ ghost use Rattle.position_commands.specs.Threats.{ShowsSequence};
 ghost use Rattle.solve_command.specs.Solves.{ShowsSolution};
 ghost use Rattle.brain_commands.specs.Games.{ShowsHeldGames, ShowsOwnGames};
 ghost use Rattle.brain_commands.specs.Drills.{ShowsDrill};
-ghost use Rattle.table_commands.specs.Referees.{ShowsReferee};
+ghost use Rattle.table_commands.specs.Referees.{ShowsReferee, ShowsVerdict};
 ghost use Rattle.renju_cli.specs.Reports.{Report, IsComplete};
 ghost use Rattle.table_commands.specs.Images.{ShowsImage};
 ghost use Rattle.position_commands.specs.Defends.{ShowsDefence};
@@ -71,6 +71,9 @@ pub fn run_renju<I: Source, O: Sink, F: Shelf>(
     // What status 0 of `image` shows: the text of the image of a table, which is accepted exactly where the table is, with the same
     // games, and whose board is won exactly where that of the table is.
     ensures imaged { ShowsImage (program_run (map string_bytes words.now) (change I.left I.faults I.asked input.old input.new)
+        (change O.written O.faults O.asked output.old output.new) (change F.files F.faults F.asked shelf.old shelf.new) result) }
+    // What the statuses of `referee` without FILE show: the verdict on the game.
+    ensures judged { ShowsVerdict (program_run (map string_bytes words.now) (change I.left I.faults I.asked input.old input.new)
         (change O.written O.faults O.asked output.old output.new) (change F.files F.faults F.asked shelf.old shelf.new) result) }
     // What status 0 of `referee FILE` shows: the verdict on the game, and whether it was played by the table of FILE, which is
     // accepted. Where it was, it went by the table, and the side of the table did not lose it.

@@ -1,7 +1,7 @@
 -- What the statuses of each command show follows from the report of its run.
 use Rattle.std.proofs.Common.{◌≡◌, sym, ap, subst, ℕ, List}
 use Rattle.renju_cli.specs.declared.commands.Form.TheVariants.{Check, Fours, Threats, Solve, Brain, BrainWith, Drill, Image, Book}
-use Rattle.renju_cli.specs.declared.commands.Form.TheVariants.{RefereeWith, Defend, Bind}
+use Rattle.renju_cli.specs.declared.commands.Form.TheVariants.{Referee, RefereeWith, Defend, Bind}
 use Rattle.command_base.specs.Runs.{Run}
 use Rattle.command_base.specs.Forms.{HasWords}
 use Rattle.table_commands.specs.Checks.{ShowsWin}
@@ -14,7 +14,7 @@ use Rattle.renju_cli.specs.Words.{second_word}
 use Rattle.brain_commands.specs.Games.{ShowsHeldGames, ShowsOwnGames}
 use Rattle.brain_commands.specs.Drills.{ShowsDrill}
 use Rattle.table_commands.specs.Images.{ShowsImage}
-use Rattle.table_commands.specs.Referees.{referee_with_words, IsRefereeWith, ShowsReferee}
+use Rattle.table_commands.specs.Referees.{referee_with_words, IsRefereeWith, ShowsReferee, ShowsVerdict}
 use Rattle.position_commands.specs.Defends.{ShowsDefence}
 use Rattle.table_commands.specs.Binds.{AreNames, IsBind, ShowsBinding, bind_words}
 use Rattle.renju_cli.specs.Words.{words_after}
@@ -27,7 +27,7 @@ use Rattle.solve_command.proofs.SolveLaws.{solve-shown}
 use Rattle.brain_commands.proofs.GameLaws.{brain-plays, brain-plays-own, file-plays-own}
 use Rattle.brain_commands.proofs.DrillLaws.{drill-shown}
 use Rattle.table_commands.proofs.ImageLaws.{image-shown}
-use Rattle.table_commands.proofs.RefereeLaws.{referee-shown}
+use Rattle.table_commands.proofs.RefereeLaws.{referee-shown, verdict-shown}
 use Rattle.position_commands.proofs.DefendLaws.{defend-shown}
 use Rattle.table_commands.proofs.BindLaws.{bind-shown}
 use Rattle.table_commands.proofs.BookLaws.{book-shown}
@@ -76,6 +76,9 @@ report-booked : (run : Run) → Report run → ShowsBook run
 report-booked run report work words low high done =
     book-shown work run done (does-of run report (Book work) (has_words words (low, high)))
 
+report-judged : (run : Run) → Report run → ShowsVerdict run
+report-judged run report words = verdict-shown run (does-of run report Referee (has_words words tt))
+
 report-refereed : (run : Run) → Report run → ShowsReferee run
 report-refereed run report name words range done =
     let second : second_word run.words ≡ name = ap second_word words in
@@ -100,6 +103,7 @@ returns g c = rw c.number.ensures.number (record {
   searched = report-searched _ c.run.ensures.report;
   drilled = report-drilled _ c.run.ensures.report;
   imaged = report-imaged _ c.run.ensures.report;
+  judged = report-judged _ c.run.ensures.report;
   refereed = report-refereed _ c.run.ensures.report;
   defended = report-defended _ c.run.ensures.report;
   booked = report-booked _ c.run.ensures.report;
