@@ -165,6 +165,8 @@ GROUPS = (
         "Devices",
         [STD + "Io.KnownBytes", STD + "Io.BufRead"],
         {
+            "Appends": ("Appends old new bs", "where the old bytes are known, the new ones are they and then bs"),
+            "ReadConsumes": ("ReadConsumes old new r buf", "where the old bytes are known: a read that answers n took the first n of them, which are those in buf, and none only at the end or with no room; one that failed took none"),
             "append_known": ("append_known o bs", "where the bytes are known, they and then bs; unknown ones stay so"),
             "prepend_known": ("prepend_known bs o", "where the bytes are known, bs and then they; unknown ones stay so"),
             "IsAtEnd": ("IsAtEnd o", "where the bytes that are left are known, there are none"),
