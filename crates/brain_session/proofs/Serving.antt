@@ -1,6 +1,6 @@
 -- What a session has read, said and become when it comes to its next line, and how it may end there.
-use Rattle.std.proofs.Common.{◌≡◌, ◌≢◌, ◌≤◌, ◌+◌, Bool, true, false, cond, List, [], ◌∷◌, ◌++◌, length, take, refl, sym, ap, subst, ◌∙◌}
-use Rattle.std.proofs.Common.{append_assoc, add_comm, arith, length-append, Option, Some, None, ◌⊎◌, inl, inr}
+use Rattle.std.proofs.Common.{◌≡◌, ◌≢◌, ◌<◌, ◌≤◌, ◌+◌, Bool, true, false, cond, List, [], ◌∷◌, ◌++◌, length, take, refl, sym, ap, subst}
+use Rattle.std.proofs.Common.{◌∙◌, append_assoc, add_comm, arith, length-append, Option, Some, None, ◌⊎◌, inl, inr}
 use Rattle.std.specs.Prelude.{ℕ, IfSome}
 use Rattle.std.specs.Option.{option_to_list}
 use Rattle.std.specs.Io.KnownBytes.{IsAtEnd}
@@ -11,6 +11,7 @@ use Rattle.renju_io.specs.Asked.{GivesByEach, IsAsked, IsAskedAtMost, IsAskedOnc
 use Rattle.renju_io.specs.Told.{Gives, GivesSome, Takes}
 use Rattle.renju_io.specs.Lines.{LineText, lines, whole_lines, Tells, TellsLast, ReaderState, KnowsEnd, TakesLines, KeepsLine, GoesPast}
 use Rattle.renju_io.specs.Lines.{TakesTooMany, reads_for}
+use Rattle.renju_io.specs.LineReads.{ReadsNoFurther}
 use Rattle.renju_io.specs.declared.TheConstants.{MAX_SESSION_BYTES}
 use Rattle.renju_io.proofs.AskedCalls.{IsAsked-then, few_more, within_few}
 use Rattle.renju_io.proofs.GivenBytes.{Gives-none, Gives-then, Gives-some}
@@ -30,7 +31,8 @@ use Rattle.brain_session.specs.Steps.{brain_step}
 use Rattle.brain_session.specs.Memory.{takes_none}
 use Rattle.brain_session.specs.Sessions.{then_answers, answers_from, answer_texts, state_after}
 use Rattle.brain_session.specs.Serving.{TakesCommands, IsWritten, IsAnswered, IsHalfAnswered, Output, Served, served, Writes, HasAnswered}
-use Rattle.brain_session.specs.Serving.{HasNoEnd, IsReadToEnd, StopsAtRead, StopsAtWrite, StopsAtStep, within_limit, IsTooLong}
+use Rattle.brain_session.specs.Serving.{HasNoEnd, IsReadToEnd, ReadsAfterAnswers, StopsAtRead, StopsAtWrite, StopsInTurn, StopsAtStep}
+use Rattle.brain_session.specs.Serving.{within_limit, IsTooLong}
 use Rattle.brain_session.proofs.SessionLaws.{end_ends, HasNoEnd-none, HasNoEnd-push, answers-append, state-append, answers-one, state-one}
 use Rattle.brain_session.proofs.SessionLaws.{answers-end, state-end, state-none, answers-none}
 
@@ -119,6 +121,70 @@ Asked-told r v told c next left so_far is asks took few knows =
       answered = so_far.answered;
     }
 
+-- ---- what was read before
+
+-- nothing is kept, or each line that had ended before the last read is among these
+abbrev pub ReadsInTurn : Reading → List Command → Option ℕ → Type 0
+ReadsInTurn r answered last = (r.reader.kept ≡ []) ⊎ ReadsAfterAnswers answered r.left_before r.left last
+
+-- one more line is told: no read was made once it had ended
+pub reads_told : (r : Reading) (v : Served) (so_far : SoFar r v) (next : ReaderState) (left : Option (List ℕ)) (last last_next : Option ℕ)
+    → ReadsInTurn r (asked so_far.told) last → ReadsNoFurther r.reader next r.left left last last_next → (r.reader.ended ≡ true → ⊥)
+    → r.reader.taken + length next.kept < next.taken + length r.reader.kept
+    → ReadsAfterAnswers (asked so_far.told) r.left_before left last_next
+reads_told r v so_far next left last last_next (inl none) (inl unread) reading grows =
+    absurd (omega (arith, grows, unread.0, ap length none))
+reads_told r v so_far next left last last_next (inr before) (inl unread) reading grows = record {
+  before = before.before;
+  final = before.final;
+  gives = subst (Gives r.left_before (before.before ++ before.final)) (sym unread.1) before.gives;
+  last = unread.2 ∙ before.last;
+  later = before.later;
+  among = before.among;
+}
+reads_told r v so_far next left last last_next turn (inr read) reading grows =
+    let given = so_far.read.takes.given in
+    record {
+      before = given ++ read.before;
+      final = read.final;
+      gives = subst (λ (bytes : List ℕ). Gives r.left_before bytes left) (sym (append_assoc given read.before read.final))
+          (Gives-then r.left_before r.left left given (read.before ++ read.final) so_far.read.takes.gives read.gives);
+      last = read.last;
+      later = [];
+      among = ap asked (open_after r so_far.told so_far.read (open_tells r so_far.told so_far.read reading) read.before read.open_still)
+          ∙ sym (append-nil (commands (whole_lines (given ++ read.before))));
+    }
+
+-- one more line was read, and no read was made once it had ended
+pub record AskedInTurn (r : Reading) (v : Served) (c : Command) (last : Option ℕ) : Type 0 where
+  pub line : Asked r v c
+  pub reads : ReadsAfterAnswers (asked line.told) r.left_before r.left last
+
+pub AskedInTurn-told : (r : Reading) (v : Served) (told : Option Command) (c : Command) (next : ReaderState) (left : Option (List ℕ))
+    (last last_next : Option ℕ) (so_far : SoFar r v) → told ≡ Some c → (r.reader.ended ≡ true → told ≡ None)
+    → TakesCommands r.reader r.left (option_to_list told) next left → next.taken ≤ MAX_SESSION_BYTES
+    → (KnowsEnd r.reader r.left → KnowsEnd next left) → ReadsInTurn r (asked so_far.told) last
+    → ReadsNoFurther r.reader next r.left left last last_next
+    → r.reader.taken + length next.kept < next.taken + length r.reader.kept → AskedInTurn (read_on r next left) v c last_next
+unfolding Asked-told
+AskedInTurn-told r v told c next left last last_next so_far is asks took few knows turn further grows = record {
+  line = Asked-told r v told c next left so_far is asks took few knows;
+  reads = reads_told r v so_far next left last last_next turn further (λ e. let none = asks e in cc) grows;
+}
+
+-- and it is answered
+reads_answered : (told : List LineText) (line : LineText) (left left_now : Option (List ℕ)) (last : Option ℕ)
+    → ReadsAfterAnswers (asked told) left left_now last → ReadsAfterAnswers (asked (told ++ (line ∷ []))) left left_now last
+reads_answered told line left left_now last reads = record {
+  before = reads.before;
+  final = reads.final;
+  gives = reads.gives;
+  last = reads.last;
+  later = reads.later ++ (command_told line ∷ []);
+  among = map-append command_told told (line ∷ []) ∙ ap (λ cs. cs ++ (command_told line ∷ [])) reads.among
+      ∙ append_assoc (commands (whole_lines reads.before)) reads.later (command_told line ∷ []);
+}
+
 -- ---- what was answered
 
 -- the answer of a reaction was written
@@ -173,6 +239,19 @@ SoFar-answered r v c next written so_far answered =
           (wrote_one (brain_step v.after c).reaction true v.output_after written answered.wrote)));
     }
 
+-- the lines so far are answered, and no read was made before each line that had ended was
+pub record InTurn (r : Reading) (v : Served) (last : Option ℕ) : Type 0 where
+  pub so_far : SoFar r v
+  pub turn : ReadsInTurn r (asked so_far.told) last
+
+pub InTurn-answered : (r : Reading) (v : Served) (c : Command) (next : State) (written : Output) (last : Option ℕ) →
+    (so_far : AskedInTurn r v c last) → IsAnswered v.after c true next v.output_after written → InTurn r (served_on v next written) last
+unfolding SoFar-answered
+InTurn-answered r v c next written last so_far answered = record {
+  so_far = SoFar-answered r v c next written so_far.line answered;
+  turn = inr (reads_answered so_far.line.told so_far.line.line r.left_before r.left last so_far.reads);
+}
+
 -- ---- the whole input
 
 -- what holds of the commands of the input, whichever come after the one that is asked
@@ -222,10 +301,10 @@ IsReadToEnd-end r v c so_far is =
     }
 
 -- a write failed
-pub StopsAtWrite-asked : (r : Reading) (v : Served) (c : Command) (next : State) (written : Output) → Asked r v c →
+stops_at : (r : Reading) (v : Served) (c : Command) (next : State) (written : Output) (so_far : Asked r v c) →
     IsHalfAnswered v.after c next v.output_after written
-    → IfSome r.left_before (λ bytes. StopsAtWrite (served_on v next written) (commands bytes))
-StopsAtWrite-asked r v c next written so_far half = among r v c so_far (StopsAtWrite (served_on v next written)) (λ later. record {
+    → (later : List Command) → StopsAtWrite (served_on v next written) (asked so_far.told ++ (c ∷ later))
+stops_at r v c next written so_far half later = record {
   earlier = asked so_far.told;
   command = c;
   later = later;
@@ -238,7 +317,22 @@ StopsAtWrite-asked r v c next written so_far half = among r v c so_far (StopsAtW
   writes = so_far.answered.writes;
   part = half.part;
   once = half.once;
-})
+}
+
+pub StopsAtWrite-asked : (r : Reading) (v : Served) (c : Command) (next : State) (written : Output) → Asked r v c →
+    IsHalfAnswered v.after c next v.output_after written
+    → IfSome r.left_before (λ bytes. StopsAtWrite (served_on v next written) (commands bytes))
+StopsAtWrite-asked r v c next written so_far half =
+    among r v c so_far (StopsAtWrite (served_on v next written)) (stops_at r v c next written so_far half)
+
+-- and no read was made once the line had ended
+pub StopsInTurn-asked : (r : Reading) (v : Served) (c : Command) (next : State) (written : Output) (last : Option ℕ) →
+    AskedInTurn r v c last → IsHalfAnswered v.after c next v.output_after written
+    → IfSome r.left_before (λ bytes. StopsInTurn (served_on v next written) (commands bytes) r.left_before r.left last)
+unfolding stops_at
+StopsInTurn-asked r v c next written last so_far half =
+    among r v c so_far.line (λ cs. StopsInTurn (served_on v next written) cs r.left_before r.left last)
+    (λ later. record { stops = stops_at r v c next written so_far.line half later; reads = so_far.reads })
 
 -- memory ran out
 pub StopsAtStep-asked : (r : Reading) (v : Served) (c : Command) (next : State) (written : Output) → Asked r v c →

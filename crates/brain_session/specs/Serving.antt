@@ -1,6 +1,6 @@
 -- How a session over devices ends: what was written then, and in which state the brain is.
 use Rattle.brain_session.specs.declared.Reaction.{Reaction}
-use Rattle.std.specs.Prelude.{◌≡◌, ℕ, ◌<◌, ◌≤◌, Bool, false, List, [], ◌∷◌, ◌++◌, length, take, Option, Contains, ◌⊎◌, true, map}
+use Rattle.std.specs.Prelude.{◌≡◌, ℕ, ◌<◌, ◌≤◌, Bool, false, List, [], ◌∷◌, ◌++◌, length, take, Option, Some, Contains, ◌⊎◌, true, map}
 use Rattle.std.specs.Io.KnownBytes.{IsAtEnd}
 use Rattle.renju_io.specs.Asked.{IsAsked, IsAskedOnce}
 use Rattle.renju_io.specs.Told.{Gives, Takes, TakesPart}
@@ -107,6 +107,21 @@ pub record StopsAtWrite (v : Served) (asked : List Command) : Type 0 where
   pub writes : Writes (answers_from v.before earlier) v.output_before written
   pub part : TakesPart written.written (answer_text answer) v.output_after.written
   pub once : IsAskedOnce written.asked v.output_after.asked
+
+-- No read was made before each line that had ended was among those answered: the last read gave the final ones of the bytes that were
+-- given, and the lines that end within those before are among these.
+pub record ReadsAfterAnswers (answered : List Command) (left left_after : Option (List ℕ)) (last_after : Option ℕ) : Type 0 where
+  pub before : List ℕ
+  pub final : List ℕ
+  pub gives : Gives left (before ++ final) left_after
+  pub last : last_after ≡ Some (length final)
+  pub later : List Command
+  pub among : answered ≡ commands (whole_lines before) ++ later
+
+-- a write failed, and no read was made once the line that it was to answer had ended
+pub record StopsInTurn (v : Served) (asked : List Command) (left left_after : Option (List ℕ)) (last_after : Option ℕ) : Type 0 where
+  pub stops : StopsAtWrite v asked
+  pub reads : ReadsAfterAnswers stops.earlier left left_after last_after
 
 -- memory ran out at this command: those before it, none of which is END, were answered, and it is none that takes no memory
 pub record StopsAtStep (v : Served) (asked : List Command) : Type 0 where

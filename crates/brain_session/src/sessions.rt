@@ -3,6 +3,7 @@
 #![tactic(auto)]
 
 ghost use Rattle.brain_session.specs.Memory.{takes_none};
+ghost use Rattle.renju_io.specs.LineReads.{ReadsNoFurther};
 ghost use Rattle.renju_io.specs.Lines.{KeepsLine, KnowsEnd, TakesTooMany, reads_for};
 ghost use Rattle.renju_io.specs.declared.TheConstants.{MAX_SESSION_BYTES};
 ghost use Rattle.std.specs.Io.KnownBytes.{IsAtEnd};
@@ -12,7 +13,7 @@ ghost use Rattle.renju_io.specs.Asked.{GivesByEach, IsAskedAtMost, IsAskedWithin
 ghost use Rattle.renju_io.specs.Faults.{HasRisen, HasStayed, HasNotFallen};
 ghost use Rattle.renju_io.specs.Told.{CutAfter, FailsAfter, GivesSome};
 ghost use Rattle.gomocup_text.specs.Commands.{commands};
-ghost use Rattle.brain_session.specs.Serving.{HasAnswered, IsReadToEnd, StopsAtRead, StopsAtStep, StopsAtWrite, IsTooLong, within_limit, IsAnswered, IsHalfAnswered, TakesCommands, output_of, served};
+ghost use Rattle.brain_session.specs.Serving.{HasAnswered, IsReadToEnd, StopsAtRead, StopsAtStep, StopsAtWrite, StopsInTurn, IsTooLong, within_limit, IsAnswered, IsHalfAnswered, TakesCommands, output_of, served};
 
 use crate::{Brain, Reaction};
 use gomocup_text::{Command, read_command, write_answer};
@@ -59,6 +60,11 @@ pub fn serve<S: Source, O: Sink>(
         × IsNotAsked (S.asked source.old) (S.asked source.new)
         ⊎ IfSome (S.left source.old) (λ left.
         StopsAtStep (served brain.old brain.new (output_of O.written O.asked sink.old) (output_of O.written O.asked sink.new)) (commands left)) }
+
+    // An answer is written before the next line is read: any write may fail, and where one does no read was made once its line had ended.
+    ensures in_turn { IsErrOf result ServeError.WriteFailed → IfSome (S.left source.old) (λ left.
+        StopsInTurn (served brain.old brain.new (output_of O.written O.asked sink.old) (output_of O.written O.asked sink.new)) (commands left)
+        (S.left source.old) (S.left source.new) (S.last source.new)) }
 
     // What is left of the devices.
     ensures ended { OnOk result (IsReadToEnd (S.left source.old) (S.left source.new)) }
@@ -107,6 +113,7 @@ fn next_command<S: Source>(
     ensures no_other { IfErr result (λ e. (e ≡ ServeError.ReadFailed) ⊎ (e ≡ ServeError.Exhausted)) }
     ensures uncounted { result ≢ Err ServeError.ReadFailed → HasStayed (S.faults source.old) (S.faults source.new) }
     ensures counted { HasNotFallen (S.faults source.old) (S.faults source.new) }
+    ensures no_further { OnOk result (ReadsNoFurther lines.old lines.new (S.left source.old) (S.left source.new) (S.last source.old) (S.last source.new)) }
     ensures few_reads { OnOk result (IsAskedWithin (reads_for lines.old) (reads_for lines.new) (S.asked source.old) (S.asked source.new)) }
     ensures few_past { IsErrOf result ServeError.Exhausted → IsAskedWithin (reads_for lines.old) lines.new.taken (S.asked source.old) (S.asked source.new) }
     ensures few_failed { IsErrOf result ServeError.ReadFailed → IsAskedWithin (reads_for lines.old) (lines.new.taken + 1) (S.asked source.old) (S.asked source.new) }

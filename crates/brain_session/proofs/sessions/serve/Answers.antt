@@ -1,5 +1,5 @@
 use Rattle.std.proofs.Common.{◌≡◌, ◌∙◌, true, false, sym, ap, subst, refl, arith, inl, inr, Option, Some, None, Result, Ok, Err, ◌++◌}
-use Rattle.std.specs.Prelude.{IsErrOf}
+use Rattle.std.specs.Prelude.{IsErrOf, is_some}
 use Rattle.std.specs.Option.{option_to_list}
 use Rattle.std.specs.Result.{IsErrAnd}
 use Rattle.renju_io.specs.Asked.{IsAskedWithin}
@@ -11,8 +11,9 @@ use Rattle.gomocup_text.specs.declared.Command.{Command}
 use Rattle.brain_session.specs.declared.sessions.ServeError.{ServeError}
 use Rattle.brain_session.specs.declared.sessions.ServeError.TheVariants.{ReadFailed, WriteFailed, Exhausted, Memory}
 use Rattle.brain_session.specs.Serving.{TakesCommands, IsAnswered, output_of, served}
-use Rattle.brain_session.proofs.Serving.{Asked, EndsAt, PastLimit, SoFar-begun, Asked-told, SoFar-answered, HasAnswered-end}
-use Rattle.brain_session.proofs.Serving.{IsReadToEnd-end, StopsAtWrite-asked, StopsAtStep-asked, EndsAt-told, StopsAtRead-open}
+use Rattle.brain_session.proofs.Serving.{Asked, EndsAt, PastLimit, SoFar-begun, Asked-told, AskedInTurn-told, InTurn-answered}
+use Rattle.brain_session.proofs.Serving.{HasAnswered-end, IsReadToEnd-end, StopsAtWrite-asked, StopsInTurn-asked, StopsAtStep-asked}
+use Rattle.brain_session.proofs.Serving.{EndsAt-told, StopsAtRead-open}
 use Rattle.brain_session.proofs.Serving.{PastLimit-taken, GivesSome-past, by_each_told, by_each_open, AsksPast-taken}
 use Rattle.brain_session.proofs.sessions.serve.Given.{Over}
 use Rattle.brain_session.proofs.sessions.serve.Goals as goal
@@ -35,6 +36,7 @@ not_error o e is = cc
 pub loop-lines-init : goal.loop-lines-init
 loop-lines-init g c = record {
   so_far = SoFar-begun c.args.brain.now _ _ c.in-Ok.lines c.in-Ok.ensures.fresh;
+  turn = inl (ap (λ (reader : ReaderState). reader.kept) c.in-Ok.ensures.fresh);
   source_stayed = refl;
   sink_stayed = refl;
   reads = subst (λ (reader : ReaderState). IsAskedWithin 0 (reads_for reader) (g.S.Source.asked c.args.source.now)
@@ -133,6 +135,18 @@ returns-in_err-answer-clause-write_failed g c = λ failed.
     StopsAtWrite-asked _ _ c.in-Some.command c.answer.new.brain _ (asked g c)
     (c.in_err-answer.ensures.write_failed (ap (λ x. Err x) is))
 
+-- no read was made once the line had ended
+pub returns-in_err-answer-clause-in_turn : goal.returns-in_err-answer-clause-in_turn
+returns-in_err-answer-clause-in_turn g c = λ failed.
+    let is = same_error c.from_residual-in_err-answer.result c.in_err-answer.field-0.0 WriteFailed c.from_residual-in_err-answer.ensures.1
+    failed in
+    StopsInTurn-asked _ _ c.in-Some.command c.answer.new.brain _ _
+    (AskedInTurn-told _ _ c.in_ok-command.field-0 c.in-Some.command c.next_command.new.lines _ _ _ c.loop-lines.invariant.so_far
+    c.in-Some.is (λ e. ok_is c.in_ok-command.field-0 None (c.in_ok-command.ensures.asks_no_more e).0) c.in_ok-command.ensures.told
+    c.in_ok-command.ensures.limit c.in_ok-command.ensures.knows_end c.loop-lines.invariant.turn c.in_ok-command.ensures.no_further
+    (c.in_ok-command.ensures.advances (ap is_some c.in-Some.is)))
+    (c.in_err-answer.ensures.write_failed (ap (λ x. Err x) is))
+
 pub returns-in_err-answer-clause-written_last : goal.returns-in_err-answer-clause-written_last
 returns-in_err-answer-clause-written_last g c = λ failed.
     let is = same_error c.from_residual-in_err-answer.result c.in_err-answer.field-0.0 WriteFailed c.from_residual-in_err-answer.ensures.1
@@ -204,14 +218,17 @@ pub loop-lines-preserved : goal.loop-lines-preserved
 loop-lines-preserved g c =
     let goes_on : c.in_ok-answer.field-0 ≡ true = grind (arith, c.if-not-branch.false) in
     let now =
-    Asked-told _ _ c.in_ok-command.field-0 c.in-Some.command c.next_command.new.lines _ c.loop-lines.invariant.so_far c.in-Some.is
-    (λ e. ok_is c.in_ok-command.field-0 None (c.in_ok-command.ensures.asks_no_more e).0) c.in_ok-command.ensures.told
-    c.in_ok-command.ensures.limit c.in_ok-command.ensures.knows_end in
+    AskedInTurn-told _ _ c.in_ok-command.field-0 c.in-Some.command c.next_command.new.lines _ _ _ c.loop-lines.invariant.so_far
+    c.in-Some.is (λ e. ok_is c.in_ok-command.field-0 None (c.in_ok-command.ensures.asks_no_more e).0) c.in_ok-command.ensures.told
+    c.in_ok-command.ensures.limit c.in_ok-command.ensures.knows_end c.loop-lines.invariant.turn c.in_ok-command.ensures.no_further
+    (c.in_ok-command.ensures.advances (ap is_some c.in-Some.is)) in
     let answered = subst (λ goes_on. IsAnswered c.loop-lines.brain c.in-Some.command goes_on c.answer.new.brain
     (output_of g.O.Sink.written g.O.Sink.asked c.loop-lines.sink) (output_of g.O.Sink.written g.O.Sink.asked c.answer.new.sink)) goes_on
     c.in_ok-answer.ensures.stepped in
+    let after = InTurn-answered _ _ c.in-Some.command c.answer.new.brain _ _ now answered in
     record {
-      so_far = SoFar-answered _ _ c.in-Some.command c.answer.new.brain _ now answered;
+      so_far = after.so_far;
+      turn = after.turn;
       source_stayed = c.in_ok-command.ensures.uncounted (λ e. cc) ∙ c.loop-lines.invariant.source_stayed;
       sink_stayed = c.in_ok-answer.ensures.sink_uncounted (λ e. cc) ∙ c.loop-lines.invariant.sink_stayed;
       reads = within_then _ _ _ _ _ _ c.loop-lines.invariant.reads c.in_ok-command.ensures.few_reads;
