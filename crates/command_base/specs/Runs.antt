@@ -1,7 +1,7 @@
 -- A run of the program: its words, what its devices tell and count before and after, and the number that it ends with.
 use Rattle.std.specs.Prelude.{◌≡◌, ◌≢◌, ◌⊎◌, ℕ, List, Option}
 use Rattle.renju_io.specs.Faults.{HasRisen, HasStayed, HasNotFallen}
-use Rattle.renju_io.specs.Asked.{GivesByEach, IsAskedAtMost, IsAskedOnce, IsNotAsked, piece_count}
+use Rattle.renju_io.specs.Asked.{GivesByEach, IsAsked, IsAskedAtMost, IsAskedOnce, IsNotAsked, piece_count}
 use Rattle.renju_io.specs.Told.{Takes, TakesPart}
 use Rattle.renju_io.specs.Files.{Files}
 use Rattle.command_base.specs.declared.status.Status.{Status}
@@ -59,15 +59,19 @@ pub record IsUnasked {T : Type 0} (device : Change T) : Type 0 where
 abbrev pub IsAskedOnly : {T : Type 0} → Change T → Type 0
 IsAskedOnly device = IsAskedOnce device.asked_before device.asked_after
 
+-- the device was asked so many times
+abbrev pub IsAskedTimes : {T : Type 0} → ℕ → Change T → Type 0
+IsAskedTimes n device = IsAsked n device.asked_before device.asked_after
+
 -- the device was asked at most so many times
 abbrev pub IsAskedNoMore : {T : Type 0} → ℕ → Change T → Type 0
 IsAskedNoMore most device = IsAskedAtMost most device.asked_before device.asked_after
 
--- The text was written whole and the status is its own, or the output failed, took the front of the text, and the status is
--- that of a write fault; and there were no more writes than the text has pieces.
+-- The text was written whole, by as many writes as it has pieces, and the status is its own; or the output failed, took the front
+-- of the text by no more writes, and the status is that of a write fault.
 abbrev pub IsDelivered : Status → List ℕ → Change (Option (List ℕ)) → ℕ → Type 0
 IsDelivered status text output number =
-    ((number ≡ status_number status) × Takes output.before text output.after × IsAskedNoMore (piece_count text) output)
+    ((number ≡ status_number status) × Takes output.before text output.after × IsAskedTimes (piece_count text) output)
     ⊎ ((number ≡ status_number WriteFault) × HasFailed output × TakesPart output.before text output.after
     × IsAskedNoMore (piece_count text) output)
 
