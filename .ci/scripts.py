@@ -123,6 +123,7 @@ def positions():
         ("a part of a board", ["--at", "5,6", "--size", "15"], ". O . X .     row 6\n. . X . *     row 7\n"),
         ("a list of moves", [], "h8 g9 i9"),
         ("moves with numbers", [], "1. h8 g9\n2. i9\n"),
+        ("points in brackets as moves", [], "1. (7,7) (6, 6)\n2. (8,6)\n"),
         ("moves in one word", [], "h8g9i9"),
         ("points as moves", [], "7,7 6,6 8,6"),
         ("a rule and a size on the command line", ["--rule", "freestyle", "--size", "15x15"], "7,7\n6,6\n8,6\n"),

@@ -23,6 +23,8 @@ SIGN = f"[{re.escape(BLACK + WHITE + EMPTY)}]"
 ROW = re.compile(rf"(?:\d+\s+)?({SIGN}(?:\s*{SIGN})+)(?:\s+(?:row\s+)?\d+)?")
 COLUMNS = re.compile(r"(?:columns?\s+)?(?:[a-zA-Z]{1,2}|\d+)(?:\s+(?:[a-zA-Z]{1,2}|\d+)){4,}")
 MOVE = re.compile(r"\(?(\d+)\s*,\s*(\d+)\)?|([a-zA-Z]{1,2}\d{1,2})(?!\d)")
+# A move, or the number that stands before one.
+NUMBERED = re.compile(rf"(?P<move>{MOVE.pattern})|\b\d+\s*[.:)](?!\d)")
 
 
 class Draft:
@@ -48,7 +50,7 @@ class Draft:
         elif ROW.fullmatch(line):
             self.rows.append(re.sub(r"\s", "", ROW.fullmatch(line).group(1)))
         elif not key.startswith("renju-") and not is_names(line):
-            self.moves += points_of(re.sub(r"\b\d+\s*[.:)](?!\d)", " ", line))
+            self.moves += points_of(without_numbers(line))
         return True
 
     def position(self):
@@ -141,6 +143,11 @@ def corner_of(word):
     return tuple(map(int, word.split(",")))
 
 
+def without_numbers(text):
+    """A list of moves without their numbers, as 1. or 1)."""
+    return NUMBERED.sub(lambda it: it.group("move") or " ", text)
+
+
 def points_of(text):
     """The words of points in a text, in which nothing else may stand."""
     left = re.sub(r"[\s;,]", "", MOVE.sub("", text))
@@ -153,6 +160,7 @@ def points(words, position):
     """The points of a list of words, as 7,7 or h8."""
     middle = named((position.width // 2, position.height // 2), position.height)
     wrong = lambda word: Wrong(f"{word} is no point of the board, as 7,7 or {middle} is")
+    words = without_numbers(words)
     left = MOVE.sub(" ", words).replace(";", " ").replace(",", " ").split()
     if left:
         raise wrong(left[0])
