@@ -146,6 +146,7 @@ def positions():
     expect("position.py: nothing was wrong", run("position.py", [], TEXT), (0, TEXT, said))
     turn = "position.py: White is to move: 2 black stones, 1 white stone\n"
     expect("position.py: White's turn, from standard input", run("position.py", ["-"], "h8 g9 i9"), (0, game, turn))
+    turned()
     untaken = [
         ("nothing", [], "", "there are no stones in it"),
         ("a word", [], "black 7,7 zz\nwhite\n", "'zz', which is no point"),
@@ -160,11 +161,27 @@ def positions():
         ("an unknown rule", ["--rule", "caro"], "h8", "caro is no rule"),
         ("no size", ["--size", "big"], "h8", "big is no size"),
         ("no place", ["--at", "h8"], ".....", "h8 is no upper left corner"),
+        ("no symmetry", ["--image", "left"], "h8", "left is no symmetry: it is identity, half,"),
+        ("a symmetry that doesn't fit", ["--image", "quarter", "--size", "9,7"], "a1", "quarter doesn't fit a board of 9 by 7"),
         ("no file", ["none.txt"], "", "none.txt cannot be read"),
         ("bytes", [], b"\x80\x81\x00", "which is no point"),
     ]
     for name, words, text, said in untaken:
         fails(f"position.py: {name}", "position.py", words, text, said)
+
+
+def turned():
+    """A position on each side of its board, as the program turns the table that has it; and by hand on a board of two sides."""
+    quarter = "renju-position 1\nrule freestyle\nsize 15\nblack 7,5 7,6 7,7\nwhite 14,0 14,2 14,4\n"
+    expect("position.py: --image quarter", run("position.py", ["--image", "quarter"], TEXT)[1], quarter)
+    for symmetry in ("identity", "half", "flip-x", "flip-y", "quarter", "three-quarter", "diagonal", "antidiagonal"):
+        done = subprocess.run([PROGRAM, "image", symmetry], input=TABLE.encode(), capture_output=True, timeout=SECONDS)
+        wanted = ["renju-position 1", *done.stdout.decode().splitlines()[1:5]]
+        expect(f"position.py: --image {symmetry}", run("position.py", ["--image", symmetry], TABLE)[1].splitlines(), wanted)
+    wide = "rule renju\nsize 9,7\nblack 1,0 8,6\nwhite 2,5\n"
+    for symmetry, black, white in [("flip-x", "7,0 0,6", "6,5"), ("flip-y", "8,0 1,6", "2,1"), ("half", "0,0 7,6", "6,1")]:
+        wanted = f"renju-position 1\nrule renju\nsize 9,7\nblack {black}\nwhite {white}\n"
+        expect(f"position.py: --image {symmetry} of 9 by 7", run("position.py", ["--image", symmetry], wide)[1], wanted)
 
 
 FOUR = "rule freestyle\nsize 15\nblack 4,7 5,7 6,7 7,7\nwhite 0,0 2,0 4,0\n"

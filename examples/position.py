@@ -2,12 +2,15 @@
 """Writes the one spelling of a position, from a file that the words name or from standard input, and says on standard error what
 was wrong with a text that isn't spelled so, and whose turn it is.
 
-    position.py [--rule RULE] [--size N or W,H] [--at X,Y] [FILE]
+    position.py [--rule RULE] [--size N or W,H] [--at X,Y] [--image SYMMETRY] [FILE]
 
 Without a FILE, or of -, it reads standard input. It takes a text whose stones stand in any order, with h8 as well as 7,7, with tabs,
 blank lines or carriage returns; a diagram of X, O and dots; and a game as a list of its moves, Black's first. Lines `rule RULE` and
 `size N` may stand before each. Without them the rule is freestyle, and the size that of the diagram, or 15. --at is the point of a
 smaller diagram's upper left corner.
+
+--image turns the position, as `renju image` turns a table: quarter is a quarter to the right, and flip-x changes left and right.
+SYMMETRY is one of identity, half, flip-x, flip-y, quarter, three-quarter, diagonal and antidiagonal.
 """
 import argparse
 import re
@@ -25,6 +28,18 @@ COLUMNS = re.compile(r"(?:columns?\s+)?(?:[a-zA-Z]{1,2}|\d+)(?:\s+(?:[a-zA-Z]{1,
 MOVE = re.compile(r"\(?(\d+)\s*,\s*(\d+)\)?|([a-zA-Z]{1,2}\d{1,2})(?!\d)")
 # A move, or the number that stands before one.
 NUMBERED = re.compile(rf"(?P<move>{MOVE.pattern})|\b\d+\s*[.:)](?!\d)")
+# Where a symmetry takes a point of a board whose last column and last row are given; the second four exchange columns and rows.
+IMAGES = {
+    "identity": lambda x, y, right, last: (x, y),
+    "half": lambda x, y, right, last: (right - x, last - y),
+    "flip-x": lambda x, y, right, last: (right - x, y),
+    "flip-y": lambda x, y, right, last: (x, last - y),
+    "quarter": lambda x, y, right, last: (last - y, x),
+    "three-quarter": lambda x, y, right, last: (y, right - x),
+    "diagonal": lambda x, y, right, last: (y, x),
+    "antidiagonal": lambda x, y, right, last: (last - y, right - x),
+}
+EXCHANGING = ("quarter", "three-quarter", "diagonal", "antidiagonal")
 
 
 class Draft:
@@ -202,6 +217,16 @@ def game_in(lines, rule=None, size=None):
     return board, [point_of(word, board) for word in draft.moves]
 
 
+def image(position, symmetry):
+    """The position on another side of its board."""
+    if symmetry not in IMAGES:
+        raise Wrong(f"{symmetry} is no symmetry: it is {', '.join(IMAGES)}")
+    if symmetry in EXCHANGING and position.width != position.height:
+        raise Wrong(f"{symmetry} doesn't fit a board of {position.width} by {position.height}: it exchanges columns and rows")
+    move = lambda point: IMAGES[symmetry](*point, position.width - 1, position.height - 1)
+    return Position(position.rule, position.width, position.height, *(list(map(move, getattr(position, side))) for side in SIDES))
+
+
 def wrong_with(data):
     """What is wrong with a text that is meant to be a position's one spelling, in words, or nothing."""
     try:
@@ -213,12 +238,14 @@ def wrong_with(data):
 def main():
     words = argparse.ArgumentParser(description=__doc__, formatter_class=argparse.RawDescriptionHelpFormatter)
     words.add_argument("--rule"), words.add_argument("--size"), words.add_argument("--at"), words.add_argument("file", nargs="?")
+    words.add_argument("--image", metavar="SYMMETRY", help="turn the position")
     given = words.parse_args()
     data = bytes_of(given.file)
     if b"renju-" in data:
         tell(f"position.py: {wrong_with(data) or 'the text is spelled as it has to be'}")
     options = (given.rule and rule_of(given.rule), given.size and size_of(given.size), given.at and corner_of(given.at))
     position = understood(data, *options)
+    position = image(position, given.image) if given.image else position
     tell(f"position.py: {position.to_move()}")
     sys.stdout.write(position.text())
 
