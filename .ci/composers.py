@@ -15,6 +15,7 @@ import tempfile
 from html import unescape
 from pathlib import Path
 
+from cases import CORNERS, FOUR_OF_BLACK, ONE_LEFT, SIX, THREE, TWO_LEFT, book, table
 from trying import EXAMPLES, PROGRAM, SECONDS, TABLE, TEXT, expect, fails, run, tried
 
 FOULS = (EXAMPLES / "allowed-double-three.txt").read_text()
@@ -208,6 +209,109 @@ def solutions():
     fails("solutions.py: a point that wins", "solutions.py", ["--after", "b4"], four, "1,3 .* wins at once")
     errors = run("solutions.py", ["--depth", "61"], SMALL)[2]
     expect("solutions.py: a depth out of range", errors.splitlines()[-1], re.compile(".*DEPTH is 1 to 60, and not 61"))
+
+
+THREE_THREES = ("renju", 15, "7,6 6,7 8,7 7,8", CORNERS)
+# White is to move, and Black makes five at either end of its four; 14,14 isn't listed.
+FOUR = ("freestyle", 15, "4,7 5,7 6,7 7,7", "0,0 2,0 4,0")
+FREE = [(x, y) for y in range(15) for x in range(15) if f"{x},{y}" not in f"{FOUR[2]} {FOUR[3]}".split()]
+ALL_BUT_ONE = "start only " + " ".join(f"{x},{y}>{1 if (x, y) == (8, 7) else 0}" for x, y in FREE[:-1])
+# Tables that are refused: the words of the program, what is said of them, the line of the text, and what a picture shows: how many of
+# the moves are played, and the points of the frame.
+REFUSED = [
+    (
+        "an attack on a stone", table(*THREE, 1, ["5,7 wins"]), "attack-refused 5,7",
+        ["At once the table plays 5,7, which is taken: a stone of Black's stands there"], "8 of the text: 5,7 wins", 0, [(5, 7)],
+    ),
+    (
+        "an attack on a reply", TABLE.replace(" 3,7>1", ""), "attack-refused 4,7 3,7 3,7",
+        ["After 4,7 3,7 the table plays 3,7, which is taken: a stone of White's stands there"], "8 of the text: 3,7 wins", 2, [(3, 7)],
+    ),
+    (
+        "an attack that fouls", table(*THREE_THREES, 1, ["7,7 wins"]), "attack-fouls 7,7",
+        [
+            "At once the table plays 7,7, which is a double-three, and so a foul",
+            "  a three in the row: 6,7 7,7 8,7, a straight four at 5,7 or 9,7", "  a three in the column: 7,6 7,7 7,8, a straight four at 7,5 or 7,9",
+        ], "8 of the text: 7,7 wins", 1, [],
+    ),
+    (
+        "an attack that draws", table(*ONE_LEFT, 1, ["4,4 wins"]), "attack-draws 4,4",
+        ["At once the table plays 4,4, which wins nothing and fills the board: a draw"], "8 of the text: 4,4 wins", 1, [(4, 4)],
+    ),
+    (
+        "six in a row under exact", table("exact", *SIX, 1, ["4,7 wins"]), "not-won 4,7",
+        ["At once the table says that 4,7 wins, but under exact it does not: it makes a run of 6 at most, 2,7 3,7 4,7 5,7 6,7 7,7"],
+        "8 of the text: 4,7 wins", 1, [(2, 7), (3, 7), (4, 7), (5, 7), (6, 7), (7, 7)],
+    ),
+    (
+        "a stone alone", table(*THREE, 1, ["14,14 wins"]), "not-won 14,14",
+        ["At once the table says that 14,14 wins, but under freestyle it does not: it makes no run"], "8 of the text: 14,14 wins", 1, [(14, 14)],
+    ),
+    (
+        "a reply that wins", table(*FOUR_OF_BLACK, 1, ["4,4 only"]), "reply-wins 4,4 4,0",
+        ["After 4,4 Black replies 4,0 and wins, with a run of 5: 0,0 1,0 2,0 3,0 4,0"], "8 of the text: 4,4 only", 2,
+        [(0, 0), (1, 0), (2, 0), (3, 0), (4, 0)],
+    ),
+    (
+        "a reply that draws", table(*TWO_LEFT, 1, ["3,4 only"]), "reply-draws 3,4 4,4",
+        ["After 3,4 Black replies 4,4, which fills the board: a draw"], "8 of the text: 3,4 only", 2, [(4, 4)],
+    ),
+    (
+        "a start without an answer", table(*FOUR, 1, ["8,7 wins", "3,7 wins"], ALL_BUT_ONE), "no-answer 14,14",
+        ["At once White replies 14,14, to which the table has no answer"], f"10 of the text: {ALL_BUT_ONE[:100]} ..", 1, [(14, 14)],
+    ),
+]
+
+
+def refusals():
+    """Why a table, a book or a text is refused, in words and as a picture."""
+    from boards import read
+
+    for name, text, told, said, line, played, framed in REFUSED:
+        wanted = "".join(f"{it}\n" for it in [f"refused {told}", *said, f"line {line}"])
+        with tempfile.TemporaryDirectory() as folder:
+            path = f"{folder}/w.svg"
+            expect(f"why.py: {name}", run("why.py", ["--picture", path], text), (4, wanted, ""))
+            drawn = Path(path).read_text()
+            expect(f"why.py: the picture of {name}", drawn, drawn_with(read(text.encode()).position, told.split()[1 : 1 + played], framed, said))
+            expect(f"why.py: {name}, drawn again", run("why.py", ["--picture", path], text)[0], 4)
+    with_names = "After e8 d8 the table plays d8, which is taken: a stone of White's stands there"
+    expect("why.py: --names", run("why.py", ["--names"], REFUSED[1][1])[1].splitlines()[1], with_names)
+    expect("why.py: a table that is accepted", run("why.py", [], TABLE), (0, "accepted in 2 moves, 219 arrivals\n", ""))
+    spent = "spent\nit has more than 218 arrivals: --arrivals allows more\n"
+    expect("why.py: too few arrivals", run("why.py", ["--arrivals", "218"], TABLE), (5, spent, ""))
+    two = book(["3,7 wins", "8,7 wins", "4,7 rest 0 3,7>1"], (THREE, 2, "root 2"), (THREE, 1, "root 1"))
+    missed = "At once the table says that 8,7 wins, but under freestyle it does not: it makes a run of 4 at most, 5,7 6,7 7,7 8,7"
+    wanted = f"entry 2 refused not-won 8,7\n{missed}\nline 4 of the text: 8,7 wins\n"
+    expect("why.py: an entry of a book", run("why.py", [], two), (4, wanted, ""))
+    lost = "entry 1 refused attack-refused 31,31\nAt once the table plays 31,31, which is off a board of 15 by 15, whose last point is 14,14\n"
+    expect("why.py: off the board of an entry", run("why.py", [], book(["31,31 wins"], (THREE, 1, "root 0")))[1], f"{lost}line 3 of the text: 31,31 wins\n")
+    unanswered = book(["3,7 wins", "8,7 wins"], ((*THREE[:2], "4,7 5,7 6,7 7,7", THREE[3]), 1, "start only 8,7>0"))
+    expect("why.py: a start of a book", run("why.py", [], unanswered)[1].splitlines()[-1], "line 11 of the text: start only 8,7>0")
+    for name, text, said in [
+        ("a line", TABLE.replace("8,7 wins", "8,7 win"), "refused line 9\nline 9: after its first word stands wins alone, rest and a node, or only\n"),
+        ("a position", TEXT, "refused line 1\nit is a position, and has no table; fours and solve of renju write one\n"),
+        ("other moves", TABLE.replace("moves 2", "moves 3"), "refused moves 3 2\nit says moves 3, but its longest game has 2 moves of the side that wins\n"),
+        ("other moves of an entry", two.replace("moves 1", "moves 2"), "entry 2 refused moves 2 1\nentry 2 says moves 2, but its longest game has 1 move of the side that wins\n"),
+        ("too many stones", TABLE.replace("0,0 2,0 4,0", "0,0"), "refused uneven 3 1\nBlack has 3 stones and White 1: Black has as many as White, or one more\n"),
+    ]:
+        expect(f"why.py: {name}", run("why.py", [], text), (3, said, ""))
+    # A program whose words don't fit the table is not believed.
+    with tempfile.TemporaryDirectory() as folder:
+        for said in ("attack-refused 4,7 3,7 8,7", "no-answer 4,7 3,7", "not-won 4,7", "reply-wins 4,7 3,7", "attack-fouls 4,7", "attack-draws 4,7", "reply-draws 4,7 0,14"):
+            Path(folder, "renju").write_text(f"#!/bin/sh\necho refused {said}\nexit 4\n")
+            Path(folder, "renju").chmod(0o755)
+            status, _, errors = run("why.py", [], TABLE, env={**os.environ, "RENJU": f"{folder}/renju"})
+            expect(f"why.py: a refusal that is none, {said}", (status, "it is not so that" in errors or "renju foul" in errors), (1, True))
+
+
+def drawn_with(position, moves, framed, said):
+    """The picture of moves with a frame and captions."""
+    from pictures import picture, words_of
+
+    words = ["--play", " ".join(moves)] if moves else []
+    words += ["--frame", " ".join(f"{x},{y}" for x, y in framed)] if framed else []
+    return picture(position, words_of([*words, *(word for line in said for word in ("--caption", line.strip()[0].upper() + line.strip()[1:]))]), "why -")
 
 
 def batches():
@@ -497,4 +601,4 @@ def plain():
 
 
 if __name__ == "__main__":
-    sys.exit(tried(fouls_explained, pictures_of_fouls, kept, books, solutions, batches, deepened, pages, players, plain))
+    sys.exit(tried(fouls_explained, pictures_of_fouls, kept, books, solutions, refusals, batches, deepened, pages, players, plain))

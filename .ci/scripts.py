@@ -242,6 +242,8 @@ def pictures():
         "pictures.py: marks", (scene(["--mark", "a=h1", "--mark", "cost=7,0"], TEXT).rings, scene(["--mark", "cost=7,0"], TEXT).costs),
         ({(7, 14): "a"}, [(7, 0)]),
     )
+    framed = scene(["--frame", "5,7 6,7 7,7", "--frame", "o1"], TEXT).framed
+    expect("pictures.py: frames", framed, [([(5, 7), (6, 7), (7, 7)], (1, 0)), ([(14, 14)], (0, 0))])
     expect(
         "pictures.py: words", [scene([], text).told() for text in (TEXT, TABLE, START)],
         [
@@ -264,6 +266,8 @@ def pictures():
         ("a mark off the board", ["--mark", "1=15,0", "-"], TEXT, "15,0 is no point of the board"),
         ("a move on a stone", ["--play", "0,0", "-"], TEXT, "a stone stands on 0,0"),
         ("a line of a position", ["--line", "-"], TEXT, "--line shows a line of a table"),
+        ("a frame that is bent", ["--frame", "0,0 1,0 1,1", "-"], TEXT, "--frame names a point, or points of one line"),
+        ("a frame around nothing", ["--frame", " ", "-"], TEXT, "--frame names a point, or points of one line"),
     ]:
         fails(f"pictures.py: {name}", "pictures.py", words, text, said)
     with tempfile.TemporaryDirectory() as folder:

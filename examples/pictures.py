@@ -1,7 +1,7 @@
 #!/usr/bin/env python3
 """Draws positions, tables and books as boards: NAME.svg beside each NAME.txt that the words name, NAME-N.svg of a book's entry N.
 
-    pictures.py [--out FILE] [--line | --play 'X,Y ..' | --why X,Y] [--mark SIGN=X,Y ..] [--entry N] FILE ..
+    pictures.py [--out FILE] [--line | --play 'X,Y ..' | --why X,Y] [--mark SIGN=X,Y ..] [--frame 'X,Y ..'] [--entry N] FILE ..
 
 Of - the text is read and the picture written. A file that is there is written over only where it is this script's picture of the
 same text. --write draws the pictures of this repository, and --check compares them with what is there.
@@ -11,7 +11,7 @@ small stones with this number; a ring with a star answers all other replies that
 table in place of them, as numbered stones, and --play the moves that are given. A cross is a foul of Black, who is to move, as the
 program tells it. A foul that ends a game, or that --why names, is explained: frames hold the stones of its run, its fours or its
 threes, and red dots are where five or a straight four is made. --mark SIGN=X,Y writes a sign into a ring, and --mark cost=X,Y
-marks a point at which a threat can be answered.
+marks a point at which a threat can be answered. --frame puts a red frame around a point, or around points of one line.
 """
 import argparse
 import sys
@@ -72,6 +72,7 @@ class Scene:
         self.crosses = [] if is_over else list(self.position.fouls())
         for mark in words.mark:
             self.mark(mark)
+        self.framed = [self.row(points(row, self.position)) for row in words.frame]
         self.captions = words.caption or self.told()
 
     def is_full(self):
@@ -126,6 +127,12 @@ class Scene:
         else:
             self.rings[point[0]] = sign
 
+    def row(self, found):
+        """Points of one line, and the way of it."""
+        if not found or not is_straight(found, step(found)):
+            raise Wrong("--frame names a point, or points of one line")
+        return found, step(found)
+
     def told(self):
         """Who is to move, or who wins in how many moves, and the rule."""
         won, rule = self.position.won_at(), f"under {self.position.rule}"
@@ -138,7 +145,6 @@ class Scene:
             first = [to_move] if self.table.start else []
             return [*first, f"{self.table.attacker().capitalize()} wins in {counted(self.table.moves)} {rule}"]
         return [f"{to_move} {rule}"]
-
 
     def verdict(self):
         """What is said of the point that is explained."""
@@ -163,6 +169,12 @@ class Scene:
 def step(run):
     """The way of a run."""
     return tuple((a > b) - (a < b) for a, b in zip(run[-1], run[0]))
+
+
+def is_straight(found, way):
+    """Whether points stand on one line in a way."""
+    (x, y) = found[0]
+    return all((a - x) * way[1] == (b - y) * way[0] for a, b in found)
 
 
 def at(point):
@@ -295,6 +307,7 @@ def picture(found, words, of=None):
     parts += [cross(point) for point in scene.crosses if point not in scene.rings]
     for row, way, free in scene.frames():
         parts += [frame(row, way), *map(filling, free)]
+    parts += [frame(row, way) for row, way in scene.framed]
     if scene.made and scene.made.kind and not scene.labels.get(scene.fouled):
         parts.append(cross(scene.fouled))
     for point, number in scene.replies.items():
@@ -320,6 +333,7 @@ def words_of(given):
     shows.add_argument("--why", default="", metavar="X,Y", help="why a point is a foul of Black, or none")
     words.add_argument("--caption", action="append", default=[], metavar="WORDS", help="words below the board, in place of its own")
     words.add_argument("--mark", action="append", default=[], metavar="SIGN=X,Y", help="a sign in a ring")
+    words.add_argument("--frame", action="append", default=[], metavar="'X,Y ..'", help="a frame around points of one line")
     return words.parse_args(given)
 
 
