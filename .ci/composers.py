@@ -15,7 +15,7 @@ import tempfile
 from html import unescape
 from pathlib import Path
 
-from cases import CORNERS, FOUR_OF_BLACK, ONE_LEFT, SIX, THREE, TWO_LEFT, book, table
+from cases import CORNERS, FOUR_OF_BLACK, ONE_LEFT, SIX, THREE, TWO_LEFT, book, position, table
 from trying import EXAMPLES, PROGRAM, SECONDS, TABLE, TEXT, expect, fails, run, tried
 
 FOULS = (EXAMPLES / "allowed-double-three.txt").read_text()
@@ -314,6 +314,59 @@ def drawn_with(position, moves, framed, said):
     return picture(position, words_of([*words, *(word for line in said for word in ("--caption", line.strip()[0].upper() + line.strip()[1:]))]), "why -")
 
 
+LINE_OF_SMALL = ["1,3", "5,3", "0,3"]
+TABLE_OF_SMALL = (
+    "renju-table 1\nrule freestyle\nsize 7\nblack 2,3 3,3 4,3\nwhite 0,0 6,0 0,6\nmoves 2\nnodes 3\n0,3 wins\n5,3 wins\n1,3 rest 0 0,3>1\n"
+)
+
+
+def solution_lines():
+    """Which attacks of a line win, where the line leaves what wins, and the table that follows it."""
+    head = "Black is to move: 3 black stones, 3 white stones\n"
+    line = lambda text, *words, **more: run("line.py", ["--depth", "2", "-", *words], text, **more)
+    won = "every attack wins; renju check says of their table: accepted in 2 moves, 43 arrivals\n"
+    first = "1. 1,3 (b4) wins within 2 moves, whatever the reply\n2. 5,3 (f4)\n"
+    expect("line.py: a line that wins", line(SMALL, *LINE_OF_SMALL), (0, f"{head}{first}3. 0,3 (a4) makes five\n{won}", ""))
+    expect("line.py: with numbers and names", line(SMALL, "1. b4", "f4 2. a4")[1], f"{head}{first}3. 0,3 (a4) makes five\n{won}")
+    expect("line.py: --names", line(SMALL, "--names", "b4")[1], f"{head}1. b4 wins within 2 moves, whatever the reply\n{won}")
+    with tempfile.TemporaryDirectory() as folder:
+        path = Path(folder, "t")
+        expect("line.py: --out", (line(SMALL, "--out", path, *LINE_OF_SMALL)[0], path.read_text()), (0, TABLE_OF_SMALL))
+        status, _, errors = line(SMALL, "--out", path, "b4")
+        expect("line.py: a file that is there", (status, "is there already" in errors, path.read_text()), (1, True, TABLE_OF_SMALL))
+        # Black plays another three first than the table of `solve` does, and its own table follows that line alone.
+        quiet, moves = EXAMPLES / "wins" / "quiet-three.txt", "5,3 4,4 6,2"
+        status, told, _ = run("line.py", ["--out", f"{folder}/q", quiet, *moves.split()])
+        wanted = ["1. 5,3 (f12) wins within 5 moves, whatever the reply", "2. 4,4 (e11)", "3. 6,2 (g13) wins within 4 moves, whatever the reply"]
+        expect("line.py: a line of threes", (status, told.splitlines()[1:4]), (0, wanted))
+        game = quiet.read_text().replace("position", "game") + f"moves {moves}\n"
+        for table_of, said in ((f"{folder}/q", "follows"), (EXAMPLES / "page" / "quiet-three.txt", "departs 1")):
+            done = subprocess.run([PROGRAM, "referee", table_of], input=game.encode(), capture_output=True, timeout=SECONDS)
+            expect(f"line.py: the table {said}", done.stdout.decode(), f"open 3\ntable {said}\n")
+    lost = "1. 1,3 (b4) fails: 5,3 (f4) holds; 5,3 (f4) wins in 2 moves\n2. 5,3 (f4)\nthe line leaves what wins at move 1\n"
+    expect("line.py: a reply holds", line(CLOSED, "1,3", "5,3"), (4, head + lost, ""))
+    late = f"{head}{first}3. 3,2 (d5) fails: it does not win, and no move is left of 2; 0,3 (a4) wins in 1 move\nthe line leaves what wins at move 3\n"
+    expect("line.py: the last attack is another", line(SMALL, "1,3", "5,3", "3,2"), (4, late, ""))
+    four = position("freestyle", 7, "2,3 3,3 4,3 6,6", "0,1 1,1 2,1 3,1")
+    expect("line.py: a reply wins", line(four, "3,5")[1].splitlines()[1].partition(";")[0], "1. 3,5 (d2) fails: 4,1 (e6) wins")
+    with tempfile.TemporaryDirectory() as folder:
+        Path(folder, "renju").write_text("#!/bin/sh\necho spent\nexit 5\n")
+        Path(folder, "renju").chmod(0o755)
+        wanted = (
+            "1. 1,3 (b4) is undecided: 5,3 (f4) undecided with 100,000; whether there is a win within 2 moves is undecided\n"
+            "the line leaves what wins at move 1\n"
+        )
+        expect("line.py: undecided", line(CLOSED, "1,3", env={**os.environ, "RENJU": f"{folder}/renju"}), (5, head + wanted, ""))
+    foul = run("line.py", ["--depth", "1", "-", "7,9"], FOULS)[1].splitlines()[1].partition(";")[0]
+    expect("line.py: an attack that fouls", foul, "1. 7,9 (h6) fails: it is a double-three")
+    for name, words, text, said in [
+        ("a move after the end", [*LINE_OF_SMALL, "6,6"], SMALL, "move 3 wins, and nothing comes after it"),
+        ("a stone", ["2,3"], SMALL, "a stone stands on 2,3"), ("no point", ["zz"], SMALL, "zz is no point of the board"),
+        ("more attacks than moves", [*LINE_OF_SMALL[:2], "3,2", "6,6", "6,5"], SMALL, "the line has 3 attacks, and --depth allows 2"),
+    ]:
+        fails(f"line.py: {name}", "line.py", ["--depth", "2", "-", *words], text, said)
+
+
 def batches():
     """One command over many texts, in their order, and what was done is kept."""
     with tempfile.TemporaryDirectory() as folder:
@@ -601,4 +654,4 @@ def plain():
 
 
 if __name__ == "__main__":
-    sys.exit(tried(fouls_explained, pictures_of_fouls, kept, books, solutions, refusals, batches, deepened, pages, players, plain))
+    sys.exit(tried(fouls_explained, pictures_of_fouls, kept, books, solutions, refusals, solution_lines, batches, deepened, pages, players, plain))
