@@ -8,8 +8,10 @@ tells who won from where on, who missed a win, and where the loser held for the 
 A FILE has games as examples/judge.py takes them: a manager's log, game texts, a record of Piskvork, or a list of moves. Of each game
 the last M moves of either side are asked, and those before them for as long as the winner has a win. What it says is what the
 program finds within D moves and N positions: `no win` is none by threats within these, and `undecided` that the positions were too
-few. --page writes a page with a picture of each game into a folder. --check compares the page and the pictures of examples/games,
-and --write writes them.
+few.
+
+--page writes a page with a picture of each game into a folder, over such a page and its pictures at most. --check compares the
+page and the pictures of examples/games, and --write writes them.
 """
 import argparse
 import os
@@ -21,8 +23,9 @@ from pathlib import Path
 
 sys.dont_write_bytecode = True
 
-from boards import PROGRAM, SIDES, TOP, Wrong, asked, named, number, other, read, saying, spelled
-from pictures import picture, words_of
+from boards import PROGRAM, SIDES, TOP, Wrong, asked, named, number, other, read, saying, spelled, tell
+from outputs import check, write
+from pictures import picture, shown, words_of
 from records import bytes_of, records_in
 
 HERE = TOP / "examples" / "games"
@@ -181,13 +184,20 @@ def games_of(file):
         yield Game(record)
 
 
-def section(story, picture_name):
+def picture_of(game):
+    """The name of the picture of a game, and what the picture says that it shows."""
+    return game.name.removesuffix(".txt").replace(" ", "-") + ".svg", f"games.py {game.name}"
+
+
+def section(story):
     """The part of a page that is about one game, and its picture or nothing."""
     game, first = story.game, story.won_from()
+    picture_name, of = picture_of(game)
     end = f"{game.winner.capitalize()} wins at move {len(game.positions) - 1}" if game.winner else f"`{game.verdict}`"
     parts, drawn = [f"## `{game.name}`: {end}"], None
     if first:
-        drawn = picture(game.positions[first - 1], words_of(["--play", " ".join(map(spelled, game.moves[first - 1 : len(game.positions) - 1]))]))
+        moves = " ".join(map(spelled, game.moves[first - 1 : len(game.positions) - 1]))
+        drawn = picture(game.positions[first - 1], words_of(["--play", moves]), of)
         parts.append(f'<img src="{picture_name}" width="480" alt="The board of {game.name}, with the moves from {first} on as stones numbered from 1">')
         parts.append(f"The numbered stones are the moves from {first} on.")
     parts.append("\n".join(f"- {line}." for line in story.lines()) or "- No win was found in its last moves.")
@@ -202,8 +212,8 @@ def page(head, stories):
     """A page, and its pictures by their names."""
     parts, pictures = [TITLE, head], {}
     for story in stories:
-        name = story.game.name.removesuffix(".txt").replace(" ", "-") + ".svg"
-        told, drawn = section(story, name)
+        name, _ = picture_of(story.game)
+        told, drawn = section(story)
         parts += told
         if drawn:
             if name in pictures:
@@ -238,38 +248,64 @@ def of_repository(pool, writes):
     return failed
 
 
+def is_page(there):
+    return there.startswith(f"{TITLE}\n")
+
+
+def is_picture(of):
+    """Whether what a file holds is the picture of a game, which may be drawn again."""
+    return lambda there: there.split("\n", 1)[0].endswith(f"{shown(of)}>")
+
+
+PAGE_HINT, PICTURE_HINT = "it is no page of games: name another folder", "it is no picture of this game: name another folder"
+
+
 def check_folder(folder):
     """A folder whose README.md is no page of games is left as it is."""
-    there = Path(folder, "README.md")
-    if there.exists() and not there.read_text(errors="replace").startswith(f"{TITLE}\n"):
-        raise Wrong(f"{there} is no page of games: name another folder")
     if Path(folder).exists() and not Path(folder).is_dir():
         raise Wrong(f"{folder} is no folder")
+    check(Path(folder, "README.md"), is_page, PAGE_HINT)
 
 
 def write_page(folder, stories):
     """Writes a page of a user's games."""
+    written = page(HEAD_OF_USER, stories)
     try:
         Path(folder).mkdir(parents=True, exist_ok=True)
-        for name, text in page(HEAD_OF_USER, stories).items():
-            Path(folder, name).write_text(text)
     except OSError as error:
         raise Wrong(f"{folder} cannot be written: {error.strerror}")
+    write(Path(folder, "README.md"), written.pop("README.md"), is_page, PAGE_HINT)
+    of = dict(picture_of(story.game) for story in stories)
+    for name, drawn in written.items():
+        write(Path(folder, name), drawn, is_picture(of[name]), PICTURE_HINT)
+
+
+def told_of(game, given, pool):
+    """Prints what is told of a game, and gives its story."""
+    if given.page:
+        # It is known before the long work whether its picture may be drawn.
+        name, of = picture_of(game)
+        check(Path(given.page, name), is_picture(of), PICTURE_HINT)
+    story = Story(game, Limits(given.depth, given.nodes), given.last, pool)
+    for line in [*story.comments(), *story.lines(), f"the referee says {game.verdict}"]:
+        print(f"{game.name}: {line}", flush=True)
+    return story
 
 
 def told(file, given, pool):
     """Prints what is told of the games of a file, and gives their stories. What is no game is told, and the others go on."""
-    limits, stories, failed = Limits(given.depth, given.nodes), [], 0
+    stories, wrongs = [], []
     try:
         for game in games_of(file):
-            story = Story(game, limits, given.last, pool)
-            stories.append(story)
-            for line in [*story.comments(), *story.lines(), f"the referee says {game.verdict}"]:
-                print(f"{game.name}: {line}", flush=True)
+            try:
+                stories.append(told_of(game, given, pool))
+            except Wrong as error:
+                wrongs.append(f"{game.name}: {error}")
+                tell(f"games.py: {wrongs[-1]}")
     except Wrong as error:
-        print(f"games.py: {file}: {error}", file=sys.stderr)
-        failed = 1
-    return stories, failed
+        wrongs.append(error)
+        tell(f"games.py: {file}: {error}")
+    return stories, 1 if wrongs else 0
 
 
 def words_given():

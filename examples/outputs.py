@@ -5,18 +5,24 @@ from pathlib import Path
 from boards import Wrong
 
 
+def check(path, is_ours=None, hint="name another file"):
+    """Refuses a file that is there already, unless `is_ours` says of what it holds that it may be written over."""
+    path = Path(path)
+    if path.is_dir():
+        raise Wrong(f"{path} is a folder; name a file")
+    if path.is_file() and not (is_ours and is_ours(path.read_text(errors="replace"))):
+        raise Wrong(f"{path} is there already, and is not written over: {hint}")
+
+
 def write(path, text, is_ours=None, hint="name another file"):
-    """Writes a text to a file. Where the file is there already, `is_ours` has to say of what it holds that it may be written over."""
+    """Writes a text to a file that may be written, as `check` has it."""
     path = Path(path)
     try:
-        if path.is_dir():
-            raise Wrong(f"{path} is a folder; name a file")
+        check(path, is_ours, hint)
         if path.exists() and not path.is_file():
             # A device, as /dev/stdout is.
             path.write_text(text)
             return
-        if path.exists() and not (is_ours and is_ours(path.read_text(errors="replace"))):
-            raise Wrong(f"{path} is there already, and is not written over: {hint}")
         replace(path, text)
     except OSError as error:
         raise Wrong(f"{path} cannot be written: {error.strerror}")
