@@ -157,6 +157,9 @@ def judgements():
         ("a rule and a size", [], f"rule exact\nsize 15\n{ROW_OF_FIVE}"), ("a record of Piskvork", ["--rule", "renju"], PSQ), ("the same with carriage returns", [], PSQ.replace("\n", "\r\n")),
     ]:
         expect(f"judge.py: {name}", run("judge.py", words, text), (0, "game: won black 9\n", ""))
+    listed = f"# two games\nrule renju\n3 {ROW_OF_FIVE}\n\n7,7 0,14\n"
+    expect("judge.py: a game a line", run("judge.py", ["--list"], listed), (0, "game 1: won black 9\ngame 2: open 2\n", ""))
+    expect("judge.py: a game a line, of another size", run("judge.py", ["--list", "--size", "9"], "1 a1 b2\n")[1], "game 1: open 2\n")
     text = "renju-game 1\nrule freestyle\nsize 15\nblack 7,7\nwhite 8,6\nmoves 0,0 1,0\n"
     expect("judge.py: a text after an opening", run("judge.py", ["--text", "--opening", "h8 i9"], "0,0 1,0"), (0, text, ""))
     expect("judge.py: game texts", run("judge.py", [], 2 * text), (0, "game 1: open 2\ngame 2: open 2\n", ""))
@@ -180,6 +183,7 @@ def judgements():
         ("no position", ["--from", "none.txt"], "h8", "none.txt cannot be read"), ("no rule", ["--rule", "caro"], "h8", "caro is no rule"),
         ("an opening that wins", ["--opening", ROW_OF_FIVE], "a9", "Black has won already"),
         ("a game text without moves", [], text.replace("moves 0,0 1,0\n", ""), "game 1: after its first line stand its rule"),
+        ("a line that is no game", ["--list"], "h8 i9\nh8 zz\n", "game 2: zz is no point of the board"),
         ("a game text with a slip", [], text.replace("0,0 1,0", "a1"), "game 1: a1 is written 0,14"),
     ]:
         fails(f"judge.py: {name}", "judge.py", words, said_of, said)
@@ -210,6 +214,10 @@ def commented():
         expect("games.py: a game that is open", story("o.txt", "h8 i9\n"), ["o.txt: the referee says open 2"])
         log = f"rule renju\nsize 15\ngame 1: {ROW_OF_FIVE}: black wins after 9 moves\ngame 2: {ROW_OF_SIX}: white wins after 11 moves\n"
         expect("games.py: a log", [line for line in story("l", log) if "referee" in line], ["l game 1: the referee says won black 9", "l game 2: the referee says foul overline 11"])
+        listed = (Path(folder, "all").write_text(f"5 {ROW_OF_FIVE}\nh8 i9\n"), run("games.py", [*ASKED, "--list", "--short", "--rule", "exact", "all"], cwd=folder))[1]
+        first = [line for line in lines if not line.startswith("before")]
+        wanted = "".join(f"all game {number}: {line}\n" for number, told in ((1, first), (2, ["the referee says open 2"])) for line in told)
+        expect("games.py: a game a line, in short", listed, (0, wanted, ""))
         status, output, errors = run("games.py", [*ASKED, "no", "g.txt"], cwd=folder)
         expect("games.py: a file that isn't there, and one after it", (status, output.splitlines()[-1], errors), (1, "g.txt: the referee says won black 9", "games.py: no: no cannot be read: No such file or directory\n"))
         Path(folder, "zz").write_text("zz")
@@ -221,6 +229,8 @@ def commented():
             '<img src="g.svg" width="480" alt="The board of g.txt, with the moves from 7 on as stones numbered from 1">', "- " + lines[6] + ".", "- " + lines[7] + ".",
             "## `o.txt`: `open 2`", "- No win was found in its last moves.",
         ])
+        table = "| Game | Its end | Won from move | A win was missed |\n|---|---|---|---|\n| `g.txt` | `won black 9` | 7 |  |\n| `o.txt` | `open 2` |  |  |\n"
+        expect("games.py: the games of a page", table in page, True)
         expect("games.py: its picture", Path(folder, "p", "g.svg").read_text().startswith("<svg"), True)
         expect("games.py: the page again", run("games.py", [*ASKED, "--page", "p", "o.txt"], cwd=folder)[0], 0)
         Path(folder, "p", "g.svg").write_text("<svg>mine</svg>\n")

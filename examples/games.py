@@ -2,13 +2,14 @@
 """Comments games: asks `fours` and `solve` at the last moves of both sides whether a win was there, has `check` accept each table, and
 tells who won from where on, who missed a win, and where the loser held for the last time.
 
-    games.py [--depth D] [--nodes N] [--last M] [--jobs J] [--page FOLDER] FILE ..
+    games.py [--depth D] [--nodes N] [--last M] [--jobs J] [--rule RULE] [--size N or W,H] [--list] [--short] [--page FOLDER] FILE ..
     games.py --check | --write
 
-A FILE has games as examples/judge.py takes them: a manager's log, game texts, a record of Piskvork, or a list of moves. Of each game
-the last M moves of either side are asked, and those before them for as long as the winner has a win. What it says is what the
-program finds within D moves and N positions: `no win` is none by threats within these, and `undecided` that the positions were too
-few.
+A FILE has games as examples/judge.py takes them: a manager's log, game texts, a record of Piskvork, the moves of a game, or with
+--list a game a line. --rule and --size go before those of the files. Of each game the last M moves of either side are asked, and
+those before them for as long as the winner has a win. What it says is what the program finds within D moves and N positions: `no
+win` is none by threats within these, and `undecided` that the positions were too few. --short leaves out what was found before
+each move.
 
 --page writes a page with a picture of each game into a folder, over such a page and its pictures at most. --check compares the
 page and the pictures of examples/games, and --write writes them.
@@ -26,6 +27,7 @@ sys.dont_write_bytecode = True
 from boards import PROGRAM, SIDES, TOP, Wrong, asked, named, number, other, read, saying, spelled, tell
 from outputs import check, write
 from pictures import picture, shown, words_of
+from position import rule_of, size_of
 from records import bytes_of, records_in
 
 HERE = TOP / "examples" / "games"
@@ -175,10 +177,10 @@ class Story:
             yield f"whether {loser} still held after move {first - 3} is undecided"
 
 
-def games_of(file):
+def games_of(file, *how):
     """The games of a file, each named by it."""
     path = Path(file)
-    records = records_in(bytes_of(file))
+    records = records_in(bytes_of(file), *how)
     for record in records:
         record.name = path.name if len(records) == 1 else f"{path.name} {record.name}"
         yield Game(record)
@@ -208,9 +210,18 @@ def section(story):
     return parts, drawn
 
 
+def summary(stories):
+    """A line for each game of a page: how it ended, from which move on it was won, and who missed a win at which moves."""
+    rows = ["| Game | Its end | Won from move | A win was missed |", "|---|---|---|---|"]
+    for story in stories:
+        missed = ", ".join(f"by {story.game.side(move).capitalize()} at {move}" for move in story.missed())
+        rows.append(f"| `{story.game.name}` | `{story.game.verdict}` | {story.won_from() or ''} | {missed} |")
+    return "\n".join(rows)
+
+
 def page(head, stories):
     """A page, and its pictures by their names."""
-    parts, pictures = [TITLE, head], {}
+    parts, pictures = [TITLE, head, *([summary(stories)] if stories[1:] else [])], {}
     for story in stories:
         name, _ = picture_of(story.game)
         told, drawn = section(story)
@@ -287,16 +298,17 @@ def told_of(game, given, pool):
         name, of = picture_of(game)
         check(Path(given.page, name), is_picture(of), PICTURE_HINT)
     story = Story(game, Limits(given.depth, given.nodes), given.last, pool)
-    for line in [*story.comments(), *story.lines(), f"the referee says {game.verdict}"]:
+    for line in [*([] if given.short else story.comments()), *story.lines(), f"the referee says {game.verdict}"]:
         print(f"{game.name}: {line}", flush=True)
     return story
 
 
 def told(file, given, pool):
     """Prints what is told of the games of a file, and gives their stories. What is no game is told, and the others go on."""
+    how = given.rule and rule_of(given.rule), given.size and size_of(given.size), "", None, given.list
     stories, wrongs = [], []
     try:
-        for game in games_of(file):
+        for game in games_of(file, *how):
             try:
                 stories.append(told_of(game, given, pool))
             except Wrong as error:
@@ -311,6 +323,9 @@ def told(file, given, pool):
 def words_given():
     words = argparse.ArgumentParser(description=__doc__, formatter_class=argparse.RawDescriptionHelpFormatter)
     words.add_argument("--check", action="store_true"), words.add_argument("--write", action="store_true")
+    words.add_argument("--rule", help="the rule of all games"), words.add_argument("--size", help="their size")
+    words.add_argument("--list", action="store_true", help="each line is a game")
+    words.add_argument("--short", action="store_true", help="the story alone")
     words.add_argument("--page", metavar="FOLDER"), words.add_argument("files", nargs="*", metavar="FILE")
     for name, value, most in (("depth", 8, MOST_DEPTH), ("nodes", 100_000, MOST_POSITIONS), ("last", 8, 1024), ("jobs", os.cpu_count() or 1, 1024)):
         words.add_argument(f"--{name}", default=str(value), type=lambda word, most=most, name=name: number(word, 1, most, f"the numbers of --{name}"))

@@ -2,11 +2,11 @@
 """Judges games: takes their moves from a manager's log or another record, writes each as a game text, and prints what
 `renju referee` says of it.
 
-    judge.py [--rule RULE] [--size N or W,H] [--opening 'X,Y ..'] [--from FILE] [--table FILE] [--text] [LOG]
+    judge.py [--rule RULE] [--size N or W,H] [--opening 'X,Y ..'] [--from FILE] [--table FILE] [--text] [--list] [LOG]
 
 LOG, or standard input, has the lines of examples/manager.py, as `game 1: h8 i9 g7: black wins after 3 moves`; or `renju-game`
 texts, one after the other; or a record of Piskvork (.psq), which doesn't tell its rule; or the moves of one game, as h8 or 7,7, with
-or without numbers, in one line or in many. Lines `rule RULE`, `size N` and `opening h8 i9` may stand before games; --rule, --size
+or without numbers, in one line or in many; or with --list many games, a game a line. Lines `rule RULE`, `size N` and `opening h8 i9` may stand before games; --rule, --size
 and --opening go before these. A game begins on the empty board, or at the position of --from (a text that examples/position.py
 takes, or a table), after the moves of the opening. With --table it is compared with the table in FILE. --text writes the game
 texts, and asks nobody.
@@ -51,12 +51,12 @@ def main():
     words = argparse.ArgumentParser(description=__doc__, formatter_class=argparse.RawDescriptionHelpFormatter)
     words.add_argument("--rule"), words.add_argument("--size"), words.add_argument("--opening", default="")
     words.add_argument("--from", dest="first"), words.add_argument("--table"), words.add_argument("--text", action="store_true")
-    words.add_argument("log", nargs="?")
+    words.add_argument("--list", action="store_true", help="each line is a game"), words.add_argument("log", nargs="?")
     given = words.parse_args()
     rule, size = given.rule and rule_of(given.rule), given.size and size_of(given.size)
     first = understood(bytes_of(given.first), rule, size) if given.first else None
     statuses = []
-    for record in records_in(bytes_of(given.log), rule, size, given.opening, first):
+    for record in records_in(bytes_of(given.log), rule, size, given.opening, first, given.list):
         if given.text:
             sys.stdout.write(record.text())
         else:

@@ -2,7 +2,7 @@
 
 A record is a log of examples/manager.py, one or many `renju-game` texts, a record of Piskvork (.psq), or the moves of one game as
 examples/position.py takes them. Lines `rule RULE` and `size N` may stand in a log or before moves, and a line `opening h8 i9` says
-with which moves the games after it begin.
+with which moves the games after it begin. A list of games has a game a line, whose moves a number alone may stand before.
 """
 import re
 import sys
@@ -21,6 +21,10 @@ END = re.compile(r"(?:(black|white) wins|a draw)(:.*)? after (\d+) moves", re.S)
 PISKVORK = re.compile(r"Piskvorky (\d+)x(\d+)\b.*")
 PISKVORK_MOVE = re.compile(r"(\d+),(\d+),-?\d+")
 GAME_HEAD = "renju-game 1"
+# The first words of lines that say something of the games after them.
+HEADS = ("rule", "size", "opening")
+# A number alone before the moves of a game: that of the game, or how many moves were its opening.
+ALONE = re.compile(r"^\d+\s+(?!,)")
 
 
 @dataclass
@@ -64,12 +68,14 @@ def bytes_of(path):
         raise Wrong(f"{path} cannot be read: {error.strerror}")
 
 
-def records_in(data, rule=None, size=None, opening="", first=None):
+def records_in(data, rule=None, size=None, opening="", first=None, is_list=False):
     """The games of a record. A rule, a size, an opening and a first position that are given go before those of the record."""
     text = data.decode("utf-8-sig", "replace")
     if text.startswith(GAME_HEAD):
         return list(of_texts(text))
     lines = [line.strip() for line in re.split(r"\r\n|\r|\n", text)]
+    if is_list:
+        return list(Log(rule, size, opening, first).games(lines))
     if lines and PISKVORK.fullmatch(lines[0]):
         return [of_piskvork(lines, rule, opening, first)]
     return Log(rule, size, opening, first).records(lines)
@@ -97,6 +103,19 @@ class Log:
         if found and moves:
             raise Wrong("moves stand outside the games of the log")
         return found or [Record("game", self.began(), moves)]
+
+    def games(self, lines):
+        """The records of a list of games, a game a line."""
+        count = 0
+        for line in lines:
+            if line.partition(" ")[0] in HEADS:
+                self.line(line)
+            elif line and not line.startswith("#"):
+                count += 1
+                try:
+                    yield Record(f"game {count}", self.began(), points(ALONE.sub("", line), self.board()))
+                except Wrong as error:
+                    raise Wrong(f"game {count}: {error}")
 
     def line(self, line):
         """The record of a line that has a game."""
