@@ -9,19 +9,19 @@ import random
 import re
 import shutil
 import signal
+import struct
 import subprocess
 import sys
 import tempfile
-from html import unescape
+import zlib
 from pathlib import Path
 
+import page_picture
 from cases import CORNERS, FOUR_OF_BLACK, ONE_LEFT, SIX, THREE, TWO_LEFT, book, position, table
 from trying import EXAMPLES, PROGRAM, SECONDS, TABLE, TEXT, expect, fails, run, tried
 
 FOULS = (EXAMPLES / "allowed-double-three.txt").read_text()
 BOOK = (EXAMPLES / "book.txt").read_text()
-# A browser may take its time to start.
-SECONDS_OF_BROWSER = 300
 
 
 def asked(words, text):
@@ -441,6 +441,20 @@ def deepened():
         expect("deepen.py: an interrupt", (run_of.returncode, told.decode(), b"interrupted" in errors), (0, TABLE, True))
 
 
+# A picture of two points in each of five rows, one of each way in which a row tells what differs, and the colours of its points.
+DOTS = struct.pack(">IIBBBBB", 2, 5, 8, 2, 0, 0, 0)
+FILTERED = bytes([
+    0, 10, 20, 30, 40, 50, 60,
+    1, 10, 20, 30, 1, 2, 3,
+    2, 1, 1, 1, 1, 1, 1,
+    3, 5, 5, 5, 5, 5, 5,
+    4, 1, 1, 1, 1, 1, 1,
+])
+COLOURS = [
+    "0a141e", "28323c", "0a141e", "0b1621", "0b151f", "0c1722", "0a0f14", "101820", "0b1015", "111921",
+]
+
+
 # What a page does in a browser: at each state that is given every point that can be clicked is clicked, and what is then shown is kept.
 CLICKS = """<script>
 const visited = STATES.map(([problem, line]) => {
@@ -470,8 +484,6 @@ document.body.innerHTML = "<pre id='told'></pre>";
 document.getElementById("told").textContent = JSON.stringify([told, judged, stepped]);
 </script>
 </body>"""
-BROWSERS = ("chromium", "chromium-browser", "google-chrome")
-
 
 def lines_to_nodes(table):
     """For each node that the first attack and listed replies lead to, one line of moves up to its attack."""
@@ -483,16 +495,6 @@ def lines_to_nodes(table):
             found[place] = [*line, node.attack]
             left += [(next_place, [*found[place], reply]) for reply, next_place in node.replies if reply not in found[place]]
     return found
-
-
-def shown_in(browser, page):
-    """What a browser has in the page once its scripts have run."""
-    with tempfile.TemporaryDirectory() as folder:
-        Path(folder, "page.html").write_text(page, encoding="utf-8")
-        words = ["--headless", "--no-sandbox", "--disable-gpu", "--disable-dev-shm-usage", f"--user-data-dir={folder}/user", "--dump-dom"]
-        done = subprocess.run([browser, *words, f"file://{folder}/page.html"], capture_output=True, timeout=SECONDS_OF_BROWSER)
-    found = re.search(r'<pre id="told">(.*?)</pre>', done.stdout.decode(), re.S)
-    return json.loads(unescape(found.group(1))) if found else None
 
 
 def wanted_click(table, position, node, line, point, fouls):
@@ -524,8 +526,7 @@ def pages():
         ]:
             fails_in(folder, f"page.py: {name}", words, said)
     expect("page.py: a page", (status, errors, re.findall(r"(?:src|href)=[^ >]*", page)), (0, "", []))
-    browser = next(filter(None, map(shutil.which, BROWSERS)), None)
-    if not browser:
+    if not page_picture.browser():
         print("chromium is missing here: the pages are not clicked")
         return
     tables, states, wanted = [read(TABLE.encode()), read(block.encode())], [], []
@@ -545,7 +546,7 @@ def pages():
         {"rule": it.rule, "width": it.width, "height": it.height, "black": at(it.black, it), "white": at(it.white, it)} for it in drawn
     ]
     clicks = CLICKS.replace("STATES", json.dumps(states)).replace("BOARDS", json.dumps(boards))
-    found = shown_in(browser, page.replace("</body>", clicks))
+    found = page_picture.told_in(page.replace("</body>", clicks))
     if not found:
         expect("page.py: the page in a browser", found, "what it shows")
         return
@@ -569,6 +570,24 @@ def clicked(table, position, node, line, shown):
         wanted_moves, wanted_words = wanted_click(table, position, node, line, point, fouls)
         got = (moves, words[: len(wanted_words)], address.partition(":")[2])
         expect(f"{name} {point}", got, (wanted_moves, wanted_words, ",".join(wanted_moves)))
+
+
+def page_is_shown():
+    """The picture of a page is that of the page as it is written now, and what a browser shows, where one with the same letters is here."""
+    dot = page_picture.SIGNATURE + b"".join(page_picture.chunk(*it) for it in [(b"IHDR", DOTS), (b"IDAT", zlib.compress(FILTERED)), (b"IEND", b"")])
+    expect("page_picture.py: a picture of four filters", [bytes(it).hex() for row in page_picture.rows_of(dot)[1] for it in row], COLOURS)
+    picture, page = page_picture.SHOWN.read_bytes(), page_picture.page()
+    said = page_picture.words_of(picture)
+    expect("shown.png: its page is another one by now, and .ci/page_picture.py draws it", said.get("page"), page_picture.identity(page))
+    if not page_picture.browser():
+        print("chromium is missing here: the picture of a page is not compared with it")
+        return
+    if json.loads(said.get("placed", "null")) != page_picture.placed(page):
+        print("chromium has letters of another size here: the picture of a page is not compared with it")
+        return
+    expect("shown.png: what the browser shows otherwise", page_picture.differing(picture, page_picture.screen(page)), [])
+    before = page_picture.differing(picture, page_picture.screen(page, page_picture.LINE.rpartition(",")[0]))
+    expect("shown.png: a move less differs", len(before) > 2, True)
 
 
 def fails_in(folder, name, words, said):
@@ -654,4 +673,4 @@ def plain():
 
 
 if __name__ == "__main__":
-    sys.exit(tried(fouls_explained, pictures_of_fouls, kept, books, solutions, refusals, solution_lines, batches, deepened, pages, players, plain))
+    sys.exit(tried(fouls_explained, pictures_of_fouls, kept, books, solutions, refusals, solution_lines, batches, deepened, pages, page_is_shown, players, plain))
