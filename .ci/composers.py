@@ -193,6 +193,11 @@ def solutions():
     against = "for 2 moves, against fours and threats with 1,000"
     holds = f"{head}after 0,3 (a4) 1 reply holds {against}: 1,3 (b4)\nundecided: none\n41 of 42 replies lose\n"
     expect("solutions.py: a reply holds", tried(SMALL, "--after", "a4"), (4, holds, ""))
+    # Two stones and a third have no five to make.
+    free = [(x, y) for y in range(7) for x in range(7) if (x, y) not in [(0, 0), (6, 0), (2, 3), (3, 3), (0, 6)]]
+    named = " ".join(f"{x},{y} ({'abcdefg'[x]}{7 - y})" for x, y in free[:20])
+    many = tried(SMALL.replace(" 4,3", "").replace(" 0,6", ""), "--after", "a1")[1].splitlines()[1]
+    expect("solutions.py: many replies hold", many, f"after 0,6 (a1) 44 replies hold {against}: {named} and 24 more")
     lose = f"{head}after 1,3 (b4) 0 replies hold {against}: none\nundecided: none\n42 of 42 replies lose\n"
     expect("solutions.py: no reply holds", tried(SMALL, "--after", "1,3"), (0, lose, ""))
     with tempfile.TemporaryDirectory() as folder:

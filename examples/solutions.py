@@ -32,6 +32,8 @@ from solving import DEPTHS, NODES, NONE, Clock, add_jobs, each, found, ranged
 WINS, FAILS, UNDECIDED = "wins", "fails", "undecided"
 # How many replies that refuted other moves are tried first, and how many undecided replies leave a move undecided.
 HABITS, PATIENCE = 4, 8
+# How many points are listed.
+MOST_LISTED = 20
 
 
 @dataclass
@@ -150,7 +152,9 @@ def both(point, position):
 
 
 def all_of(some, position):
-    return " ".join(both(point, position) for point in some) or "none"
+    """The points of a list, or the first of them where they are many."""
+    more = f" and {len(some) - MOST_LISTED} more" if len(some) > MOST_LISTED else ""
+    return (" ".join(both(point, position) for point in some[:MOST_LISTED]) or "none") + more
 
 
 def first_moves(own, given):
