@@ -183,6 +183,7 @@ def judgements():
         ("no position", ["--from", "none.txt"], "h8", "none.txt cannot be read"), ("no rule", ["--rule", "caro"], "h8", "caro is no rule"),
         ("an opening that wins", ["--opening", ROW_OF_FIVE], "a9", "Black has won already"),
         ("a game text without moves", [], text.replace("moves 0,0 1,0\n", ""), "game 1: after its first line stand its rule"),
+        ("a list of games", [], "2 h8 i9\n2 h8 i9\n", "stands '2', which is no point, as h8 or 7,7 is; where each line is a game, --list says so"),
         ("a line that is no game", ["--list"], "h8 i9\nh8 zz\n", "game 2: zz is no point of the board"),
         ("a game text with a slip", [], text.replace("0,0 1,0", "a1"), "game 1: a1 is written 0,14"),
     ]:

@@ -99,7 +99,10 @@ class Log:
 
     def records(self, lines):
         found = [record for record in map(self.line, lines) if record]
-        board, moves = game_in(self.others, self.rule, self.size)
+        try:
+            board, moves = game_in(self.others, self.rule, self.size)
+        except Wrong as error:
+            raise Wrong(f"{error}; where each line is a game, --list says so" if len(lines) > 2 and not found else error)
         if found and moves:
             raise Wrong("moves stand outside the games of the log")
         return found or [Record("game", self.began(), moves)]
