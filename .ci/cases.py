@@ -1179,6 +1179,9 @@ def over_documents(program, failed):
 
 
 def main():
+    if {"-h", "--help"} & {*sys.argv[1:]}:
+        print(f".ci/cases.py [PROGRAM ..]\n\n{__doc__.strip()}")
+        return 0
     programs = [Path(word).resolve() for word in sys.argv[1:]] or [BUILT / "renju", BUILT / "renju.by-rattle"]
     failed = []
     over_lists(failed)

@@ -649,16 +649,23 @@ def players():
 # The scripts that take a text, with the words before its file.
 TAKERS = {
     "books.py": ["--list"], "deepen.py": [], "foul.py": [], "many.py": ["foul"], "page.py": [], "pictures.py": [], "play.py": [],
-    "position.py": [], "solutions.py": [], "tree.py": [],
+    "position.py": [], "solutions.py": [], "tree.py": [], "why.py": [], "line.py": [],
 }
 
 
 def plain():
     """That each script tells what it is, and says in a line what is wrong with a file, an output or the program."""
+    for path in sorted(EXAMPLES.glob("*.py")):
+        if os.access(path, os.X_OK):
+            status, output, errors = run(path.name, ["--help"])
+            expect(f"{path.name}: --help", (status, output[:6], errors), (0, "usage:", ""))
+    for path in [*sorted(EXAMPLES.parent.glob("docs/*.py")), *sorted(EXAMPLES.parent.glob(".ci/*.py"))]:
+        if os.access(path, os.X_OK):
+            done = subprocess.run([path, "--help"], capture_output=True, stdin=subprocess.DEVNULL, timeout=SECONDS)
+            said = path.read_text().split('"""')[1].splitlines()[0]
+            expect(f"{path.name}: --help", (done.returncode, said in done.stdout.decode(), done.stderr), (0, True, b""))
     for script, words in TAKERS.items():
-        status, output, errors = run(script, ["--help"])
-        expect(f"{script}: --help", (status, output[:6], errors), (0, "usage:", ""))
-        status, output, errors = run(script, [*words, EXAMPLES])
+        status, output, errors = run(script, [*words, EXAMPLES, *(["h8"] if script == "line.py" else [])])
         said = re.compile(rf"1 ({re.escape(script)}: )?{re.escape(str(EXAMPLES))} cannot be read: Is a directory\n")
         expect(f"{script}: a folder", f"{status} {output}{errors}", said)
     for path in sorted((EXAMPLES.parent / "bench").iterdir()):

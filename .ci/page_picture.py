@@ -66,7 +66,10 @@ def told_in(page, address=""):
 
 def page():
     """The page of the picture."""
-    return run("page.py", ["--title", TITLE, *(EXAMPLES / name for name in TABLES)])[1]
+    status, text, errors = run("page.py", ["--title", TITLE, *(EXAMPLES / name for name in TABLES)])
+    if status:
+        sys.exit(f"FAILED page_picture.py: there is no page: {errors}")
+    return text
 
 
 def placed(page):

@@ -1,7 +1,7 @@
 """What the tests of scripts and documents share: how a script or a launcher is run, and how what it does is compared.
 
 A test script is a list of groups, and `tried` runs them: what fails is printed, each in a line that begins with FAILED. Its first word
-names the program that the scripts use; without a word it is the one that `rt ci` leaves.
+names the program that the scripts use; without a word it is the one that `rt ci` leaves. With --help it tells what it is.
 """
 import os
 import re
@@ -15,6 +15,11 @@ sys.dont_write_bytecode = True
 TOP = Path(__file__).resolve().parent.parent
 EXAMPLES = TOP / "examples"
 PROGRAM = os.path.abspath(sys.argv[1] if sys.argv[1:] else TOP / "crates" / "renju" / "out" / "renju")
+if {"-h", "--help"} & {*sys.argv[1:]}:
+    print(f".ci/{Path(sys.argv[0]).name} [PROGRAM]\n\n{sys.modules['__main__'].__doc__.strip()}")
+    sys.exit(0)
+if not os.access(PROGRAM, os.X_OK):
+    sys.exit(f"FAILED {Path(sys.argv[0]).name}: there is no program {PROGRAM}")
 SECONDS = 300
 os.environ["RENJU"] = PROGRAM
 sys.path.insert(0, str(EXAMPLES))

@@ -51,6 +51,9 @@ def lost(repository, text):
 
 
 def main():
+    if {"-h", "--help"} & {*sys.argv[1:]}:
+        print(__doc__.strip())
+        return 0
     text = DOCUMENT.read_text()
     said = re.findall(r"^Caller: `(\w+)`; test: `(\w+)`\.$", text, re.M)
     try:

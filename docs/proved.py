@@ -112,6 +112,9 @@ def written(text):
 
 
 def main():
+    if {"-h", "--help"} & {*sys.argv[1:]}:
+        print(__doc__.strip())
+        return 0
     text = DOCUMENT.read_text()
     wanted = written(text)
     if sys.argv[1:] == ["--write"]:

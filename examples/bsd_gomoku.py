@@ -6,6 +6,7 @@
 It plays freestyle on 19 by 19 alone. The game draws its board on a terminal, so it is run on one of its own, a VT52, and its moves
 are read off the board. It may think for longer than a manager waits. GOMOKU in the environment names another place of it.
 """
+import argparse
 import os
 import pty
 import re
@@ -203,6 +204,7 @@ class Brain:
 
 
 def main():
+    argparse.ArgumentParser(description=__doc__, formatter_class=argparse.RawDescriptionHelpFormatter).parse_args()
     program = shutil.which(os.environ.get("GOMOKU", "gomoku"), path=f"{os.environ.get('PATH', '')}:/usr/games")
     if not program:
         sys.exit("bsd_gomoku.py: there is no program gomoku; Debian's package bsdgames has it")
