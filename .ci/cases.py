@@ -454,7 +454,7 @@ def images():
 
 # Each symmetry with the one that undoes it.
 INVERSES = {word: word for word in ("identity", "half", "flip-x", "flip-y", "diagonal", "antidiagonal")}
-INVERSES |= {"quarter": "three-quarter", "three-quarter": "quarter"}
+INVERSES.update({"quarter": "three-quarter", "three-quarter": "quarter"})
 
 
 def defends():
@@ -1134,11 +1134,11 @@ def blocks_of(document):
 
 def forms_of(usage):
     """The forms of words that a usage line tells, in its order. Where a form has words in brackets, that without them comes first."""
-    for form in usage.removeprefix("usage: renju ").rstrip("\n").split(", "):
+    for form in usage[len("usage: renju ") :].rstrip("\n").split(", "):
         short, bracket, more = form.partition(" [")
         yield short
         if bracket:
-            yield f"{short} {more.removesuffix(']')}"
+            yield f"{short} {more.rstrip(']')}"
 
 
 def over_lists(failed):

@@ -16,6 +16,7 @@ page and the pictures of examples/games, and --write writes them.
 """
 import argparse
 import os
+import re
 import subprocess
 import sys
 from concurrent.futures import ThreadPoolExecutor
@@ -188,7 +189,7 @@ def games_of(file, *how):
 
 def picture_of(game):
     """The name of the picture of a game, and what the picture says that it shows."""
-    return game.name.removesuffix(".txt").replace(" ", "-") + ".svg", f"games.py {game.name}"
+    return re.sub(r"\.txt$", "", game.name).replace(" ", "-") + ".svg", f"games.py {game.name}"
 
 
 def section(story):
