@@ -525,7 +525,7 @@ def pages():
             Path(folder, name).write_text(text)
         status, page, errors = run("page.py", ["two", "block"], cwd=folder)
         for name, words, said in [
-            ("a table that isn't accepted", ["no"], "no: renju check says refused attack-refused 4,7 3,7 3,7"),
+            ("a table that isn't accepted", ["no"], "no: renju check says refused attack-refused 4,7 3,7 3,7; examples/why.py tells why"),
             ("a position", ["p"], "the text is a position, and has no table"),
             ("a file that is there", ["--out", "p", "two"], "p is there already, and is not written over: it is no page of this script"),
         ]:

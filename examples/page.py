@@ -24,6 +24,7 @@ from solving import ranged
 
 PARTS = Path(__file__).resolve().parent / "page"
 MOST_ARRIVALS = 1_000_000_000_000
+TABLE_REFUSED = 4
 MADE_BY = '<meta name="generator" content="renju page.py">'
 PAGE = """<!DOCTYPE html>
 <html lang="en">
@@ -74,7 +75,8 @@ def accepted(name, table, arrivals):
     """What `check` says of a table, which it has to accept."""
     told, status = answered(["check", arrivals], table.text())
     if status != 0:
-        raise Wrong(f"{name}: renju check says {told.strip() or f'nothing, and status {status}'}")
+        why = "; examples/why.py tells why" if status == TABLE_REFUSED else ""
+        raise Wrong(f"{name}: renju check says {told.strip() or f'nothing, and status {status}'}{why}")
     return told.strip()
 
 
