@@ -17,7 +17,7 @@ import zlib
 from pathlib import Path
 
 import page_picture
-from cases import CORNERS, FOUR_OF_BLACK, ONE_LEFT, SIX, THREE, TWO_LEFT, book, position, table
+from cases import CORNERS, FOUR_OF_BLACK, ONE_LEFT, SIX, THREE, TWO_LEFT, book, deepest_table, position, table
 from trying import EXAMPLES, PROGRAM, SECONDS, TABLE, TEXT, expect, fails, run, tried
 
 FOULS = (EXAMPLES / "allowed-double-three.txt").read_text()
@@ -282,6 +282,8 @@ def refusals():
             expect(f"why.py: {name}, drawn again", run("why.py", ["--picture", path], text)[0], 4)
     with_names = "After e8 d8 the table plays d8, which is taken: a stone of White's stands there"
     expect("why.py: --names", run("why.py", ["--names"], REFUSED[1][1])[1].splitlines()[1], with_names)
+    deep = re.compile(r"After 1,022 moves, the last 12 of them( \d+,\d+){12}, the table says that 30,31 wins, but under freestyle it does not: .*")
+    expect("why.py: very many moves", run("why.py", [], deepest_table())[1].splitlines()[1], deep)
     expect("why.py: a table that is accepted", run("why.py", [], TABLE), (0, "accepted in 2 moves, 219 arrivals\n", ""))
     spent = "spent\nit has more than 218 arrivals: --arrivals allows more\n"
     expect("why.py: too few arrivals", run("why.py", ["--arrivals", "218"], TABLE), (5, spent, ""))

@@ -10,7 +10,7 @@ each of them a table of `renju fours` or `renju solve` with N; it fails where `s
 or ends the game; and else it is undecided. So a move that fails may still win in more moves, or by moves that threaten less. Of each
 move that wins it is told in how many moves, with D lowered until there is none, and whether by fours alone.
 
---after tells of one first move which replies hold, which are undecided, and how many lose. --picture draws the board with the moves
+--after tells of one first move which replies hold, or the first 20 of them, which are undecided, and how many lose. --picture draws the board with the moves
 that are told as rings: the winning ones numbered as in the list, undecided ones as ?, and replies that hold as a star.
 
 The status is 0 where one first move alone wins and none is undecided, 4 where more win, 9 where none wins, and 5 where it is undecided;

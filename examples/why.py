@@ -141,7 +141,7 @@ def before(moves, tell):
         return "at once "
     *moves, _ = moves
     if len(moves) > MOST_NAMED:
-        return f"after {len(moves):,} moves, the last of them {tell(moves[-MOST_NAMED:])}, "
+        return f"after {len(moves):,} moves, the last {MOST_NAMED} of them {tell(moves[-MOST_NAMED:])}, "
     return f"after {tell(moves)} "
 
 
