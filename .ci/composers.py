@@ -230,7 +230,7 @@ REFUSED = [
     ),
     (
         "an attack on a reply", TABLE.replace(" 3,7>1", ""), "attack-refused 4,7 3,7 3,7",
-        ["After 4,7 3,7 the table plays 3,7, which is taken: a stone of White's stands there"], "8 of the text: 3,7 wins", 2, [(3, 7)],
+        ["After 4,7 and 3,7 the table plays 3,7, which is taken: a stone of White's stands there"], "8 of the text: 3,7 wins", 2, [(3, 7)],
     ),
     (
         "an attack that fouls", table(*THREE_THREES, 1, ["7,7 wins"]), "attack-fouls 7,7",
@@ -280,7 +280,7 @@ def refusals():
             drawn = Path(path).read_text()
             expect(f"why.py: the picture of {name}", drawn, drawn_with(read(text.encode()).position, told.split()[1 : 1 + played], framed, said))
             expect(f"why.py: {name}, drawn again", run("why.py", ["--picture", path], text)[0], 4)
-    with_names = "After e8 d8 the table plays d8, which is taken: a stone of White's stands there"
+    with_names = "After e8 and d8 the table plays d8, which is taken: a stone of White's stands there"
     expect("why.py: --names", run("why.py", ["--names"], REFUSED[1][1])[1].splitlines()[1], with_names)
     deep = re.compile(r"After 1,022 moves, the last 12 of them( \d+,\d+){12}, the table says that 30,31 wins, but under freestyle it does not: .*")
     expect("why.py: very many moves", run("why.py", [], deepest_table())[1].splitlines()[1], deep)

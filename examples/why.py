@@ -142,7 +142,8 @@ def before(moves, tell):
     *moves, _ = moves
     if len(moves) > MOST_NAMED:
         return f"after {len(moves):,} moves, the last {MOST_NAMED} of them {tell(moves[-MOST_NAMED:])}, "
-    return f"after {tell(moves)} "
+    *names, last = [tell([move]) for move in moves]
+    return f"after {' '.join(names)} and {last} " if names else f"after {last} "
 
 
 def entry_of(book, number):
