@@ -144,6 +144,24 @@ def built():
         expect("renju: nothing is left beside the history", [*(top / ".git").iterdir(), *kept.iterdir()], [])
 
 
+def asked_itself():
+    """A script has the launcher run the program once, and then asks the program itself."""
+    with small_repository() as top:
+        shutil.copytree(TOP / "examples", top / "examples")
+        program = top / "crates" / "renju" / "out" / "renju"
+        shutil.copy(PROGRAM, program)
+        (top / "renju").write_text(f"#!/bin/sh\necho launched >>'{top}/log'\n[ -e '{top}/built' ] || exit 70\nexec '{program}' \"$@\"\n")
+        env = {name: value for name, value in os.environ.items() if name != "RENJU"}
+        words, text = [top / "examples" / "solutions.py", "--depth", "2", "--jobs", "1"], (TOP / "examples" / "three-in-a-row.txt").read_bytes()
+        ask = lambda: subprocess.run(words, input=text, capture_output=True, env=env, timeout=SECONDS)
+        expect("solutions.py: no program", (ask().returncode, {*(top / "log").read_text().split()}), (1, {"launched"}))
+        (top / "built").write_text("")
+        (top / "log").unlink()
+        done = ask()
+        two = "2 of 219 first moves win within 2 moves" in done.stdout.decode()
+        expect("solutions.py: the launcher runs once", (done.returncode, two, (top / "log").read_text()), (4, True, "launched\n"))
+
+
 def unbuilt():
     """Without a toolchain the program that is there runs; and a build that fails says which crates did and why."""
     with small_repository() as top, builder() as (env, _):
@@ -270,4 +288,4 @@ def examples():
 
 
 if __name__ == "__main__":
-    sys.exit(tried(unproved, first_command, built, unbuilt, interrupted, helped, bounds, examples))
+    sys.exit(tried(unproved, first_command, built, asked_itself, unbuilt, interrupted, helped, bounds, examples))

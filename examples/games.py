@@ -17,7 +17,6 @@ page and the pictures of examples/games, and --write writes them.
 import argparse
 import os
 import re
-import subprocess
 import sys
 from concurrent.futures import ThreadPoolExecutor
 from dataclasses import dataclass
@@ -25,7 +24,7 @@ from pathlib import Path
 
 sys.dont_write_bytecode = True
 
-from boards import PROGRAM, SIDES, TOP, Wrong, asked, named, number, other, read, saying, spelled, tell
+from boards import SIDES, TOP, Wrong, answered, asked, named, number, other, read, saying, spelled, tell
 from outputs import check, write
 from pictures import picture, shown, words_of
 from position import rule_of, size_of
@@ -92,13 +91,13 @@ class Game:
 
 def solved(command, position, depth, nodes):
     """The number of moves of a win that is found and accepted, or the status of the program."""
-    done = subprocess.run([PROGRAM, command, str(depth), str(nodes)], input=position.text().encode(), stdout=subprocess.PIPE)
-    if done.returncode in (SPENT, NONE):
-        return None, done.returncode
-    if done.returncode != 0:
-        raise Wrong(f"{command} ended with status {done.returncode}: {done.stdout.decode().strip()}")
-    moves = read(done.stdout).moves
-    told = subprocess.run([PROGRAM, "check", str(MOST_ARRIVALS)], input=done.stdout, stdout=subprocess.PIPE).stdout.decode()
+    table, status = answered([command, depth, nodes], position.text())
+    if status in (SPENT, NONE):
+        return None, status
+    if status != 0:
+        raise Wrong(f"{command} ended with status {status}: {table.strip()}")
+    moves = read(table.encode()).moves
+    told, _ = answered(["check", MOST_ARRIVALS], table)
     if not told.startswith(f"accepted in {moves} moves, "):
         raise Wrong(f"the table of a win within {moves} moves is not accepted: {told.strip()}")
     return moves, 0
