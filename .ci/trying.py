@@ -5,6 +5,7 @@ names the program that the scripts use; without a word it is the one that `rt ci
 """
 import os
 import re
+import signal
 import subprocess
 import sys
 import tempfile
@@ -28,6 +29,8 @@ TEXT = "renju-position 1\nrule freestyle\nsize 15\nblack 5,7 6,7 7,7\nwhite 0,0 
 TABLE = (EXAMPLES / "two-move-win.txt").read_text()
 
 failed = []
+# Where the tests run in the background interrupts may be ignored, and would be by all that they start.
+signal.signal(signal.SIGINT, signal.default_int_handler)
 
 
 def expect(name, got, wanted):
