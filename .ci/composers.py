@@ -446,6 +446,12 @@ def deepened():
         run_of.send_signal(signal.SIGINT)
         told, errors = run_of.communicate(timeout=SECONDS)
         expect("deepen.py: an interrupt", (run_of.returncode, told.decode(), b"interrupted" in errors), (0, TABLE, True))
+        Path(folder, "slow").write_text(SLOW.format(EXAMPLES / "two-move-win.txt").replace("exec sleep 60", "exit 6"))
+        status, told, errors = run("deepen.py", ["--nodes", "100000", EXAMPLES / "three-in-a-row.txt"], env=env)
+        is_said = "a win in 2" in errors and "ended with status 6: it printed nothing" in errors
+        expect("deepen.py: a run that fails after a win", (status, told, is_said), (0, TABLE, True))
+        Path(folder, "slow").write_text("#!/bin/sh\nexit 6\n")
+        expect("deepen.py: a run that fails", run("deepen.py", [quiet], env=env)[0], 1)
 
 
 # A picture of two points in each of five rows, one of each way in which a row tells what differs, and the colours of its points.

@@ -116,15 +116,17 @@ def main():
         claim(given.out)
     tell(position.to_move())
     search = Search(position, given.depth, given.minutes, given.out)
+    is_wrong = False
     try:
         why = search.run(given.nodes)
-    except (Over, KeyboardInterrupt) as ended:
-        why = "the time is over" if isinstance(ended, Over) else "interrupted"
+    except (Over, KeyboardInterrupt, Wrong) as ended:
+        # What was found is told, whatever ended the search.
+        is_wrong, why = isinstance(ended, Wrong), {Over: "the time is over", KeyboardInterrupt: "interrupted"}.get(type(ended)) or str(ended)
         end_runs()
     tell(f"{told(search)}; {why}, {search.seconds()}")
     if search.best and not given.out:
         sys.stdout.write(search.best.text())
-    return 0 if search.best else 9 if search.none == search.depth else 5
+    return 0 if search.best else 1 if is_wrong else 9 if search.none == search.depth else 5
 
 
 if __name__ == "__main__":
