@@ -310,6 +310,10 @@ def refusals():
             Path(folder, "renju").chmod(0o755)
             status, _, errors = run("why.py", [], TABLE, env={**os.environ, "RENJU": f"{folder}/renju"})
             expect(f"why.py: a refusal that is none, {said}", (status, "it is not so that" in errors or "renju foul" in errors), (1, True))
+        for words, text in (("refused as-it-is 4,7", TABLE), ("entry 1 refused not-won 4,7", TABLE), ("refused not-won 4,7", TEXT), ("refused not-won 4,7", two)):
+            Path(folder, "renju").write_text(f"#!/bin/sh\necho {words}\nexit 4\n")
+            said = f"why.py: the program says {words}, which is no refusal of this text\n"
+            expect(f"why.py: other words, {words}", run("why.py", [], text, env={**os.environ, "RENJU": f"{folder}/renju"})[::2], (1, said))
 
 
 def drawn_with(position, moves, framed, said):

@@ -19,7 +19,7 @@ from pathlib import Path
 
 sys.dont_write_bytecode = True
 
-from boards import WAYS, Position, Table, Wrong, answered, bytes_of, counted, named, other, read, run_through, saying, spelled
+from boards import WAYS, Book, Position, Table, Wrong, answered, bytes_of, counted, named, other, read, run_through, saying, spelled
 from foul import an, explained, reasons
 from outputs import write
 from pictures import picture, shown, words_of
@@ -28,7 +28,8 @@ from solving import ranged
 MOST_ARRIVALS = 1_000_000_000_000
 TEXT_REFUSED, TABLE_REFUSED, SPENT = 3, 4, 5
 # What the program says of a table or an entry that it does not accept, and of one whose number of moves is another.
-REFUSED = re.compile(r"(?:entry (\d+) )?refused ([a-z]+-[a-z]+)((?: \d+,\d+)+)")
+KINDS = ("attack-refused", "attack-fouls", "attack-draws", "not-won", "reply-wins", "reply-draws", "no-answer")
+REFUSED = re.compile(rf"(?:entry (\d+) )?refused ({'|'.join(KINDS)})((?: \d+,\d+)+)")
 MISCOUNTED = re.compile(r"(entry \d+ )?refused moves (\d+) (\d+)")
 # How many moves are named before what is wrong, and how many letters of a line of the text.
 MOST_NAMED, MOST_LETTERS = 12, 100
@@ -172,8 +173,10 @@ def of_text(told, data):
 
 def of_table(told, data, given):
     """What is wrong with a table that is refused, line by line, and drawn where that is asked."""
-    number, kind, words = REFUSED.fullmatch(told).groups()
-    found = read(data)
+    refusal, found = REFUSED.fullmatch(told), read(data)
+    number, kind, words = refusal.groups() if refusal else (None, None, None)
+    if not refusal or not isinstance(found, Book if number else Table):
+        raise Wrong(f"the program says {told or 'nothing'}, which is no refusal of this text")
     table, line_of = entry_of(found, int(number)) if number else (found, lambda place: 8 + place)
     tell = lambda some: " ".join(named(it, table.position.height) if given.names else spelled(it) for it in some)
     # A point of a book may be off its board.
