@@ -13,7 +13,7 @@ use Rattle.strategy_compiler.specs.Wins.{IsWrittenWin}
 use Rattle.strategy_compiler.proofs.Growing.{win-within}
 use Rattle.four_search.specs.declared.fewest.FourTable.{FourTable}
 use Rattle.four_search.specs.declared.fewest.FewestWin.{FewestWin}
-use Rattle.four_search.specs.declared.fewest.FewestWin.TheVariants.{Win as Found, None as NoFours, Spent as OverBudget}
+use Rattle.four_search.specs.declared.fewest.FewestWin.TheVariants.{Win as Found, None as NoFours, Spent as FoursOver}
 use Rattle.four_search.specs.FewestWins.{IsFewestWin, IsFoundTable, win_of}
 use Rattle.threat_moves.specs.declared.threat_list.Threat.{Threat}
 use Rattle.line_proof.specs.Lines.{line_wins, line_tree}
@@ -27,7 +27,7 @@ use Rattle.command_base.specs.declared.status.Status.TheVariants.{Done, NotFound
 use Rattle.position_files.specs.Tables.{IsTextOfTable}
 use Rattle.position_commands.specs.Fours.{IsShortWinText, table_at}
 use Rattle.command_base.specs.Texts.{none_line, spent_line, full_line}
-use Rattle.solve_command.specs.declared.solve.Searched.TheVariants.{Win, None as NoWin}
+use Rattle.solve_command.specs.declared.solve.Searched.TheVariants.{Win, None as NoWin, Spent as OverBudget}
 use Rattle.solve_command.specs.Solves.{SolutionSays, IsWonByFours, IsFirstLine, IsLeftOver, IsToldByThreats, MayBeTooGreat}
 use Rattle.command_base.proofs.PositionLaws.{file_at}
 use Rattle.position_commands.proofs.Searches.{four-text, wins-last}
@@ -45,13 +45,13 @@ win-found rule limit nodes b (Found table) made is e =
     let same : table ≡ made = cc in
     subst (λ (t : FourTable). IsFoundTable rule limit nodes b t) same is
 win-found rule limit nodes b NoFours made is e = absurd (cc)
-win-found rule limit nodes b OverBudget made is e = absurd (cc)
+win-found rule limit nodes b FoursOver made is e = absurd (cc)
 
 pub win-missed : (rule : RuleKind) (limit nodes : ℕ) (b : Grid) (found : FewestWin) → IsFewestWin rule limit nodes b found
     → win_of found ≡ None → ¬ IsWonByFours limit nodes (file_at rule b)
 win-missed rule limit nodes b (Found table) is e won = cc
 win-missed rule limit nodes b NoFours is e won = is.no_win won.wins
-win-missed rule limit nodes b OverBudget is e won = let enough = won.enough in omega (arith, is, enough)
+win-missed rule limit nodes b FoursOver is e won = let enough = won.enough in omega (arith, is, enough)
 
 -- the text of the table of a win of the first step is what is said
 pub first-says : {E : Type 0} (r : Result Answer E) (limit nodes : ℕ) (rule : RuleKind) (b : Grid) (made : FourTable)
@@ -134,12 +134,13 @@ module _ (a : Answer) (limit nodes : ℕ) (file : PositionFile) where
   pub unwon-says : IsLeftOver limit nodes file → IsToldByThreats file.kind limit nodes file.board NoWin → a.status ≡ NotFound
       → a.text ≡ none_line → SolutionSays limit nodes file a.status a.text
   unwon-says left told ends line =
-      inr (inr (inr (inl (record { left = left; none = told.0; denial = told.1; ends = ends; line = line }))))
+      inr (inr (inr (inl (record { left = left; none = told.0; denial = told.1; looked = told.2; ends = ends; line = line }))))
 
   -- where the budget is not enough
-  pub undecided-says : IsLeftOver limit nodes file → nodes < threat_tree file.kind limit file.board → a.status ≡ Spent
+  pub undecided-says : IsLeftOver limit nodes file → IsToldByThreats file.kind limit nodes file.board OverBudget → a.status ≡ Spent
       → a.text ≡ spent_line → SolutionSays limit nodes file a.status a.text
-  undecided-says left more ends line = inr (inr (inr (inr (inl (record { left = left; more = more; ends = ends; line = line })))))
+  undecided-says left told ends line =
+      inr (inr (inr (inr (inl (record { left = left; more = told.0; ran_out = told.1; ends = ends; line = line })))))
 
   -- and where a table has no room
   pub full-says : ¬ IsWonByFours limit nodes file → MayBeTooGreat limit nodes file → a.status ≡ Full → a.text ≡ full_line

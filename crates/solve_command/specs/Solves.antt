@@ -14,7 +14,9 @@ use Rattle.threat_space.specs.declared.TheConstants.{MAX_LENGTH}
 use Rattle.line_proof.specs.Lines.{line_wins, line_tree}
 use Rattle.threat_game.specs.ThreatGame.{threat_tree}
 use Rattle.threat_game.specs.Wins.{IsThreatWin}
+use Rattle.proof_tree.specs.Trees.{Tree}
 use Rattle.proof_number.specs.Denials.{HasDenial}
+use Rattle.proof_number.specs.SearchTrees.{HasDisproved, HasNoRoom, HasRunOut}
 use Rattle.position_files.specs.declared.PositionFile.{PositionFile}
 use Rattle.renju_io.specs.Told.{Takes}
 use Rattle.command_base.specs.declared.status.Status.{Status}
@@ -77,26 +79,30 @@ pub record IsThreatsWin (limit nodes : ℕ) (file : PositionFile) (status : Stat
   pub ends : status ≡ Done
 
 -- the first two steps have no win, and there is none by threats: a denial shows it, of no more positions than may be counted, the lesser
--- of the budget and of those of the game of threats
+-- of the budget and of those of the game of threats; and a tree of the search, whose root is disproved, lists what was looked at
 pub record IsWithoutWin (limit nodes : ℕ) (file : PositionFile) (status : Status) (text : List ℕ) : Type 0 where
   pub left : IsLeftOver limit nodes file
   pub none : ¬ WinsByThreats file.kind limit file.board
   pub denial : HasDenial file.kind limit file.board (min nodes (threat_tree file.kind limit file.board))
+  pub looked : (t : Tree) × HasDisproved file.kind limit nodes file.board t
   pub ends : status ≡ NotFound
   pub line : text ≡ none_line
 
--- the first two steps have no win, and the game of threats has more positions than the budget
+-- the first two steps have no win, the game of threats has more positions than the budget, and the search of it within all of the moves
+-- has run out
 pub record IsUndecided (limit nodes : ℕ) (file : PositionFile) (status : Status) (text : List ℕ) : Type 0 where
   pub left : IsLeftOver limit nodes file
   pub more : nodes < threat_tree file.kind limit file.board
+  pub ran_out : (t : Tree) × HasRunOut file.kind limit nodes file.board t
   pub ends : status ≡ Spent
   pub line : text ≡ spent_line
 
--- more nodes than a table has may be needed: for the proof of the first sequence, or for the game of threats within the budget
+-- more nodes than a table has may be needed: for the proof of the first sequence, or for the game of threats within the budget, and the
+-- search of it has no room for them in a compiler of its own
 abbrev pub MayBeTooGreat : ℕ → ℕ → PositionFile → Type 0
 MayBeTooGreat limit nodes file =
     ((line : List Threat) × IsFirstLine limit nodes file line × (MAX_NODES < line_tree file.kind line limit file.board))
-    ⊎ (MAX_NODES < min nodes (threat_tree file.kind limit file.board))
+    ⊎ ((MAX_NODES < min nodes (threat_tree file.kind limit file.board)) × ((t : Tree) × HasNoRoom file.kind limit nodes file.board t 0))
 
 -- the first step has no win, and a later one has no room for its table
 pub record IsTooGreat (limit nodes : ℕ) (file : PositionFile) (status : Status) (text : List ℕ) : Type 0 where
@@ -117,14 +123,17 @@ SolutionSays limit nodes file status text =
     ⊎ IsTooGreat limit nodes file status text
 
 -- What a search for a win by threats within so many moves, with so many positions to look at, comes to. The compiler of a win has no
--- more nodes than positions may be counted, and a denial no more positions.
+-- more nodes than positions may be counted, and a denial no more positions. Over the budget, or with no room, the search has run out, or
+-- has no room, within these moves.
 abbrev pub IsToldByThreats : RuleKind → ℕ → ℕ → Grid → Searched → Type 0
 IsToldByThreats rule limit nodes b (Win compiler win) =
     IsThreatWin rule limit b compiler win × (length compiler ≤ min nodes (threat_tree rule limit b))
 IsToldByThreats rule limit nodes b NoWin =
     (¬ WinsByThreats rule limit b) × HasDenial rule limit b (min nodes (threat_tree rule limit b))
-IsToldByThreats rule limit nodes b OverBudget = nodes < threat_tree rule limit b
-IsToldByThreats rule limit nodes b NoRoom = MAX_NODES < min nodes (threat_tree rule limit b)
+    × ((t : Tree) × HasDisproved rule limit nodes b t)
+IsToldByThreats rule limit nodes b OverBudget = (nodes < threat_tree rule limit b) × ((t : Tree) × HasRunOut rule limit nodes b t)
+IsToldByThreats rule limit nodes b NoRoom =
+    (MAX_NODES < min nodes (threat_tree rule limit b)) × ((t : Tree) × HasNoRoom rule limit nodes b t 0)
 
 -- the words `solve DEPTH NODES`, with both numbers in decimal without leading zeros
 abbrev pub solve_words : ℕ → ℕ → List (List ℕ)
@@ -165,16 +174,19 @@ SpeaksOfSolution number = (number ≡ status_number Done) ⊎ (number ≡ status
     (number ≡ status_number Full)
 
 -- What the statuses of `solve` say of the lawful position that is the input: 0 that the table of a win by fours, along a sequence or by
--- threats is written; 9 that there is no win by threats, and that a denial shows it of no more positions than may be counted, the lesser
--- of the budget and those of the game of threats; 5 that this game has more positions than the budget; 12 that a table may have too many
--- nodes. One of them comes, unless the status is one that stands in place of each. Where the first step has a win it is 0, and where the
--- second has one 0 or 12.
+-- threats is written; 9 that there is no win by threats, that a denial shows it of no more positions than may be counted, the lesser of
+-- the budget and those of the game of threats, and that a tree of the search lists what was looked at; 5 that this game has more positions
+-- than the budget, and that the search of it within all of the moves has run out; 12 that a table may have too many nodes. One of them
+-- comes, unless the status is one that stands in place of each. Where the first step has a win it is 0, and where the second has one 0 or
+-- 12.
 pub record IsSolved (limit nodes : ℕ) (file : PositionFile) (run : Run) : Type 0 where
   pub won : run.status ≡ status_number Done → WritesSolution limit nodes file run.output
   pub none : run.status ≡ status_number NotFound → ¬ WinsByThreats file.kind limit file.board
   pub denial : run.status ≡ status_number NotFound
       → HasDenial file.kind limit file.board (min nodes (threat_tree file.kind limit file.board))
+  pub looked : run.status ≡ status_number NotFound → (t : Tree) × HasDisproved file.kind limit nodes file.board t
   pub spent : run.status ≡ status_number Spent → nodes < threat_tree file.kind limit file.board
+  pub ran_out : run.status ≡ status_number Spent → (t : Tree) × HasRunOut file.kind limit nodes file.board t
   pub full : run.status ≡ status_number Full → MayBeTooGreat limit nodes file
   pub by_fours : IsWonByFours limit nodes file → (run.status ≡ status_number Done) ⊎ IsYielded run.status
   pub by_line : IsWonByLine limit nodes file → (run.status ≡ status_number Done) ⊎ (run.status ≡ status_number Full) ⊎ IsYielded run.status

@@ -1,10 +1,12 @@
-use Rattle.std.proofs.Common.{◌<◌, ◌+◌, ◌∙◌, subst, ap, List, length, length-append, arith}
+use Rattle.std.proofs.Common.{◌<◌, ◌+◌, ◌∙◌, ℕ, inl, inr, subst, ap, List, length, length-append, arith}
 use Rattle.std.specs.Prelude.{Err, min}
 use Rattle.strategy_graph.specs.declared.Node.{Node}
 use Rattle.strategy_graph.specs.declared.TheConstants.{MAX_NODES}
 use Rattle.threat_game.specs.ThreatGame.{threat_tree}
 use Rattle.threat_game.specs.Wins.{IsThreatWin}
-use Rattle.proof_number.specs.Answers.{OnWin}
+use Rattle.proof_tree.specs.Trees.{numbers_at}
+use Rattle.proof_number.specs.Answers.{OnWin, RootSays}
+use Rattle.proof_number.specs.SearchTrees.{HasNoRoom}
 use Rattle.proof_number.specs.declared.answer.ProofAnswer.{ProofAnswer}
 use Rattle.solve_command.proofs.solve.searched_within.Goals as goal
 
@@ -24,8 +26,24 @@ returns-in-Ok-Win-clause-told g c =
 
 pub returns-in-Ok-None-clause-told : goal.returns-in-Ok-None-clause-told
 returns-in-Ok-None-clause-told g c =
-    let none = c.in-Ok-None.ensures.none c.in-Ok-None.field-0-is in
-    (none.no_threats, c.in-Ok-None.ensures.denial c.in-Ok-None.field-0-is)
+    let none = c.in-Ok-None.ensures.none c.in-Ok-None.field-0-is in (
+      none.no_threats,
+      c.in-Ok-None.ensures.denial c.in-Ok-None.field-0-is,
+      (
+        c.proof_number.new.tree,
+        record {
+          so_far = c.in-Ok-None.ensures.searched;
+          lost = subst (λ (a : ProofAnswer). RootSays a (numbers_at c.proof_number.new.tree.numbers 0)) c.in-Ok-None.field-0-is
+              c.in-Ok-None.ensures.root;
+        },
+      ),
+    )
+
+pub returns-in-Ok-Spent-clause-told : goal.returns-in-Ok-Spent-clause-told
+returns-in-Ok-Spent-clause-told g c = (
+  c.in-Ok-Spent.ensures.spent c.in-Ok-Spent.field-0-is,
+  (c.proof_number.new.tree, c.in-Ok-Spent.ensures.ran_out c.in-Ok-Spent.field-0-is),
+)
 
 pub returns-in-Err-Full-clause-told : goal.returns-in-Err-Full-clause-told
 returns-in-Err-Full-clause-told g c =
@@ -34,4 +52,14 @@ returns-in-Err-Full-clause-told g c =
     let none : MAX_NODES < 0 + min c.args.nodes (threat_tree g.R.Rule.KIND c.args.moves b) =
     subst (λ (t : List Node). MAX_NODES < length t + min c.args.nodes (threat_tree g.R.Rule.KIND c.args.moves b))
     c.new-compiler.ensures.empty more in
-    omega (arith, none)
+    let t = c.proof_number.new.tree in (
+      omega (arith, none),
+      (
+        t,
+        elim (c.in-Err-Full.ensures.no_room (ap Err c.in-Err-Full.field-0-is)) [
+          | inl many ↦ absurd (let empty = ap length c.new-compiler.ensures.empty in omega (arith, many, empty))
+          | inr room ↦ subst (λ (k : ℕ). HasNoRoom g.R.Rule.KIND c.args.moves c.args.nodes b t k) (ap length c.new-compiler.ensures.empty)
+              room
+        ],
+      ),
+    )
