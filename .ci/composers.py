@@ -354,9 +354,9 @@ def solution_lines():
         for table_of, said in ((f"{folder}/q", "follows"), (EXAMPLES / "page" / "quiet-three.txt", "departs 1")):
             done = subprocess.run([PROGRAM, "referee", table_of], input=game.encode(), capture_output=True, timeout=SECONDS)
             expect(f"line.py: the table {said}", done.stdout.decode(), f"open 3\ntable {said}\n")
-    lost = "1. 1,3 (b4) fails: 5,3 (f4) holds; 5,3 (f4) wins in 2 moves\n2. 5,3 (f4)\nthe line leaves what wins at move 1\n"
+    lost = "1. 1,3 (b4) fails: 5,3 (f4) holds against threats within 1 move; 5,3 (f4) wins in 2 moves\n2. 5,3 (f4)\nthe first attack that is not found to win is move 1\n"
     expect("line.py: a reply holds", line(CLOSED, "1,3", "5,3"), (4, head + lost, ""))
-    late = f"{head}{first}3. 3,2 (d5) fails: it does not win, and no move is left of 2; 0,3 (a4) wins in 1 move\nthe line leaves what wins at move 3\n"
+    late = f"{head}{first}3. 3,2 (d5) fails: it does not win, and no move is left of 2; 0,3 (a4) wins in 1 move\nthe first attack that is not found to win is move 3\n"
     expect("line.py: the last attack is another", line(SMALL, "1,3", "5,3", "3,2"), (4, late, ""))
     four = position("freestyle", 7, "2,3 3,3 4,3 6,6", "0,1 1,1 2,1 3,1")
     expect("line.py: a reply wins", line(four, "3,5")[1].splitlines()[1].partition(";")[0], "1. 3,5 (d2) fails: 4,1 (e6) wins")
@@ -365,7 +365,7 @@ def solution_lines():
         Path(folder, "renju").chmod(0o755)
         wanted = (
             "1. 1,3 (b4) is undecided: 5,3 (f4) undecided with 100,000; whether there is a win within 2 moves is undecided\n"
-            "the line leaves what wins at move 1\n"
+            "the first attack that is not found to win is move 1\n"
         )
         expect("line.py: undecided", line(CLOSED, "1,3", env={**os.environ, "RENJU": f"{folder}/renju"}), (5, head + wanted, ""))
     foul = run("line.py", ["--depth", "1", "-", "7,9"], FOULS)[1].splitlines()[1].partition(";")[0]

@@ -62,6 +62,12 @@ CHAPTERS = (
         ("strategy_checker", "table_book", "brain_session"),
     ),
     (
+        "game_referee",
+        "A referee of whole games",
+        "The verdict on a game, a game beside a table, and the line of a verdict.",
+        ("game_referee",),
+    ),
+    (
         "commands",
         "What several commands say",
         "What a command has in common with another: a file that is loaded and held, a position that is read, a search that is told.",

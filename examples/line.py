@@ -1,6 +1,6 @@
 #!/usr/bin/env python3
-"""Checks the line of a solution: says of each attack in it whether every reply loses, and where the line leaves what wins; and writes
-the table whose attacks are those of the line.
+"""Checks the line of a solution: says of each attack in it whether every reply is found to lose, and of which the first is not; and
+writes the table whose attacks are those of the line.
 
     line.py [--depth D] [--nodes N] [--jobs J] [--names] [--out TABLE] FILE X,Y ..
 
@@ -9,7 +9,8 @@ both sides in turn, as h8 or 7,7, with or without numbers. An attack wins where 
 line by the next attack, if that wins, and any other by a table of `renju solve`; with the attacks before it there are at most D
 moves in all, and D is the number of the line's attacks, or 5, if it is not given. It fails where `solve` says `none` after some
 reply, or where the reply wins or ends the game, and it is undecided where N was too few for some reply. An attack that fails may
-win in more moves, or by moves that threaten less. Where an attack does not win, the move is told that `solve` plays in its place.
+win in more moves, or by moves that threaten less. Where an attack does not win, the move is told that `solve` plays in its place, and
+no table is checked: that a later attack wins is then this script's word, over tables of `solve`.
 
 Where all attacks win, a table of them and their answers is made and handed to `renju check`, whose answer is told; --out writes it
 to a file that isn't there. So examples/page.py and a brain play the solution as it was composed. --names writes points as h8.
@@ -151,7 +152,7 @@ class Judge:
         for count, (reply, answer) in enumerate(zip(replies, each(self.given.jobs, ask, replies)), 1):
             self.clock.say(f"move {place + 1}: {count} of {len(replies)} replies")
             if answer == NONE:
-                return Verdict(FAILS, f"{self.tell(reply)} holds")
+                return Verdict(FAILS, f"{self.tell(reply)} holds against threats within {counted(self.left(place) - 1)}")
             if isinstance(answer, str):
                 undecided.append(reply)
             else:
@@ -212,11 +213,12 @@ def main():
         print(line)
     lost = [place for place in sorted(verdicts) if verdicts[place].state != WINS]
     if lost:
-        print(f"the line leaves what wins at move {lost[0] + 1}")
+        print(f"the first attack that is not found to win is move {lost[0] + 1}")
         return next((STATUSES[FAILS] for place in lost if verdicts[place].state == FAILS), STATUSES[UNDECIDED])
     table = judge.nodes.table(position, verdicts[0].node)
     told, status = answered(["check", MOST_ARRIVALS], table.text())
-    print(f"every attack wins; renju check says of their table: {told.strip() or f'nothing, and status {status}'}")
+    found_so = "every attack wins" if status == 0 else "the table is not accepted"
+    print(f"{found_so}; renju check says of their table: {told.strip() or f'nothing, and status {status}'}")
     if given.out and status == 0:
         write(given.out, table.text())
     return status

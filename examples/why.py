@@ -218,7 +218,8 @@ def main():
     elif status == TABLE_REFUSED:
         print(*of_table(told, data, given), sep="\n")
     elif status == SPENT:
-        print(f"it has more than {given.arrivals:,} arrivals: --arrivals allows more")
+        of, more = told.removesuffix(" spent") if told.startswith("entry ") else "it", ": --arrivals allows more" if given.arrivals < MOST_ARRIVALS else ""
+        print(f"{of} has more than {given.arrivals:,} arrivals{more}")
     return status
 
 

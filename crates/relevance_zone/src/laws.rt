@@ -9,8 +9,8 @@ pub fn zones_go_by_node()
     ensures steps { ZonesGoByNode }
 {}
 
-/// A node that has a zone at a board stays accepted under further stones of the defender that the zone bears. They may be as
-/// many as it bears, and the board may be one after a pass.
+/// Where the attacker has no fouls, a node that has a zone at a board is accepted at each lawful position with further stones of the
+/// defender that the zone bears, where the attacker is to move. The board itself may be one after a pass.
 pub fn zones_bear()
     ensures accepted { ZonesBear }
 {}
