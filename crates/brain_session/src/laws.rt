@@ -76,8 +76,9 @@ pub fn sessions_are_drawn()
     ensures drawn { SessionsAreDrawn }
 {}
 
-/// Where a reader of the lines sees the position of a held root sent by BOARD, or set up before BEGIN, and the brain answers by a
-/// move, each list of legal replies that is sent behind is answered by the attacks of the table, byte for byte, and the game is won
+/// Where a reader of the lines sees the position of a held root whose side moves first, under its rule and of none held before it,
+/// sent by BOARD, or the empty board at BEGIN, and the brain answers by a move, each list of legal replies that is sent behind is
+/// answered by the attacks of the table, byte for byte, and the game is won
 /// within the depth of the root, or the replies have run out.
 pub fn held_lines_win()
     ensures win { HeldLinesWin }

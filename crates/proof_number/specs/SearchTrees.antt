@@ -71,7 +71,7 @@ pub record IsCounted (g : GameTree) (budget attacked defended : ℕ) : Type 0 wh
 
 -- ---- how far a search has come
 
--- A tree of the game of threats from b, with so many moves left at its root, as far as a search with this budget has grown it: the move
+-- A tree of the game of threats from b, with so many moves left at its root, within this budget, grown in any order: the move
 -- that leads to each node and the moves that are left there, and how many positions of each side are counted.
 pub record IsSearchTree (rule : RuleKind) (limit budget : ℕ) (b : Grid) (t : Tree) : Type 0 where
   pub moves : List Point
@@ -115,7 +115,7 @@ pub record HasRunOut (rule : RuleKind) (limit budget : ℕ) (b : Grid) (t : Tree
   pub over : AttacksPass rule limit budget b t so_far 0 budget
       ⊎ AtMostProving rule b t so_far.moves so_far.left (DefencesPass rule budget so_far.defended)
 
--- the search within so many moves has disproved its root, and the tree lists what was looked at
+-- a tree within so many moves whose root is disproved; within three moves it may be the root alone
 pub record HasDisproved (rule : RuleKind) (limit budget : ℕ) (b : Grid) (t : Tree) : Type 0 where
   pub so_far : IsSearchTree rule limit budget b t
   pub lost : numbers_at t.numbers 0 ≡ settled_numbers false

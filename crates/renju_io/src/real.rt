@@ -2,7 +2,8 @@
 //!
 //! A source is an adapter of any reader of std and a sink one of any writer: a read takes what the reader gives, a write stands
 //! behind what the writer holds, and a failure is told, as std tells of the bytes of the two. Of those of the system, and of files by
-//! their names, std tells nothing: what is asked of them is proved, and what they do with it is trusted.
+//! their names, std tells nothing. That a shelf opens the file of the name that it is given, and that a sink flushes, no clause says;
+//! cases show it.
 ghost use Rattle.std.specs.Prelude.{◌≡◌, ◌<◌, ◌≤◌, true, None, Some, length, Ok, IfOk, OnOk, OnErr};
 ghost use Rattle.std.specs.Io.KnownBytes.{Appends, ReadConsumes};
 ghost use Rattle.renju_io.specs.Faults.{HasRisen, HasStayed, HasNotFallen};
@@ -102,7 +103,7 @@ fn read_retrying<R: Read>(reader: &mut R, buf: &mut [u8]) -> Result<usize, Faile
     Err(Failed)
 }
 
-/// A sink over a writer of std, as standard output. No byte is kept back from one write to the next.
+/// A sink over a writer of std, as standard output. It flushes after each write, which no clause shows.
 #[derive(Drop)]
 pub struct RealSink<W: Write + Drop> {
     writer: W,

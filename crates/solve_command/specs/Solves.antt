@@ -79,7 +79,7 @@ pub record IsThreatsWin (limit nodes : ℕ) (file : PositionFile) (status : Stat
   pub ends : status ≡ Done
 
 -- the first two steps have no win, and there is none by threats: a denial shows it, of no more positions than may be counted, the lesser
--- of the budget and of those of the game of threats; and a tree of the search, whose root is disproved, lists what was looked at
+-- of the budget and of those of the game of threats; and there is a tree of that game whose root is disproved
 pub record IsWithoutWin (limit nodes : ℕ) (file : PositionFile) (status : Status) (text : List ℕ) : Type 0 where
   pub left : IsLeftOver limit nodes file
   pub none : ¬ WinsByThreats file.kind limit file.board
@@ -175,8 +175,8 @@ SpeaksOfSolution number = (number ≡ status_number Done) ⊎ (number ≡ status
 
 -- What the statuses of `solve` say of the lawful position that is the input: 0 that the table of a win by fours, along a sequence or by
 -- threats is written; 9 that there is no win by threats, that a denial shows it of no more positions than may be counted, the lesser of
--- the budget and those of the game of threats, and that a tree of the search lists what was looked at; 5 that this game has more positions
--- than the budget, and that the search of it within all of the moves has run out; 12 that a table may have too many nodes. One of them
+-- the budget and those of the game of threats, and that a tree of it has a disproved root; 5 that this game has more positions
+-- than the budget, and that counts of a tree of it within all of the moves pass it; 12 that a table may have too many nodes. One of them
 -- comes, unless the status is one that stands in place of each. Where the first step has a win it is 0, and where the second has one 0 or
 -- 12.
 pub record IsSolved (limit nodes : ℕ) (file : PositionFile) (run : Run) : Type 0 where
