@@ -1,10 +1,10 @@
 -- Cells and the stones in them, one by one and counted.
-use Rattle.std.proofs.Common.{ℕ, Bool, cond, ◌≡◌, ◌+◌, List, ◌∷◌, length, arith, [], refl, ◌*◌, ◌∙◌, ap, true, not, false, ◌&&◌, map, inl}
-use Rattle.std.proofs.Common.{inr, ◌⊎◌, zero, suc, ◌<◌, get_or, replicate, sym}
+use Rattle.std.proofs.Common.{ℕ, Bool, cond, ◌≡◌, ◌+◌, List, ◌∷◌, length, arith, [], refl, ◌*◌, ◌∙◌, ap, true, not, false, ◌&&◌, map}
+use Rattle.std.proofs.Common.{◌⊎◌, zero, suc, ◌<◌, get_or, replicate, rules}
 use Rattle.std.specs.List.{count_by, list_any}
 use Rattle.std.specs.Bool.{Decides}
 use Rattle.std.specs.Cmp.Lexicographic.{pointwise}
-use Rattle.std.specs.Prelude.{if◌then◌else◌, slice_index_or, nat_lt}
+use Rattle.std.specs.Prelude.{if◌then◌else◌, slice_index_or}
 use Rattle.std.proofs.lemmas.List.Sums.{sum_by-cons}
 use Rattle.std.proofs.lemmas.Slice.Eq.{slice_eq-Decides}
 use Rattle.std.proofs.lemmas.List.{length-map}
@@ -27,11 +27,7 @@ add_one_cell : (c : Cell) (cells : List Cell) → count_if (is_stone_of Black) c
     ≡ 1 → count_by (is_stone_of Black) cells + count_by (is_stone_of White) cells + count_by is_empty_cell cells ≡ length cells
     → count_by (is_stone_of Black) (c ∷ cells) + count_by (is_stone_of White) (c ∷ cells) + count_by is_empty_cell (c ∷ cells) ≡ length
     (c ∷ cells)
-add_one_cell c cells one rest =
-    let blacks = sum_by-cons (count_if (is_stone_of Black)) c cells in
-    let whites = sum_by-cons (count_if (is_stone_of White)) c cells in
-    let empties = sum_by-cons (count_if is_empty_cell) c cells in
-    omega (arith, one, rest, blacks, whites, empties)
+add_one_cell c cells one rest = search (rules, sum_by-cons)
 
 -- each cell holds a black stone, a white stone or none
 counts_add : (cells : List Cell) → count_by (is_stone_of Black) cells + count_by (is_stone_of White) cells + count_by is_empty_cell cells
@@ -46,33 +42,18 @@ counts_of_board b ok = counts_add b.cells ∙ ok.filled
 
 -- the derived `==` of cells says whether they are one
 cell_eq-Decides : (a b : Cell) → Decides (eq-value.it a b) (a ≡ b)
-cell_eq-Decides Empty Empty = (λ h. refl, λ h. refl)
-cell_eq-Decides Empty BlackStone = (λ h. cc, λ h. cc)
-cell_eq-Decides Empty WhiteStone = (λ h. cc, λ h. cc)
-cell_eq-Decides BlackStone Empty = (λ h. cc, λ h. cc)
-cell_eq-Decides BlackStone BlackStone = (λ h. refl, λ h. refl)
-cell_eq-Decides BlackStone WhiteStone = (λ h. cc, λ h. cc)
-cell_eq-Decides WhiteStone Empty = (λ h. cc, λ h. cc)
-cell_eq-Decides WhiteStone BlackStone = (λ h. cc, λ h. cc)
-cell_eq-Decides WhiteStone WhiteStone = (λ h. refl, λ h. refl)
+cell_eq-Decides a b = search rules
 
 -- boards of one width and height are one exactly where their cells are
 pub same_cells-Decides : (b c : Grid) (r : Bool) → b.width ≡ c.width → b.height ≡ c.height → r ≡ pointwise eq-value.it b.cells c.cells
     → Decides r (b ≡ c)
-same_cells-Decides b c r w h e =
-    let cells : Decides r (b.cells ≡ c.cells) = slice_eq-Decides cell_eq-Decides b.cells c.cells r e in (
-      λ yes. λ i. record { width = w i; height = h i; cells = cells.0 yes i },
-      λ same. cells.1 (ap (λ (g : Grid). g.cells) same),
-    )
+same_cells-Decides b c r w h e = search (rules, slice_eq-Decides, cell_eq-Decides)
 
 stone-not_empty : (s : Side) (c : Cell) → is_stone_of s c ≡ true → not (is_empty_cell c) ≡ true
-stone-not_empty s Empty h = cc
-stone-not_empty s BlackStone h = refl
-stone-not_empty s WhiteStone h = refl
+stone-not_empty s c h = search rules
 
 pub stone_by : (s : Side) (on : Bool) (c : Cell) → (on && is_stone_of s c) ≡ true → (on && not (is_empty_cell c)) ≡ true
-stone_by s true c h = stone-not_empty s c h
-stone_by s false c h = h
+stone_by s on c h = search (rules, stone-not_empty)
 
 pub without_white : Cell → Cell
 without_white Empty = Empty
@@ -83,71 +64,36 @@ abbrev pub blacks_of : Grid → Grid
 blacks_of b = record { width = b.width; height = b.height; cells = map without_white b.cells }
 
 pub IsBoard-blacks : (b : Grid) → IsBoard b → IsBoard (blacks_of b)
-IsBoard-blacks b ok = record {
-  wide = ok.wide;
-  width_fits = ok.width_fits;
-  high = ok.high;
-  height_fits = ok.height_fits;
-  filled = length-map b.cells without_white ∙ ok.filled;
-}
+IsBoard-blacks b ok = search (rules, length-map, without_white)
 
 pub black_kept : (c : Cell) → is_stone_of Black (without_white c) ≡ is_stone_of Black c
 unfolding without_white
-black_kept Empty = refl
-black_kept BlackStone = refl
-black_kept WhiteStone = refl
+black_kept c = search rules
 
 pub white_gone : (c : Cell) → is_stone_of White (without_white c) ≡ false
 unfolding without_white
-white_gone Empty = refl
-white_gone BlackStone = refl
-white_gone WhiteStone = refl
+white_gone c = search rules
 
 pub cell-by_stones : (c d : Cell) → is_stone_of Black c ≡ is_stone_of Black d → is_stone_of White c ≡ is_stone_of White d → c ≡ d
-cell-by_stones Empty Empty b w = refl
-cell-by_stones Empty BlackStone b w = absurd cc
-cell-by_stones Empty WhiteStone b w = absurd cc
-cell-by_stones BlackStone Empty b w = absurd cc
-cell-by_stones BlackStone BlackStone b w = refl
-cell-by_stones BlackStone WhiteStone b w = absurd cc
-cell-by_stones WhiteStone Empty b w = absurd cc
-cell-by_stones WhiteStone BlackStone b w = absurd cc
-cell-by_stones WhiteStone WhiteStone b w = refl
+cell-by_stones c d b w = search rules
 
 pub empty_stone : (s : Side) → is_stone_of s Empty ≡ false
-empty_stone Black = refl
-empty_stone White = refl
+empty_stone s = search rules
 
 pub taken_by : (s : Side) (c : Cell) → is_empty_cell c ≡ false → (is_stone_of s c ≡ true) ⊎ (is_stone_of (other s) c ≡ true)
-taken_by s Empty h = absurd cc
-taken_by Black BlackStone h = inl refl
-taken_by Black WhiteStone h = inr refl
-taken_by White BlackStone h = inr refl
-taken_by White WhiteStone h = inl refl
+taken_by s c h = search rules
 
 pub not_both_stones : (s : Side) (c : Cell) → is_stone_of s c ≡ true → is_stone_of (other s) c ≡ true → ⊥
-not_both_stones s Empty own others = absurd cc
-not_both_stones Black BlackStone own others = absurd cc
-not_both_stones Black WhiteStone own others = absurd cc
-not_both_stones White BlackStone own others = absurd cc
-not_both_stones White WhiteStone own others = absurd cc
+not_both_stones s c own others = search rules
 
 pub side_there : (c : Cell) → not (is_empty_cell c) ≡ true → (t : Side) × (is_stone_of t c ≡ true)
-side_there Empty h = cc
-side_there BlackStone h = (Black, refl)
-side_there WhiteStone h = (White, refl)
+side_there c h = search rules
 
 pub own_stone : (brain : Side) (own : Bool) → is_stone_of brain (stone_of (if own then brain else other brain)) ≡ own
-own_stone Black true = refl
-own_stone Black false = refl
-own_stone White true = refl
-own_stone White false = refl
+own_stone brain own = search rules
 
 pub other_stone : (brain : Side) (own : Bool) → is_stone_of (other brain) (stone_of (if own then brain else other brain)) ≡ not own
-other_stone Black true = refl
-other_stone Black false = refl
-other_stone White true = refl
-other_stone White false = refl
+other_stone brain own = search rules
 
 pub some_place : (f : Cell → Bool) (cells : List Cell) (d : Cell) → 0 < count_by f cells
     → (k : ℕ) × (k < length cells) × (f (slice_index_or cells k d) ≡ true)
@@ -181,15 +127,10 @@ bare-cells (WhiteStone ∷ cells) black white = let e =
 
 -- a stone on a point that is not empty is of the side that it is said to be
 pub stone-there : (side : Side) (c : Cell) → is_empty_cell c ≡ false → stone_of (cond (is_stone_of side c) side (other side)) ≡ c
-stone-there side Empty e = cc
-stone-there Black BlackStone e = refl
-stone-there Black WhiteStone e = refl
-stone-there White BlackStone e = refl
-stone-there White WhiteStone e = refl
+stone-there side c e = search rules
 
 pub same-length : (b c : Grid) → IsBoard b → IsBoard c → c.width ≡ b.width → c.height ≡ b.height → length c.cells ≡ length b.cells
-same-length b c board other wide high = other.filled ∙ ap (λ (w : ℕ). w * c.height) wide ∙ ap (λ (h : ℕ). b.width * h) high
-    ∙ sym board.filled
+same-length b c board other wide high = search rules
 
 -- the points of the board c that differ from those of b are empty, and among these
 unfoldable pub Makes : Grid → Grid → List Point → Type 0
@@ -203,21 +144,12 @@ pub record IsLike (b c : Grid) : Type 0 where
   pub high : c.height ≡ b.height
 
 pub on-like : (b c : Grid) (p : Point) → IsLike b c → is_on b p ≡ true → is_on c p ≡ true
-on-like b c p like on = ap (λ (w : ℕ). nat_lt p.x w && nat_lt p.y c.height) like.wide
-    ∙ ap (λ (h : ℕ). nat_lt p.x b.width && nat_lt p.y h) like.high ∙ on
+on-like b c p like on = search rules
 
 -- the first point, p, is empty: nothing is put there
 pub makes-empty : (b c : Grid) (p : Point) (ps : List Point) → is_empty b p ≡ true → Makes b c (p ∷ ps) → Makes b c ps
 unfolding Makes
-makes-empty b c p ps empty makes q on = elim (makes q on) [
-  | inl same ↦ inl same
-  | inr later ↦ elim (or_cases (is_same_point p q) _ later.1) [
-    | inl here ↦
-        let none : cell_at b p ≡ Empty = is_empty-cell (cell_at b p) (and_right (is_on b p) (is_empty_cell (cell_at b p)) empty) in
-        inl (later.0 ∙ sym none ∙ ap (cell_at b) (is_same_point-same p q here))
-    | inr rest ↦ inr (later.0, rest)
-  ]
-]
+makes-empty b c p ps empty makes q on = search (rules, or_cases, is_empty-cell, and_right, is_same_point-same)
 
 -- each of the points is on the board
 unfoldable pub On : Grid → List Point → Type 0

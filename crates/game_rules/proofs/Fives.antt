@@ -1,13 +1,10 @@
 -- Five points: they are empty, and a stone changes none of the other side, but the point that it takes.
-use Rattle.std.proofs.Common.{◌≡◌, Bool, true, false, ◌&&◌, refl, sym, ap, ◌∙◌, ℕ, cond, nat_eq, nat_le, ◌≤◌, ◌<◌, arith, not, List, length}
-use Rattle.std.proofs.Common.{[], ◌∷◌, get_or, inl, inr, subst}
-use Rattle.std.proofs.lemmas.Bool.Decides.{nat_tests}
-use Rattle.std.specs.Prelude.{Option, Some}
-use Rattle.std.specs.List.{find, list_all, filter}
+use Rattle.std.proofs.Common.{◌≡◌, Bool, true, false, ◌&&◌, refl, sym, ap, ◌∙◌, ℕ, cond, nat_eq, nat_le, ◌≤◌}
+use Rattle.std.proofs.Common.{◌<◌, arith, not, List, length, [], ◌∷◌, get_or, inl, inr, subst, rules, Option, Some, find, filter}
+use Rattle.std.specs.List.{list_all}
 use Rattle.std.proofs.lemmas.Bool.{false_from_ne_true}
-use Rattle.game_rules.proofs.Common.{Grid, IsBoard, is_on, is_empty, put, points_of, is_empty_cell, stone_of, cell_at, run_of, row_wins}
-use Rattle.game_rules.proofs.Common.{wins_on, five, is_same_point, other, has_fouls, mover, IsPosition, outcome, after, five_points}
-use Rattle.game_rules.proofs.Common.{has_five}
+use Rattle.game_rules.proofs.Common.{Grid, IsBoard, is_on, is_empty, put, points_of, run_of, row_wins, wins_on, five, is_same_point, other}
+use Rattle.game_rules.proofs.Common.{has_fouls, mover, IsPosition, outcome, after, five_points, has_five}
 use Rattle.game_rules.specs.declared.Side.{Side}
 use Rattle.game_rules.specs.declared.Axis.{Axis}
 use Rattle.game_rules.specs.declared.Point.{Point}
@@ -16,8 +13,8 @@ use Rattle.game_rules.specs.declared.Axis.TheVariants.{Row, Column, Down, Up}
 use Rattle.game_rules.proofs.Boards.{Apart, and-same, is_empty-on, is_empty-put, stone_of-other, run_of-put, and_left, and_right}
 use Rattle.game_rules.proofs.Boards.{cell_at-put_same, same_or_apart, stone_of-taken}
 use Rattle.game_rules.proofs.Positions.{IsBoard-put, ahead-other, behind-other, GoesOn-empty, mover-then}
-use Rattle.game_rules.specs.declared.RuleKind.TheVariants.{Freestyle, Exact, Renju}
-use Rattle.game_rules.specs.declared.Side.TheVariants.{Black, White}
+use Rattle.game_rules.specs.declared.RuleKind.TheVariants.{Freestyle, Exact}
+use Rattle.game_rules.specs.declared.Side.TheVariants.{Black}
 use Rattle.game_rules.proofs.PointLists.{some_listed, no_points, passing, apart_same, find-and}
 use Rattle.game_rules.proofs.Points.{filter-none, filter-passes, points-found, is_same_point-itself, is_same_point-same}
 use Rattle.game_rules.proofs.Places.{two_passing-apart}
@@ -25,12 +22,7 @@ use Rattle.game_rules.specs.declared.Outcome.TheVariants.{GoesOn}
 
 -- a five point is empty
 pub five-empty : (rule : RuleKind) (b : Grid) (s : Side) (q : Point) → five rule b s q ≡ true → is_empty b q ≡ true
-five-empty rule b s q h = by_test (is_empty b q) refl where
-  by_test : (r : Bool) → is_empty b q ≡ r → r ≡ true
-  by_test true e = refl
-  by_test false e =
-      let none : five rule b s q ≡ false = rw e refl in
-      let no : false ≡ true = sym none ∙ h in cc
+five-empty rule b s q h = search rules
 
 module _ (b : Grid) (s : Side) (p : Point) (ok : IsBoard b) (empty : is_empty b p ≡ true) where
   run_of-other : (d : Axis) (q : Point) → is_on b q ≡ true
@@ -42,35 +34,24 @@ module _ (b : Grid) (s : Side) (p : Point) (ok : IsBoard b) (empty : is_empty b 
 
   wins_on-other : (rule : RuleKind) (q : Point) → Apart p q → (d : Axis)
       → wins_on rule (put b s p) (other s) d q ≡ wins_on rule b (other s) d q
-  wins_on-other rule q apart d =
-      let same : is_empty (put b s p) q ≡ is_empty b q = is_empty-put b s p q (is_empty-on b p empty) apart in
-      ap (λ r. r && row_wins rule (other s) (run_of (put (put b s p) (other s) q) (other s) d q)) same
-      ∙ and-same (is_empty b q) _ _ (λ e. ap (row_wins rule (other s)) (run_of-other d q (is_empty-on b q e)))
+  wins_on-other rule q apart d = search (rules, is_empty-put, is_empty-on, and-same, run_of-other)
 
   -- a five point of the other side is one as before, unless its point is taken
   pub five-other : (rule : RuleKind) (q : Point) → Apart p q → five rule (put b s p) (other s) q ≡ five rule b (other s) q
-  five-other rule q apart =
-      let w = wins_on-other rule q apart in
-      rw (w Row, w Column, w Down, w Up) refl
+  five-other rule q apart = search (rules, wins_on-other)
 
 pub wins-line_by : (t : Bool) (n : ℕ) → row_wins (cond t Freestyle Exact) Black n ≡ cond t (nat_le 5 n) (nat_eq n 5)
-wins-line_by true n = refl
-wins-line_by false n = refl
+wins-line_by t n = search rules
 
 pub same_fives : (rule : RuleKind) (b c : Grid) (s : Side) (q : Point) → ((d : Axis) → wins_on rule c s d q ≡ wins_on rule b s d q)
     → five rule c s q ≡ five rule b s q
 same_fives rule b c s q h = rw (h Row, h Column, h Down, h Up) refl
 
 pub five_alone : (rule : RuleKind) → has_fouls rule Black ≡ true → (n : ℕ) → row_wins rule Black n ≡ nat_eq n 5
-five_alone Freestyle f n = cc
-five_alone Exact f n = cc
-five_alone Renju f n = refl
+five_alone rule f n = search rules
 
 pub run_short : (rule : RuleKind) (s : Side) (m n : ℕ) → row_wins rule s n ≡ true → row_wins rule s m ≡ false → m < n → (m ≤ 4) × (5 ≤ n)
-run_short Freestyle s m n h k less = (grind (arith, nat_tests), grind (arith, nat_tests))
-run_short Exact s m n h k less = (grind (arith, nat_tests), grind (arith, nat_tests))
-run_short Renju Black m n h k less = (grind (arith, nat_tests), grind (arith, nat_tests))
-run_short Renju White m n h k less = (grind (arith, nat_tests), grind (arith, nat_tests))
+run_short rule s m n h k less = search rules
 
 pub has_by : (rule : RuleKind) (b : Grid) (s : Side) (xs : List Point) (none : Bool) → xs ≡ five_points rule b s
     → none ≡ nat_eq (length xs) 0 → not none ≡ has_five rule b s
@@ -126,10 +107,7 @@ only b w on = by_points (filter (λ p. is_same_point p w) (points_of b)) refl wh
 
 module _ (rule : RuleKind) (c : Grid) (lawful : IsPosition rule c) (q : Point) (on : outcome rule c q ≡ GoesOn) where
   taken : is_empty (after c q) q ≡ false
-  taken =
-      let here : is_on c q ≡ true = is_empty-on c q (GoesOn-empty rule c q on) in
-      let cell : cell_at (after c q) q ≡ stone_of (mover c) = cell_at-put_same c (mover c) q lawful.board here in
-      ap (λ r. r && is_empty_cell (cell_at (after c q) q)) here ∙ ap is_empty_cell cell ∙ stone_of-taken (mover c)
+  taken = search (rules, is_empty-on, GoesOn-empty, cell_at-put_same, stone_of-taken)
 
   five_left : (x : Point) → five rule (after c q) (other (mover c)) x ≡ (five rule c (other (mover c)) x && not (is_same_point x q))
   five_left x = elim (same_or_apart q x) [
@@ -160,9 +138,7 @@ module _ (rule : RuleKind) (c : Grid) (lawful : IsPosition rule c) (q : Point) (
 
   pub first-left : (w : Point) (more : List Point) → five_points rule c (other (mover c)) ≡ w ∷ more → Apart q w
       → least_five rule (after c q) ≡ Some w
-  first-left w more e apart =
-      least-left ∙ ap (find (λ x. not (is_same_point x q))) e
-      ∙ ap (λ r. cond (not r) (Some w) (find (λ x. not (is_same_point x q)) more)) (apart_same q w apart)
+  first-left w more e apart = search (rules, least-left, apart_same)
 
   pub second-left : (w v : Point) (more : List Point) → five_points rule c (other (mover c)) ≡ w ∷ v ∷ more → q ≡ w
       → least_five rule (after c q) ≡ Some v

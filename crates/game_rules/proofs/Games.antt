@@ -1,16 +1,16 @@
 -- Laws of won games: a stronger demand is a stronger win, more moves are no harder, the test and the fact agree, and one side alone wins.
-use Rattle.std.proofs.Common.{◌≡◌, ℕ, zero, suc, ◌≤◌, Bool, true, false, refl, sym, subst, arith, cond, ◌∙◌, ◌<◌, ◌≢◌, ◌&&◌}
-use Rattle.std.specs.List.{list_any, list_all, find}
+use Rattle.std.proofs.Common.{rules, ◌≡◌, ℕ, zero, suc, ◌≤◌, Bool, true, false, refl, sym, subst, arith, cond, ◌∙◌}
+use Rattle.std.proofs.Common.{◌<◌, ◌≢◌, ◌&&◌, find, Some}
+use Rattle.std.specs.List.{list_all}
 use Rattle.std.proofs.lemmas.Bool.{or_left}
-use Rattle.std.specs.Prelude.{Some}
 use Rattle.game_rules.proofs.Common.{Grid, is_on, points_of, outcome, mover, after, WinsOr, LosesOr, WinsUnder, WinsWithin, WinsByFours}
-use Rattle.game_rules.proofs.Common.{WinsByThreats, has_five, has_threat, wins_or, loses_or, starts_win, wins_under, is_double_point}
-use Rattle.game_rules.proofs.Common.{wins_by_fours, four_move, five}
+use Rattle.game_rules.proofs.Common.{WinsByThreats, has_five, has_threat, wins_or, loses_or, starts_win, wins_under, wins_by_fours}
+use Rattle.game_rules.proofs.Common.{four_move, five}
 use Rattle.game_rules.specs.declared.RuleKind.{RuleKind}
 use Rattle.game_rules.specs.declared.Side.{Side}
 use Rattle.game_rules.specs.declared.Outcome.{Outcome}
 use Rattle.game_rules.specs.declared.Point.{Point}
-use Rattle.game_rules.specs.declared.Outcome.TheVariants.{Refused, Wins, Fouls, Draws, GoesOn, Wins as WinsNow}
+use Rattle.game_rules.specs.declared.Outcome.TheVariants.{Wins, GoesOn, Wins as WinsNow}
 use Rattle.game_rules.proofs.Boards.{and_left, and_right, is_empty-on}
 use Rattle.game_rules.proofs.Points.{points-found, any_witness, all_of, all_at, off_refused, WinsOr-on}
 use Rattle.game_rules.proofs.Outcomes.{five-outcome, outcome-five}
@@ -20,18 +20,10 @@ use Rattle.game_rules.proofs.Fives.{five-empty}
 -- ---- one step, whatever the outcome
 
 pub WinsOr-map : (o : Outcome) (V W : Type 0) → (V → W) → WinsOr o V → WinsOr o W
-WinsOr-map Refused V W f h = h
-WinsOr-map Wins V W f h = h
-WinsOr-map (Fouls g) V W f h = h
-WinsOr-map Draws V W f h = h
-WinsOr-map GoesOn V W f h = f h
+WinsOr-map o V W f h = search rules
 
 pub LosesOr-map : (o : Outcome) (V W : Type 0) → (V → W) → LosesOr o V → LosesOr o W
-LosesOr-map Refused V W f h = h
-LosesOr-map Wins V W f h = h
-LosesOr-map (Fouls g) V W f h = h
-LosesOr-map Draws V W f h = h
-LosesOr-map GoesOn V W f h = f h
+LosesOr-map o V W f h = search rules
 
 -- ---- stronger and longer wins
 
@@ -64,8 +56,7 @@ WinsUnder-weaker strong weak implies rule (suc n) b h = (
 
 -- a win by fours is a win by threats, and that is a win
 pub WinsByFours-WinsByThreats : (rule : RuleKind) (n : ℕ) (b : Grid) → WinsByFours rule n b → WinsByThreats rule n b
-WinsByFours-WinsByThreats rule n b h = WinsUnder-weaker (has_five rule) (has_threat rule)
-    (λ c s e. or_left (has_five rule c s) (list_any (is_double_point rule c s) (points_of c)) e) rule n b h
+WinsByFours-WinsByThreats rule n b h = search (rules, WinsUnder-weaker, or_left)
 
 pub WinsUnder-WinsWithin : (demand : Grid → Side → Bool) (rule : RuleKind) (n : ℕ) (b : Grid) → WinsUnder demand rule n b
     → WinsWithin rule n b
@@ -74,42 +65,22 @@ WinsUnder-WinsWithin demand rule n b h = WinsUnder-weaker demand (λ c s. true) 
 -- ---- the test and the fact
 
 pub wins_or-WinsOr : (o : Outcome) (w : Bool) (W : Type 0) → (w ≡ true → W) → wins_or o w ≡ true → WinsOr o W
-wins_or-WinsOr Refused w W f h = cc
-wins_or-WinsOr Wins w W f h = tt
-wins_or-WinsOr (Fouls g) w W f h = cc
-wins_or-WinsOr Draws w W f h = cc
-wins_or-WinsOr GoesOn w W f h = f h
+wins_or-WinsOr o w W f h = search rules
 
 pub WinsOr-wins_or : (o : Outcome) (w : Bool) (W : Type 0) → (W → w ≡ true) → WinsOr o W → wins_or o w ≡ true
-WinsOr-wins_or Refused w W f h = absurd h
-WinsOr-wins_or Wins w W f h = refl
-WinsOr-wins_or (Fouls g) w W f h = absurd h
-WinsOr-wins_or Draws w W f h = absurd h
-WinsOr-wins_or GoesOn w W f h = f h
+WinsOr-wins_or o w W f h = search rules
 
 pub loses_or-LosesOr : (o : Outcome) (w : Bool) (W : Type 0) → (w ≡ true → W) → loses_or o w ≡ true → LosesOr o W
-loses_or-LosesOr Refused w W f h = tt
-loses_or-LosesOr Wins w W f h = cc
-loses_or-LosesOr (Fouls g) w W f h = tt
-loses_or-LosesOr Draws w W f h = cc
-loses_or-LosesOr GoesOn w W f h = f h
+loses_or-LosesOr o w W f h = search rules
 
 pub LosesOr-loses_or : (o : Outcome) (w : Bool) (W : Type 0) → (W → w ≡ true) → LosesOr o W → loses_or o w ≡ true
-LosesOr-loses_or Refused w W f h = refl
-LosesOr-loses_or Wins w W f h = absurd h
-LosesOr-loses_or (Fouls g) w W f h = refl
-LosesOr-loses_or Draws w W f h = absurd h
-LosesOr-loses_or GoesOn w W f h = f h
+LosesOr-loses_or o w W f h = search rules
 
 -- where the test of each reply on the board holds, each reply loses
 pub each_reply : (rule : RuleKind) (c : Grid) (next : Grid → Bool) (W : Grid → Type 0) → ((d : Grid) → next d ≡ true → W d)
     → list_all (λ q. loses_or (outcome rule c q) (next (after c q))) (points_of c) ≡ true → (q : Point)
     → LosesOr (outcome rule c q) (W (after c q))
-each_reply rule c next W f all q = by_test (is_on c q) refl where
-  by_test : (r : Bool) → is_on c q ≡ r → LosesOr (outcome rule c q) (W (after c q))
-  by_test true on = loses_or-LosesOr (outcome rule c q) _ _ (f (after c q))
-      (all_at c (λ q. loses_or (outcome rule c q) (next (after c q))) q all on)
-  by_test false off = subst (λ (o : Outcome). LosesOr o (W (after c q))) (sym (off_refused rule c q off)) tt
+each_reply rule c next W f all q = search (rules, loses_or-LosesOr, all_at, off_refused)
 
 pub test-WinsUnder : (demand : Grid → Side → Bool) (rule : RuleKind) (n : ℕ) (b : Grid) → wins_under demand rule n b ≡ true
     → WinsUnder demand rule n b
@@ -164,8 +135,7 @@ goes_on-no_five rule (suc n) b p chosen go = by_five (has_five rule b (mover b))
 
 pub wins-some : (rule : RuleKind) (n : ℕ) (b : Grid) → wins_by_fours rule n b ≡ true → 0 < n
 unfolding wins_under
-wins-some rule zero b h = cc
-wins-some rule (suc n) b h = omega arith
+wins-some rule n b h = search rules
 
 pub five-threats : (rule : RuleKind) (b : Grid) (w : Point) (n : ℕ) → five rule b (mover b) w ≡ true → 1 ≤ n → WinsByThreats rule n b
 five-threats rule b w zero h l = absurd (omega arith)
@@ -187,61 +157,33 @@ five-wins rule b n h =
 
 -- where the test finds no win there is none
 pub no-win : (rule : RuleKind) (n : ℕ) (b : Grid) → wins_by_fours rule n b ≡ false → WinsByFours rule n b → ⊥
-no-win rule n b none win =
-    let found = WinsUnder-test (has_five rule) rule n b win in
-    let bad : false ≡ true = sym none ∙ found in
-    cc
+no-win rule n b none win = search (rules, WinsUnder-test)
 
 pub win-has_five : (rule : RuleKind) (b : Grid) (p : Point) → outcome rule b p ≡ Wins → has_five rule b (mover b) ≡ true
-win-has_five rule b p h =
-    let five_here = outcome-five rule b p h in
-    points-found b (five rule b (mover b)) p (is_empty-on b p (five-empty rule b (mover b) p five_here)) five_here
+win-has_five rule b p h = search (rules, outcome-five, points-found, is_empty-on, five-empty)
 
 no_win_left : (o : Outcome) (d : Bool) → o ≢ WinsNow → wins_or o (d && false) ≡ false
-no_win_left Refused d h = refl
-no_win_left WinsNow d h = absurd (h refl)
-no_win_left (Fouls f) d h = refl
-no_win_left Draws d h = refl
-no_win_left GoesOn true h = refl
-no_win_left GoesOn false h = refl
+no_win_left o d h = search rules
 
 no_win_right : (o : Outcome) (l : Bool) → o ≢ WinsNow → wins_or o (false && l) ≡ false
-no_win_right Refused l h = refl
-no_win_right WinsNow l h = absurd (h refl)
-no_win_right (Fouls f) l h = refl
-no_win_right Draws l h = refl
-no_win_right GoesOn l h = refl
+no_win_right o l h = search rules
 
 module _ (rule : RuleKind) (demand : Grid → Side → Bool) (c : Grid) (next : Grid → Bool) (p : Point)
     (quiet : outcome rule c p ≢ WinsNow) where
   -- the demand is not met
   pub no_start-demand : demand (after c p) (mover c) ≡ false → starts_win demand rule c next p ≡ false
-  no_start-demand e = rw e (no_win_right (outcome rule c p)
-      (list_all (λ q. loses_or (outcome rule (after c p) q) (next (after (after c p) q))) (points_of c)) quiet)
+  no_start-demand e = search (rules, no_win_right)
 
   -- the reply q goes on, and there is no win after it
   pub no_start-reply : (q : Point) → is_on c q ≡ true → outcome rule (after c p) q ≡ GoesOn → next (after (after c p) q) ≡ false
       → starts_win demand rule c next p ≡ false
-  no_start-reply q on e none = by_all (list_all (λ q. loses_or (outcome rule (after c p) q) (next (after (after c p) q))) (points_of c))
-      refl where
-        by_all : (r : Bool) → list_all (λ q. loses_or (outcome rule (after c p) q) (next (after (after c p) q))) (points_of c) ≡ r
-            → wins_or (outcome rule c p) (demand (after c p) (mover c) && r) ≡ false
-        by_all false h = no_win_left (outcome rule c p) (demand (after c p) (mover c)) quiet
-        by_all true h =
-            let yes : loses_or (outcome rule (after c p) q) (next (after (after c p) q)) ≡ true =
-            all_at c (λ q. loses_or (outcome rule (after c p) q) (next (after (after c p) q))) q h on in
-            let no : loses_or (outcome rule (after c p) q) (next (after (after c p) q)) ≡ false = rw (e, none) refl in
-            cc
+  no_start-reply q on e none = search (rules, no_win_left, all_at)
 
 -- ---- one side alone wins
 
 -- a move that wins the game for one side is a reply that does not lose it for the other
 wins-meets : (o : Outcome) (V W : Type 0) → WinsOr o V → LosesOr o W → V × W
-wins-meets Refused V W v w = absurd v
-wins-meets Wins V W v w = absurd w
-wins-meets (Fouls g) V W v w = absurd v
-wins-meets Draws V W v w = absurd v
-wins-meets GoesOn V W v w = (v, w)
+wins-meets o V W v w = search rules
 
 -- where the side to move wins, the other side has no win whatever is played first, of whatever kind and within however many moves
 pub one-winner : (first second : Grid → Side → Bool) (rule : RuleKind) (n m : ℕ) (b : Grid) → WinsUnder first rule n b

@@ -1,6 +1,6 @@
 -- The cells that pass a test, as points in reading order.
-use Rattle.std.proofs.Common.{ℕ, ◌/◌, ◌%◌, ◌≡◌, zero, suc, ◌+◌, ◌<◌, Bool, true, false, cond, not, refl, ap, arith, List, [], ◌∷◌, ◌++◌}
-use Rattle.std.proofs.Common.{length, drop, set, get_or, ◌*◌, ◌-◌, ◌≤◌, sym, ◌∙◌, ◌&&◌, replicate, map}
+use Rattle.std.proofs.Common.{ℕ, ◌/◌, ◌%◌, ◌≡◌, zero, suc, ◌+◌, ◌<◌, Bool, true, false, cond, not, refl, arith, List, [], ◌∷◌, ◌++◌}
+use Rattle.std.proofs.Common.{length, drop, set, get_or, ◌*◌, ◌-◌, ◌≤◌, sym, ◌∙◌, ◌&&◌, replicate, map, rules}
 use Rattle.std.specs.List.{list_all}
 use Rattle.std.proofs.lemmas.Bool.{and_parts, not-true, both_ways}
 use Rattle.std.proofs.lemmas.Nat.{div-add-mod'}
@@ -25,15 +25,7 @@ module _ (at : ℕ → Point) (test : Cell → Bool) where
 
   pub marked-append : (k : ℕ) (cs ds : List Cell) → marked k (cs ++ ds) ≡ marked k cs ++ marked (k + length cs) ds
   marked-append k [] ds = let same : k + 0 ≡ k = omega arith in rw same refl
-  marked-append k (c ∷ cs) ds =
-      let next : k + suc (length cs) ≡ k + 1 + length cs = omega arith in
-      rw next (by_test (test c) (marked-append (k + 1) cs ds))
-    where
-      by_test : (r : Bool) → marked (k + 1) (cs ++ ds) ≡ marked (k + 1) cs ++ marked (k + 1 + length cs) ds
-          → cond r (at k ∷ marked (k + 1) (cs ++ ds)) (marked (k + 1) (cs ++ ds)) ≡ cond r (at k ∷ marked (k + 1) cs) (marked (k + 1) cs)
-          ++ marked (k + 1 + length cs) ds
-      by_test true h = ap (λ (l : List Point). at k ∷ l) h
-      by_test false h = h
+  marked-append k (c ∷ cs) ds = search (rules, marked-append (k + 1) cs ds)
 
   pub clear_none : (k : ℕ) (cs : List Cell) → is_clear cs ≡ true → marked k cs ≡ []
   clear_none k [] h = refl
@@ -67,34 +59,12 @@ next_mark_by : (width : ℕ) (test : Cell → Bool) (k : ℕ) (c : Cell) (cs : L
     → place ≡ p.y * width + p.x → (marked (point_at width) test (k + 1) cs ≡ p ∷ ps → NextMark width test (k + 1) cs place ps)
     → (r : Bool) → test c ≡ r → cond r (point_at width k ∷ marked (point_at width) test (k + 1) cs)
     (marked (point_at width) test (k + 1) cs) ≡ p ∷ ps → NextMark width test k (c ∷ cs) place ps
-next_mark_by width test k c cs p ps place is deeper true e h =
-    let first : point_at width k ≡ p = cc in
-    let others : marked (point_at width) test (k + 1) cs ≡ ps = cc in
-    let same : place ≡ k = is ∙ sym (ap (λ (q : Point). q.y * width + q.x) first) ∙ point_at-place width k in
-    let none : place - k ≡ 0 = omega (arith, same) in
-    let one : place + 1 - k ≡ 1 = omega (arith, same) in
-    let next : place + 1 ≡ k + 1 = omega (arith, same) in
-    record {
-      later = omega (arith, same);
-      passes = rw none e;
-      rest = rw (one, next) others;
-    }
-next_mark_by width test k c cs p ps place is deeper false e h =
-    let rest = deeper h in
-    let low = rest.later in
-    let inside : place - k ≡ suc (place - (k + 1)) = omega (arith, low) in
-    let after : place + 1 - k ≡ suc (place + 1 - (k + 1)) = omega (arith, low) in
-    record {
-      later = omega (arith, low);
-      passes = rw inside rest.passes;
-      rest = rw after rest.rest;
-    }
+next_mark_by width test k c cs p ps place is deeper r e h = search (rules, point_at-place)
 
 pub next_mark : (width : ℕ) (test : Cell → Bool) (k : ℕ) (cs : List Cell) (p : Point) (ps : List Point) (place : ℕ)
     → place ≡ p.y * width + p.x → marked (point_at width) test k cs ≡ p ∷ ps → NextMark width test k cs place ps
 next_mark width test k [] p ps place is h = absurd cc
-next_mark width test k (c ∷ cs) p ps place is h = next_mark_by width test k c cs p ps place is
-    (next_mark width test (k + 1) cs p ps place is) (test c) refl h
+next_mark width test k (c ∷ cs) p ps place is h = search (rules, next_mark_by, next_mark width test (k + 1) cs p ps place is)
 
 -- no mark stands before its place
 too_early : (width : ℕ) (test : Cell → Bool) (k : ℕ) (cs : List Cell) (ps : List Point)
@@ -108,10 +78,7 @@ same_tests_by : (width : ℕ) (test : Cell → Bool) (k : ℕ) (cs ds : List Cel
     → cond q (point_at width k ∷ marked (point_at width) test (k + 1) cs) (marked (point_at width) test (k + 1) cs) ≡ cond r
     (point_at width k ∷ marked (point_at width) test (k + 1) ds) (marked (point_at width) test (k + 1) ds)
     → (q ≡ r) × (marked (point_at width) test (k + 1) cs ≡ marked (point_at width) test (k + 1) ds)
-same_tests_by width test k cs ds true true h = (refl, cc)
-same_tests_by width test k cs ds true false h = absurd (too_early width test k ds (marked (point_at width) test (k + 1) cs) h)
-same_tests_by width test k cs ds false true h = absurd (too_early width test k cs (marked (point_at width) test (k + 1) ds) (sym h))
-same_tests_by width test k cs ds false false h = (refl, h)
+same_tests_by width test k cs ds q r h = search (rules, too_early)
 
 -- cells with the same marks pass at the same places
 pub same_tests : (width : ℕ) (test : Cell → Bool) (k : ℕ) (cs ds : List Cell) → length cs ≡ length ds
@@ -126,18 +93,13 @@ same_tests width test k (c ∷ cs) (d ∷ ds) len h (suc i) =
 module _ (at : ℕ → Point) (test : Cell → Bool) where
   pub clear_from_none : (k : ℕ) (cs : List Cell) → marked at test k cs ≡ [] → is_clear at test cs ≡ true
   clear_from_none k [] h = refl
-  clear_from_none k (c ∷ cs) h = by_test (test c) (clear_from_none (k + 1) cs) h where
-    by_test : (r : Bool) → (marked at test (k + 1) cs ≡ [] → is_clear at test cs ≡ true)
-        → cond r (at k ∷ marked at test (k + 1) cs) (marked at test (k + 1) cs) ≡ [] → (not r && is_clear at test cs) ≡ true
-    by_test true rest h = absurd cc
-    by_test false rest h = rest h
+  clear_from_none k (c ∷ cs) h = search (rules, clear_from_none (k + 1) cs)
 
 -- a cell of cells without marks has none
 pub clear_at : (at : ℕ → Point) (test : Cell → Bool) (cs : List Cell) (i : ℕ) → is_clear at test cs ≡ true → i < length cs
     → test (get_or cs i Empty) ≡ true → ⊥
 clear_at at test [] i h within passes = omega arith
-clear_at at test (c ∷ cs) zero h within passes = both_ways (test c) (not-true (test c) (and_parts (not (test c)) (is_clear at test cs) h).0)
-    passes
+clear_at at test (c ∷ cs) zero h within passes = search (rules, both_ways, not-true, and_parts)
 clear_at at test (c ∷ cs) (suc i) h within passes =
     clear_at at test cs i (and_parts (not (test c)) (is_clear at test cs) h).1 (omega arith) passes
 

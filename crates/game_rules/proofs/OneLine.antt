@@ -1,10 +1,9 @@
 -- What the stones of one line decide. A stone plays no part in the runs of a line that it is not on, so the five points that a stone
 -- makes where there were none depend on the lines through it alone.
-use Rattle.std.proofs.Common.{◌≡◌, inl, inr, ℕ, ◌+◌, ◌≤◌, Bool, true, false, cond, length, refl, sym, ap, subst, ◌∙◌, arith}
-use Rattle.std.specs.Prelude.{Option, Some, None}
-use Rattle.std.specs.List.{filter, list_any, range_with_len, prefix_len}
+use Rattle.std.proofs.Common.{rules, ◌≡◌, inl, inr, ℕ, ◌+◌, ◌≤◌, Bool, true, false, cond, length, refl, sym, ap, subst}
+use Rattle.std.proofs.Common.{◌∙◌, Option, Some, filter}
+use Rattle.std.specs.List.{list_any, range_with_len, prefix_len}
 use Rattle.std.proofs.lemmas.Bool.{false_from_ne_true, both_ways}
-use Rattle.std.proofs.lemmas.Bool.Decides.{nat_tests}
 use Rattle.std.proofs.lemmas.List.Sums.{length-filter, sum_by-le-sum_by}
 use Rattle.game_rules.proofs.Common.{Grid, IsBoard, is_on, is_empty, is_stone_of, stone_of, put, along, points_of, points_within, holds}
 use Rattle.game_rules.proofs.Common.{same_line, is_aligned, stones_ahead, stones_behind, line_bound, stone_at, wins_on, five}
@@ -14,13 +13,11 @@ use Rattle.game_rules.specs.declared.Side.{Side}
 use Rattle.game_rules.specs.declared.Axis.{Axis}
 use Rattle.game_rules.specs.declared.Way.{Way}
 use Rattle.game_rules.specs.declared.Point.{Point}
-use Rattle.game_rules.specs.declared.Side.TheVariants.{Black, White}
-use Rattle.game_rules.specs.declared.Axis.TheVariants.{Row, Column, Down, Up}
-use Rattle.game_rules.specs.declared.Way.TheVariants.{Ahead, Behind}
+use Rattle.game_rules.specs.declared.Axis.TheVariants.{Row}
 use Rattle.game_rules.proofs.Axes.{axis_of, some_axis}
 use Rattle.game_rules.proofs.Boards.{Apart, and_left, is_empty-on, is_empty-put, same_or_apart, empty_holds, holds-put_other}
 use Rattle.game_rules.proofs.Boards.{holds-put_same, prefix_len-same}
-use Rattle.game_rules.proofs.Lines.{OnLine, along-OnLine}
+use Rattle.game_rules.proofs.Lines.{along-OnLine}
 use Rattle.game_rules.proofs.Positions.{IsBoard-put, holds-other}
 use Rattle.game_rules.proofs.Wins.{wins_on-stones, no_win}
 use Rattle.game_rules.proofs.Tests.{more_pass}
@@ -29,35 +26,21 @@ use Rattle.game_rules.proofs.Tests.{more_pass}
 
 -- a point some steps along the axis is on its line
 pub line_here : (d : Axis) (p q : Point) (a c : ℕ) → along d p a c ≡ Some q → same_line d p q ≡ true
-line_here d p q a c here = by_axis d (along-OnLine d p a c q here) where
-  by_axis : (d : Axis) → OnLine d p a c q → same_line d p q ≡ true
-  by_axis Row h = let y = h.1 in grind (arith, nat_tests)
-  by_axis Column h = let x = h.0 in grind (arith, nat_tests)
-  by_axis Down h = let x = h.0 in let y = h.1 in grind (arith, nat_tests)
-  by_axis Up h = let x = h.0 in let y = h.1 in grind (arith, nat_tests)
+line_here d p q a c here = search (rules, along-OnLine)
 
 -- two points on a line with a third are on one line
 pub line_join : (d : Axis) (w p q : Point) → same_line d w p ≡ true → same_line d w q ≡ true → same_line d p q ≡ true
-line_join Row w p q h k = grind (arith, nat_tests)
-line_join Column w p q h k = grind (arith, nat_tests)
-line_join Down w p q h k = grind (arith, nat_tests)
-line_join Up w p q h k = grind (arith, nat_tests)
+line_join d w p q h k = search rules
 
 pub line_itself : (d : Axis) (p : Point) → same_line d p p ≡ true
-line_itself Row p = grind (arith, nat_tests)
-line_itself Column p = grind (arith, nat_tests)
-line_itself Down p = grind (arith, nat_tests)
-line_itself Up p = grind (arith, nat_tests)
+line_itself d p = search rules
 
 pub line_back : (d : Axis) (p q : Point) → same_line d p q ≡ true → same_line d q p ≡ true
 line_back d p q h = line_join d p q p h (line_itself d p)
 
 -- a point that is not on the line is none of its points
 pub line_apart : (d : Axis) (w p z : Point) → same_line d w p ≡ false → same_line d w z ≡ true → Apart p z
-line_apart d w p z off line = elim (same_or_apart p z) [
-  | inl same ↦ absurd (both_ways _ off (ap (same_line d w) same ∙ line))
-  | inr apart ↦ apart
-]
+line_apart d w p z off line = search (rules, same_or_apart, both_ways)
 
 pub aligned_at : (d : Axis) (p q : Point) → same_line d p q ≡ true → is_aligned p q ≡ true
 aligned_at d p q h = axis_of (λ d. same_line d p q) d h
@@ -67,14 +50,10 @@ aligned_itself p = aligned_at Row p p (line_itself Row p)
 
 -- what is on no line with p has p on none
 pub off_back : (p q : Point) → is_aligned p q ≡ false → is_aligned q p ≡ false
-off_back p q off = false_from_ne_true _
-    (λ h. let some = some_axis (λ d. same_line d q p) h in both_ways _ off (aligned_at some.0 p q (line_back some.0 q p some.1)))
+off_back p q off = search (rules, false_from_ne_true, some_axis, both_ways, aligned_at, line_back)
 
 pub off_apart : (p f z : Point) → is_aligned p f ≡ false → is_aligned f z ≡ true → Apart p z
-off_apart p f z off line = elim (same_or_apart p z) [
-  | inl same ↦ absurd (both_ways _ (off_back p f off) (ap (is_aligned f) same ∙ line))
-  | inr apart ↦ apart
-]
+off_apart p f z off line = search (rules, same_or_apart, both_ways, off_back)
 
 -- ---- points beside a new stone
 
@@ -88,8 +67,7 @@ empty-before b t p r ok on h = elim (same_or_apart p r) [
 
 -- a stone of the other side is none of the side's own, and leaves those as they are
 pub not_own : (s : Side) → is_stone_of s (stone_of (other s)) ≡ false
-not_own Black = refl
-not_own White = refl
+not_own s = search rules
 
 pub holds-put_others : (b : Grid) (s : Side) (p z : Point) → IsBoard b → is_empty b p ≡ true → holds (put b (other s) p) s z ≡ holds b s z
 holds-put_others b s p z ok empty = holds-other b (other s) s p ok empty (not_own s) z
@@ -98,17 +76,14 @@ holds-put_others b s p z ok empty = holds-other b (other s) s p ok empty (not_ow
 
 stone_alike : (b c : Grid) (s : Side) (o : Option Point) → ((z : Point) → o ≡ Some z → holds b s z ≡ holds c s z)
     → stone_at b s o ≡ stone_at c s o
-stone_alike b c s None same = refl
-stone_alike b c s (Some z) same = same z refl
+stone_alike b c s o same = search rules
 
 module _ (b c : Grid) (s : Side) (d : Axis) (w : Point) (same : (z : Point) → same_line d w z ≡ true → holds b s z ≡ holds c s z)
     (bound : line_bound b ≡ line_bound c) where
   row_alike : (at : ℕ → Option Point) → ((k : ℕ) (z : Point) → at k ≡ Some z → same_line d w z ≡ true)
       → prefix_len (λ k. stone_at b s (at k)) (range_with_len 1 (line_bound b))
       ≡ prefix_len (λ k. stone_at c s (at k)) (range_with_len 1 (line_bound c))
-  row_alike at line =
-      prefix_len-same _ _ (line_bound b) 1 (λ k l. stone_alike b c s (at k) (λ z e. same z (line k z e)))
-      ∙ ap (λ n. prefix_len (λ k. stone_at c s (at k)) (range_with_len 1 n)) bound
+  row_alike at line = search (rules, prefix_len-same, stone_alike)
 
   pub ahead_alike : stones_ahead b s d w ≡ stones_ahead c s d w
   ahead_alike = row_alike (λ k. along d w k 0) (λ k z e. line_here d w z k 0 e)
@@ -118,13 +93,11 @@ module _ (b c : Grid) (s : Side) (d : Axis) (w : Point) (same : (z : Point) → 
 
   -- as many stand next to a point of the line
   pub towards_alike : (v : Way) → stones_towards v b s d w ≡ stones_towards v c s d w
-  towards_alike Ahead = ahead_alike
-  towards_alike Behind = behind_alike
+  towards_alike v = search (rules, ahead_alike, behind_alike)
 
   -- and the point wins on the axis alike
   pub wins_alike : (rule : RuleKind) → IsBoard b → IsBoard c → is_empty b w ≡ is_empty c w → wins_on rule b s d w ≡ wins_on rule c s d w
-  wins_alike rule ok_b ok_c empty = wins_on-stones rule b s d w ok_b ∙ rw (empty, ahead_alike, behind_alike) refl
-      ∙ sym (wins_on-stones rule c s d w ok_c)
+  wins_alike rule ok_b ok_c empty = search (rules, wins_on-stones, ahead_alike, behind_alike)
 
 -- ---- a stone on f, on two boards
 
@@ -138,50 +111,22 @@ pub record KeepsLines (b c : Grid) (s : Side) (f : Point) : Type 0 where
   pub empties : (z : Point) → is_aligned f z ≡ true → is_empty b z ≡ true → is_empty c z ≡ true
 
 pub keeps-then : (b c d : Grid) (s : Side) (f : Point) → KeepsLines b c s f → KeepsLines c d s f → KeepsLines b d s f
-keeps-then b c d s f one two = record {
-  board = one.board;
-  next = two.next;
-  wide = one.wide ∙ two.wide;
-  high = one.high ∙ two.high;
-  stones = λ z line. one.stones z line ∙ two.stones z line;
-  empties = λ z line free. two.empties z line (one.empties z line free);
-}
+keeps-then b c d s f one two = search rules
 
 pub keeps_itself : (b : Grid) (s : Side) (f : Point) → IsBoard b → KeepsLines b b s f
 keeps_itself b s f ok = record { board = ok; next = ok; wide = refl; high = refl; stones = λ z line. refl; empties = λ z line free. free }
 
 -- they are kept where a stone of the other side is taken from any point
 pub others-kept : (b : Grid) (s : Side) (p f : Point) → IsBoard b → is_empty b p ≡ true → KeepsLines (put b (other s) p) b s f
-others-kept b s p f ok empty = record {
-  board = IsBoard-put b (other s) p ok;
-  next = ok;
-  wide = refl;
-  high = refl;
-  stones = λ z line. holds-put_others b s p z ok empty;
-  empties = λ z line free. (empty-before b (other s) p z ok (is_empty-on b p empty) free).1;
-}
+others-kept b s p f ok empty = search (rules, IsBoard-put, holds-put_others, empty-before, is_empty-on)
 
 -- a stone of either side on p, which is on no line with f, keeps them, and so does taking it away
 module _ (b : Grid) (t s : Side) (p f : Point) (ok : IsBoard b) (on : is_on b p ≡ true) (off : is_aligned p f ≡ false) where
   pub put-keeps : KeepsLines b (put b t p) s f
-  put-keeps = record {
-    board = ok;
-    next = IsBoard-put b t p ok;
-    wide = refl;
-    high = refl;
-    stones = λ z line. sym (holds-put_other b t s p z on (off_apart p f z off line));
-    empties = λ z line free. is_empty-put b t p z on (off_apart p f z off line) ∙ free;
-  }
+  put-keeps = search (rules, IsBoard-put, holds-put_other, off_apart, is_empty-put)
 
   pub put-kept : KeepsLines (put b t p) b s f
-  put-kept = record {
-    board = IsBoard-put b t p ok;
-    next = ok;
-    wide = refl;
-    high = refl;
-    stones = λ z line. holds-put_other b t s p z on (off_apart p f z off line);
-    empties = λ z line free. sym (is_empty-put b t p z on (off_apart p f z off line)) ∙ free;
-  }
+  put-kept = search (rules, IsBoard-put, holds-put_other, off_apart, is_empty-put)
 
 module _ (rule : RuleKind) (b c : Grid) (s : Side) (f : Point) (keeps : KeepsLines b c s f) (none : has_five rule b s ≡ false)
     (open_b : is_empty b f ≡ true) where

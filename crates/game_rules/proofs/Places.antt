@@ -1,8 +1,8 @@
 -- The points of a board as a list: how many there are, where each stands, that all are on the board and rise, and those of them
 -- that pass a test.
-use Rattle.std.proofs.Common.{◌≡◌, ℕ, zero, suc, ◌+◌, ◌*◌, ◌<◌, ◌≤◌, Bool, true, false, cond, ◌&&◌, ◌||◌, refl, sym, ap, subst, ◌∙◌, arith}
-use Rattle.std.proofs.Common.{List, [], ◌∷◌, ◌++◌, map, length, length-append, nat_lt, Contains}
-use Rattle.std.specs.Prelude.{Option, Some, None, slice_get, unwrap_or}
+use Rattle.std.proofs.Common.{◌≡◌, ℕ, zero, suc, ◌+◌, ◌*◌, ◌<◌, ◌≤◌, Bool, true, false, cond, ◌&&◌, ◌||◌, refl, ap, subst, ◌∙◌, arith}
+use Rattle.std.proofs.Common.{List, [], ◌∷◌, ◌++◌, length, length-append, Contains, rules}
+use Rattle.std.specs.Prelude.{Some, slice_get, unwrap_or}
 use Rattle.std.specs.List.{flat_map, range_with_len, filter, find, list_all, list_any}
 use Rattle.std.proofs.lemmas.Bool.{lt-ltb}
 use Rattle.std.proofs.lemmas.Nat.{mul-le}
@@ -20,20 +20,14 @@ row_length y x (suc n) = ap suc (row_length y (x + 1) n)
 
 rows_length : (width a n : ℕ) → length (flat_map (λ y. row_from y 0 width) (range_with_len a n)) ≡ width * n
 rows_length width a zero = omega arith
-rows_length width a (suc n) =
-    let rest = rows_length width (a + 1) n in
-    let row = row_length a 0 width in
-    length-append (row_from a 0 width) _ ∙ omega arith
+rows_length width a (suc n) = search (rules, row_length, length-append, rows_length width (a + 1) n)
 
 pub points_length : (b : Grid) → length (points_of b) ≡ b.width * b.height
 points_length b = rows_length b.width 0 b.height
 
 -- a board has 1,024 points at most
 pub points_few : (b : Grid) → IsBoard b → length (points_of b) ≤ 1024
-points_few b ok =
-    let e = points_length b in
-    let most : b.width * b.height ≤ 32 * 32 = mul-le b.width b.height 32 32 ok.width_fits ok.height_fits in
-    omega (arith, e, most)
+points_few b ok = search (rules, points_length, mul-le)
 
 -- ---- where each stands
 
@@ -54,16 +48,8 @@ row_get y x (suc n) (suc i) h = let e : x + suc i ≡ x + 1 + i = omega arith in
 rows_get : (width a n k x : ℕ) → k < n → x < width
     → slice_get (flat_map (λ y. row_from y 0 width) (range_with_len a n)) (k * width + x) ≡ Some (record { x = x; y = a + k })
 rows_get width a zero k x low h = absurd (omega arith)
-rows_get width a (suc n) zero x low h =
-    let e : 0 * width + x ≡ x = omega arith in
-    let f : a + 0 ≡ a = omega arith in
-    let g : 0 + x ≡ x = omega arith in
-    let size : x < length (row_from a 0 width) = rw (row_length a 0 width) h in
-    rw (e, f) (slice_get-left (row_from a 0 width) _ x size ∙ rw g at (row_get a 0 width x h))
-rows_get width a (suc n) (suc k) x low h =
-    let e : suc k * width + x ≡ length (row_from a 0 width) + (k * width + x) = rw (row_length a 0 width) (omega arith) in
-    let f : a + suc k ≡ a + 1 + k = omega arith in
-    rw (e, f) (slice_get-right (row_from a 0 width) _ (k * width + x) ∙ rows_get width (a + 1) n k x (omega arith) h)
+rows_get width a (suc n) zero x low h = search (rules, row_length, slice_get-left, row_get)
+rows_get width a (suc n) (suc k) x low h = search (rules, row_length, slice_get-right, rows_get width (a + 1) n k x (omega arith) h)
 
 -- a point of the board stands at its place
 pub points_get : (b : Grid) (q : Point) → is_on b q ≡ true → slice_get (points_of b) (place_of b q) ≡ Some q
@@ -73,15 +59,11 @@ points_get b q on = let e : 0 + q.y ≡ q.y = omega arith in rw e at (rows_get b
 
 row_on : (b : Grid) (y x n : ℕ) → y < b.height → x + n ≤ b.width → list_all (is_on b) (row_from y x n) ≡ true
 row_on b y x zero low high = refl
-row_on b y x (suc n) low high =
-    let here : is_on b (record { x = x; y = y }) ≡ true = rw (lt-ltb x b.width (omega arith), lt-ltb y b.height low) refl in
-    rw here (row_on b y (x + 1) n low (omega arith))
+row_on b y x (suc n) low high = search (rules, lt-ltb, row_on b y (x + 1) n low (omega arith))
 
 rows_on : (b : Grid) (a n : ℕ) → a + n ≤ b.height → list_all (is_on b) (flat_map (λ y. row_from y 0 b.width) (range_with_len a n)) ≡ true
 rows_on b a zero high = refl
-rows_on b a (suc n) high =
-    list_all-append (is_on b) (row_from a 0 b.width) _
-    ∙ rw (row_on b a 0 b.width (omega arith) (omega arith), rows_on b (a + 1) n (omega arith)) refl
+rows_on b a (suc n) high = search (rules, list_all-append, row_on, rows_on b (a + 1) n (omega arith))
 
 pub points_on : (b : Grid) → list_all (is_on b) (points_of b) ≡ true
 points_on b = rows_on b 0 b.height (omega arith)
@@ -90,11 +72,7 @@ points_on b = rows_on b 0 b.height (omega arith)
 pub listed_passes : (f : Point → Bool) (q : Point) (ps : List Point) → list_all f ps ≡ true → list_any (λ p. is_same_point p q) ps ≡ true
     → f q ≡ true
 listed_passes f q [] all h = cc
-listed_passes f q (p ∷ ps) all h = by_test (is_same_point p q) refl h (listed_passes f q ps (and_right (f p) _ all)) where
-  by_test : (r : Bool) → is_same_point p q ≡ r → (r || list_any (λ x. is_same_point x q) ps) ≡ true
-      → (list_any (λ x. is_same_point x q) ps ≡ true → f q ≡ true) → f q ≡ true
-  by_test true e k rest = subst (λ (x : Point). f x ≡ true) (is_same_point-same p q e) (and_left (f p) _ all)
-  by_test false e k rest = rest k
+listed_passes f q (p ∷ ps) all h = search (rules, and_right, is_same_point-same, and_left, listed_passes f q ps (and_right (f p) _ all))
 
 -- a listed point is on the board
 pub listed_on : (b : Grid) (q : Point) → list_any (λ p. is_same_point p q) (points_of b) ≡ true → is_on b q ≡ true
@@ -145,30 +123,16 @@ module _ (width : ℕ) where
   -- points at different places are not one
   pub earlier-differs : (p q : Point) → place p < place q → is_same_point p q ≡ false
   unfolding place
-  earlier-differs p q less = by_test (is_same_point p q) refl where
-    by_test : (r : Bool) → is_same_point p q ≡ r → r ≡ false
-    by_test false e = refl
-    by_test true e =
-        let l : place q < place q = subst (λ (x : Point). place x < place q) (is_same_point-same p q e) less in
-        absurd (omega (arith, l))
+  earlier-differs p q less = search (rules, is_same_point-same)
 
   filter-rising : (f : Point → Bool) (k : ℕ) (ps : List Point) → Rising k ps → Rising k (filter f ps)
   unfolding Rising
   filter-rising f k [] h = h
-  filter-rising f k (p ∷ ps) h = by_test (f p) (filter-rising f (place p + 1) ps h.1) where
-    by_test : (r : Bool) → Rising (place p + 1) (filter f ps) → Rising k (cond r (p ∷ filter f ps) (filter f ps))
-    by_test true rest = (h.0, rest)
-    by_test false rest = Rising-from _ _ (filter f ps) (let low = h.0 in omega (arith, low)) rest
+  filter-rising f k (p ∷ ps) h = search (rules, Rising-from, filter-rising f (place p + 1) ps h.1)
 
   two-apart : (k : ℕ) (p q : Point) (ps : List Point) → Rising k (p ∷ q ∷ ps) → Apart p q
   unfolding Rising place
-  two-apart k p q ps h = record {
-    apart = λ x y.
-        let same : q.y * width + q.x ≡ p.y * width + p.x =
-        ap (λ (z : ℕ). z * width + q.x) (sym y) ∙ ap (λ (z : ℕ). p.y * width + z) (sym x) in
-        let low = h.1.0 in
-        omega (arith, low, same);
-  }
+  two-apart k p q ps h = search rules
 
 -- two points that pass a test, one after another, are not one
 pub two_passing-apart : (b : Grid) (f : Point → Bool) (p q : Point) (ps : List Point) → filter f (points_of b) ≡ p ∷ q ∷ ps → Apart p q
@@ -195,20 +159,12 @@ passing_listed f q (p ∷ ps) h = by_tests (f p) (is_same_point p q) refl h (pas
 
 -- a point of the board that passes is among those that do
 pub points_passing : (b : Grid) (f : Point → Bool) (q : Point) → is_on b q ≡ true → f q ≡ true → Contains (filter f (points_of b)) q
-points_passing b f q on h =
-    passing_listed f q (points_of b)
-    (points-found b (λ x. f x && is_same_point x q) q on (ap (λ r. r && is_same_point q q) h ∙ is_same_point-itself q))
+points_passing b f q on h = search (rules, passing_listed, points-found, is_same_point-itself)
 
 -- what is found passes, and is one of the list
 pub find-in : (f g : Point → Bool) (ps : List Point) (w : Point) → list_all g ps ≡ true → find f ps ≡ Some w → (f w ≡ true) × (g w ≡ true)
 find-in f g [] w all h = cc
-find-in f g (p ∷ ps) w all h = by_test (f p) refl h (find-in f g ps w (and_right (g p) _ all)) where
-  by_test : (r : Bool) → f p ≡ r → cond r (Some p) (find f ps) ≡ Some w → (find f ps ≡ Some w → (f w ≡ true) × (g w ≡ true))
-      → (f w ≡ true) × (g w ≡ true)
-  by_test true e k rest =
-      let same : p ≡ w = cc in
-      (subst (λ (x : Point). f x ≡ true) same e, subst (λ (x : Point). g x ≡ true) same (and_left (g p) _ all))
-  by_test false e k rest = rest k
+find-in f g (p ∷ ps) w all h = search (rules, and_right, and_left, find-in f g ps w (and_right (g p) _ all))
 
 pub find-passes : (f : Point → Bool) (ps : List Point) (w : Point) → find f ps ≡ Some w → f w ≡ true
 find-passes f ps w h = (find-in f (λ q. true) ps w (always ps) h).0 where
@@ -219,8 +175,4 @@ find-passes f ps w h = (find-in f (λ q. true) ps w (always ps) h).0 where
 -- where the test holds somewhere, it holds of what is found
 pub find-some : (f : Point → Bool) (ps : List Point) (d : Point) → list_any f ps ≡ true → f (unwrap_or (find f ps) d) ≡ true
 find-some f [] d h = cc
-find-some f (x ∷ ps) d h = by_test (f x) refl h (find-some f ps d) where
-  by_test : (r : Bool) → f x ≡ r → (r || list_any f ps) ≡ true → (list_any f ps ≡ true → f (unwrap_or (find f ps) d) ≡ true)
-      → f (unwrap_or (cond r (Some x) (find f ps)) d) ≡ true
-  by_test true e h rest = e
-  by_test false e h rest = rest h
+find-some f (x ∷ ps) d h = search (rules, find-some f ps d)

@@ -1,4 +1,5 @@
 -- Lists of points: what is found, filtered, counted and summed in them.
+use Rattle.std.proofs.Common.{rules}
 use Rattle.std.proofs.Common.{not, List, ◌≡◌, Bool, cond, refl, ap, ◌∙◌, [], ◌∷◌, true, false, ◌&&◌, ◌||◌, suc, sym, subst, arith, zero, ℕ}
 use Rattle.std.proofs.Common.{◌+◌, ◌<◌, length, drop, get_or, ◌++◌, take, nat_eq, ◌≤◌, reverse, nat_le, leb-true, leb-false, le-leb}
 use Rattle.std.specs.List.{filter, list_any, find, All, list_all, sum_by, AllByRecursion}
@@ -22,30 +23,19 @@ without p xs = filter (λ q. not (is_same_point p q)) xs
 
 pub filter-same : (f g : Point → Bool) (xs : List Point) → ((q : Point) → f q ≡ g q) → filter f xs ≡ filter g xs
 filter-same f g [] h = refl
-filter-same f g (x ∷ xs) h = ap (λ r. cond r (x ∷ filter f xs) (filter f xs)) (h x)
-    ∙ ap (λ ys. cond (g x) (x ∷ ys) ys) (filter-same f g xs h)
+filter-same f g (x ∷ xs) h = search (rules, filter-same f g xs h)
 
 pub filter-both : (f g : Point → Bool) (xs : List Point) → filter (λ q. f q && g q) xs ≡ filter g (filter f xs)
 filter-both f g [] = refl
-filter-both f g (x ∷ xs) = by_test (f x) (filter-both f g xs) where
-  by_test : (r : Bool) → filter (λ q. f q && g q) xs ≡ filter g (filter f xs)
-      → cond (r && g x) (x ∷ filter (λ q. f q && g q) xs) (filter (λ q. f q && g q) xs) ≡ filter g (cond r (x ∷ filter f xs) (filter f xs))
-  by_test true h = ap (λ ys. cond (g x) (x ∷ ys) ys) h
-  by_test false h = h
+filter-both f g (x ∷ xs) = search (rules, filter-both f g xs)
 
 pub unfound-none : (f : Point → Bool) (xs : List Point) → find f xs ≡ None → list_any f xs ≡ false
 unfound-none f [] h = refl
-unfound-none f (x ∷ xs) h = by_test (f x) h (unfound-none f xs) where
-  by_test : (r : Bool) → cond r (Some x) (find f xs) ≡ None → (find f xs ≡ None → list_any f xs ≡ false) → (r || list_any f xs) ≡ false
-  by_test true h rest = cc
-  by_test false h rest = rest h
+unfound-none f (x ∷ xs) h = search (rules, unfound-none f xs)
 
 pub none-unfound : (f : Point → Bool) (xs : List Point) → list_any f xs ≡ false → find f xs ≡ None
 none-unfound f [] h = refl
-none-unfound f (x ∷ xs) h = by_test (f x) h (none-unfound f xs) where
-  by_test : (r : Bool) → (r || list_any f xs) ≡ false → (list_any f xs ≡ false → find f xs ≡ None) → cond r (Some x) (find f xs) ≡ None
-  by_test true h rest = cc
-  by_test false h rest = rest h
+none-unfound f (x ∷ xs) h = search (rules, none-unfound f xs)
 
 pub found_all : (P : Point → Type 0) (q : Point) (xs : List Point) → All P xs → list_any (is_same_point q) xs ≡ true → P q
 found_all P q [] all h = cc
@@ -59,23 +49,7 @@ found_all P q (x ∷ xs) all h = by_test (is_same_point q x) refl h (found_all P
 pub still-found : (f : Point → Bool) (q : Point) (ps : List Point) → f q ≡ true → list_any (is_same_point q) ps ≡ true
     → list_any (is_same_point q) (filter f ps) ≡ true
 still-found f q [] h k = cc
-still-found f q (p ∷ ps) h k = by_same (is_same_point q p) refl k (still-found f q ps h) where
-  kept : (b : Bool) → list_any (is_same_point q) (filter f ps) ≡ true
-      → list_any (is_same_point q) (cond b (p ∷ filter f ps) (filter f ps)) ≡ true
-  kept true e = or_right (is_same_point q p) _ e
-  kept false e = e
-
-  here : is_same_point q p ≡ true → list_any (is_same_point q) (cond (f p) (p ∷ filter f ps) (filter f ps)) ≡ true
-  here same =
-      let e : f p ≡ true = ap f (sym (is_same_point-same q p same)) ∙ h in
-      ap (λ b. list_any (is_same_point q) (cond b (p ∷ filter f ps) (filter f ps))) e
-      ∙ ap (λ b. b || list_any (is_same_point q) (filter f ps)) same
-
-  by_same : (b : Bool) → is_same_point q p ≡ b → (b || list_any (is_same_point q) ps) ≡ true
-      → (list_any (is_same_point q) ps ≡ true → list_any (is_same_point q) (filter f ps) ≡ true)
-      → list_any (is_same_point q) (filter f (p ∷ ps)) ≡ true
-  by_same true same k rest = here same
-  by_same false same k rest = kept (f p) (rest k)
+still-found f q (p ∷ ps) h k = search (rules, or_right, is_same_point-same, still-found f q ps h)
 
 pub filter-inside : (p : Point → Bool) (qs : List Point) (q : Point) → Contains (filter p qs) q → Contains qs q
 filter-inside p [] q (k, l, e) = absurd (omega arith)
@@ -91,9 +65,7 @@ filter-inside p (r ∷ qs) q c = by_test (p r) c (filter-inside p qs q) where
 
 pub next_point : (points : List Point) (i : ℕ) → i < length points
     → drop i points ≡ get_or points i (record { x = 0; y = 0 }) ∷ drop (i + 1) points
-next_point points i within =
-    let next : i + 1 ≡ suc i = omega arith in
-    rw next (drop-cons points i (record { x = 0; y = 0 }) within)
+next_point points i within = search (rules, drop-cons)
 
 pub first_points : (points : List Point) (i : ℕ) → i < length points
     → take (i + 1) points ≡ take i points ++ get_or points i (record { x = 0; y = 0 }) ∷ []
@@ -127,11 +99,7 @@ some_listed f ps (x ∷ xs) h = let some = filter-some f x xs ps (sym h) in let 
 
 pub some_passes : (f g : Point → Bool) (xs : List Point) → list_any f (filter g xs) ≡ true → (x : Point) × (g x ≡ true)
 some_passes f g [] h = cc
-some_passes f g (x ∷ xs) h = by_test (g x) refl h (some_passes f g xs) where
-  by_test : (r : Bool) → g x ≡ r → list_any f (cond r (x ∷ filter g xs) (filter g xs)) ≡ true
-      → (list_any f (filter g xs) ≡ true → (y : Point) × (g y ≡ true)) → (y : Point) × (g y ≡ true)
-  by_test true e h rest = (x, e)
-  by_test false e h rest = rest h
+some_passes f g (x ∷ xs) h = search (rules, some_passes f g xs)
 
 pub no_point : (ps : List Point) → filter (λ p. false) ps ≡ []
 no_point [] = refl
@@ -148,23 +116,15 @@ abbrev pub AmongPoints : Point → List Point → Type 0
 AmongPoints q ps = among_points q ps ≡ true
 
 pub apart_same : (p q : Point) → Apart p q → is_same_point q p ≡ false
-apart_same p q h = false_from_ne_true (is_same_point q p)
-    (λ e. let same : q ≡ p = is_same_point-same q p e in h.apart (ap (λ (r : Point). r.x) (sym same)) (ap (λ (r : Point). r.y) (sym same)))
+apart_same p q h = search (rules, false_from_ne_true, is_same_point-same)
 
 pub find-and : (f g : Point → Bool) (ps : List Point) → find (λ x. f x && g x) ps ≡ find g (filter f ps)
 find-and f g [] = refl
-find-and f g (p ∷ ps) = by_test (f p) (find-and f g ps) where
-  by_test : (r : Bool) → find (λ x. f x && g x) ps ≡ find g (filter f ps)
-      → cond (r && g p) (Some p) (find (λ x. f x && g x) ps) ≡ find g (cond r (p ∷ filter f ps) (filter f ps))
-  by_test true h = ap (λ (o : Option Point). cond (g p) (Some p) o) h
-  by_test false h = h
+find-and f g (p ∷ ps) = search (rules, find-and f g ps)
 
 pub find-any : (f : Point → Bool) (ps : List Point) (p : Point) → find f ps ≡ Some p → list_any f ps ≡ true
 find-any f [] p h = cc
-find-any f (x ∷ ps) p h = by_test (f x) h (find-any f ps p) where
-  by_test : (r : Bool) → cond r (Some x) (find f ps) ≡ Some p → (find f ps ≡ Some p → list_any f ps ≡ true) → (r || list_any f ps) ≡ true
-  by_test true h k = refl
-  by_test false h k = k h
+find-any f (x ∷ ps) p h = search (rules, find-any f ps p)
 
 pub any-find : (f : Point → Bool) (ps : List Point) → list_any f ps ≡ true → (p : Point) × (find f ps ≡ Some p)
 any-find f [] h = cc
@@ -203,11 +163,7 @@ list_two (x ∷ y ∷ xs) d low = (xs, refl)
 
 pub head_find : (f : Point → Bool) (ps : List Point) (x : Point) (more : List Point) → filter f ps ≡ x ∷ more → find f ps ≡ Some x
 head_find f [] x more h = cc
-head_find f (p ∷ ps) x more h = by_test (f p) h (head_find f ps x more) where
-  by_test : (r : Bool) → cond r (p ∷ filter f ps) (filter f ps) ≡ x ∷ more → (filter f ps ≡ x ∷ more → find f ps ≡ Some x)
-      → cond r (Some p) (find f ps) ≡ Some x
-  by_test true h k = let same : p ≡ x = cc in ap Some same
-  by_test false h k = k h
+head_find f (p ∷ ps) x more h = search (rules, head_find f ps x more)
 
 pub list_some : (xs : List Point) (d : Point) → 1 ≤ length xs → (more : List Point) × (xs ≡ get_or xs 0 d ∷ more)
 list_some [] d low = absurd (omega arith)
@@ -248,11 +204,7 @@ sums-same f g k t u less point (p ∷ ps) h e =
 -- each number is at most 1
 pub sum-ones : (f : Point → ℕ) (ps : List Point) → AllByRecursion (λ q. f q ≤ 1) ps → sum_by f ps ≤ length ps
 sum-ones f [] h = omega arith
-sum-ones f (p ∷ ps) h =
-    let e = sum_by-cons f p ps in
-    let low = h.0 in
-    let rest = sum-ones f ps h.1 in
-    omega (arith, e, low, rest)
+sum-ones f (p ∷ ps) h = search (rules, sum_by-cons, sum-ones f ps h.1)
 
 -- and one of them is 0
 pub sum-ones-but : (f : Point → ℕ) (w : Point) → ((q : Point) → f q ≤ 1) → f w ≡ 0 → (ps : List Point) → among_points w ps ≡ true
@@ -277,23 +229,11 @@ sum-ones-but f w each none (p ∷ ps) among = by_test (is_same_point w p) refl a
       omega (arith, split, low, others)
 
 pub not_found : (f : Point → Bool) (ps : List Point) (p : Point) → f p ≡ false → is_at p (find f ps) ≡ false
-not_found f ps p h = by_find (find f ps) refl where
-  by_find : (o : Option Point) → find f ps ≡ o → is_at p o ≡ false
-  by_find None e = refl
-  by_find (Some q) e = by_test (is_same_point p q) refl where
-    by_test : (r : Bool) → is_same_point p q ≡ r → r ≡ false
-    by_test false k = refl
-    by_test true k =
-        let yes : f p ≡ true = ap f (is_same_point-same p q k) ∙ find-passes f ps q e in
-        let bad : false ≡ true = sym h ∙ yes in cc
+not_found f ps p h = search (rules, is_same_point-same, find-passes)
 
 pub sum-each_one : (f : Point → ℕ) → ((q : Point) → f q ≤ 1) → (ps : List Point) → sum_by f ps ≤ length ps
 sum-each_one f each [] = omega arith
-sum-each_one f each (p ∷ ps) =
-    let e = sum_by-cons f p ps in
-    let low = each p in
-    let rest = sum-each_one f each ps in
-    omega (arith, e, low, rest)
+sum-each_one f each (p ∷ ps) = search (rules, sum_by-cons, sum-each_one f each ps)
 
 pub each-append : (P : Point → Type 0) (ps qs : List Point) → AllByRecursion P ps → AllByRecursion P qs → AllByRecursion P (ps ++ qs)
 each-append P [] qs h k = k
@@ -301,27 +241,17 @@ each-append P (p ∷ ps) qs h k = (h.0, each-append P ps qs h.1 k)
 
 find-few : (f : Point → Bool) (ps : List Point) → length (filter f ps) < 1 → find f ps ≡ None
 find-few f [] l = refl
-find-few f (p ∷ ps) l = by_test (f p) l (find-few f ps) where
-  by_test : (r : Bool) → length (cond r (p ∷ filter f ps) (filter f ps)) < 1 → (length (filter f ps) < 1 → find f ps ≡ None)
-      → cond r (Some p) (find f ps) ≡ None
-  by_test true l rest = absurd (omega arith)
-  by_test false l rest = rest l
+find-few f (p ∷ ps) l = search (rules, find-few f ps)
 
 find-first : (f : Point → Bool) (ps : List Point) (d : Point) → 1 ≤ length (filter f ps) → find f ps ≡ Some (get_or (filter f ps) 0 d)
 find-first f [] d l = absurd (omega arith)
-find-first f (p ∷ ps) d l = by_test (f p) l (find-first f ps d) where
-  by_test : (r : Bool) → 1 ≤ length (cond r (p ∷ filter f ps) (filter f ps))
-      → (1 ≤ length (filter f ps) → find f ps ≡ Some (get_or (filter f ps) 0 d))
-      → cond r (Some p) (find f ps) ≡ Some (get_or (cond r (p ∷ filter f ps) (filter f ps)) 0 d)
-  by_test true l rest = refl
-  by_test false l rest = rest l
+find-first f (p ∷ ps) d l = search (rules, find-first f ps d)
 
 pub none-first : (f : Point → Bool) (ps xs : List Point) → xs ≡ filter f ps → length xs < 1 → find f ps ≡ None
 none-first f ps xs e l = find-few f ps (subst (λ (ys : List Point). length ys < 1) e l)
 
 pub some-first : (f : Point → Bool) (ps xs : List Point) (d : Point) → xs ≡ filter f ps → 1 ≤ length xs → find f ps ≡ Some (get_or xs 0 d)
-some-first f ps xs d e l =
-    find-first f ps d (subst (λ (ys : List Point). 1 ≤ length ys) e l) ∙ ap (λ (ys : List Point). Some (get_or ys 0 d)) (sym e)
+some-first f ps xs d e l = search (rules, find-first)
 
 pub points-append_nil : (ps : List Point) → ps ++ [] ≡ ps
 points-append_nil [] = refl
@@ -329,11 +259,7 @@ points-append_nil (p ∷ ps) = ap (λ (r : List Point). p ∷ r) (points-append_
 
 pub none-listed : (g : Point → Bool) (ps : List Point) → [] ≡ filter g ps → list_any g ps ≡ true → ⊥
 none-listed g [] e h = cc
-none-listed g (p ∷ ps) e h = by_test (g p) e h (none-listed g ps) where
-  by_test : (r : Bool) → [] ≡ cond r (p ∷ filter g ps) (filter g ps) → (r || list_any g ps) ≡ true
-      → ([] ≡ filter g ps → list_any g ps ≡ true → ⊥) → ⊥
-  by_test true e h rest = cc
-  by_test false e h rest = rest e h
+none-listed g (p ∷ ps) e h = search (rules, none-listed g ps)
 
 -- a sum over those that pass one test is no more than that over those that pass a weaker one
 pub filter-sum : (f g : Point → Bool) (h : Point → ℕ) → ((p : Point) → f p ≡ true → g p ≡ true) → (ps : List Point)
@@ -352,27 +278,14 @@ filter-sum f g h weaker (p ∷ ps) = by_test (f p) refl (filter-sum f g h weaker
 pub some-counts : (f : Point → Bool) (h : Point → ℕ) → ((p : Point) → f p ≡ true → 1 ≤ h p) → (ps : List Point) → list_any f ps ≡ true
     → 1 ≤ sum_by h ps
 some-counts f h one [] e = cc
-some-counts f h one (p ∷ ps) e = by_test (f p) refl e (some-counts f h one ps) where
-  by_test : (r : Bool) → f p ≡ r → (r || list_any f ps) ≡ true → (list_any f ps ≡ true → 1 ≤ sum_by h ps) → 1 ≤ sum_by h (p ∷ ps)
-  by_test true t e rest = let here = one p t in let split = sum_by-cons h p ps in omega (arith, here, split)
-  by_test false t e rest = let later = rest e in let split = sum_by-cons h p ps in omega (arith, later, split)
+some-counts f h one (p ∷ ps) e = search (rules, sum_by-cons, some-counts f h one ps)
 
 pub any-filter : (g f : Point → Bool) (ps : List Point) → list_any f (filter g ps) ≡ list_any (λ q. g q && f q) ps
 any-filter g f [] = refl
-any-filter g f (p ∷ ps) = by_test (g p) (any-filter g f ps) where
-  by_test : (r : Bool) → list_any f (filter g ps) ≡ list_any (λ q. g q && f q) ps
-      → list_any f (cond r (p ∷ filter g ps) (filter g ps)) ≡ ((r && f p) || list_any (λ q. g q && f q) ps)
-  by_test true k = ap (λ b. f p || b) k
-  by_test false k = k
+any-filter g f (p ∷ ps) = search (rules, any-filter g f ps)
 
 pub other_first : (p q : Point) → is_same_point p q ≡ false → is_same_point q p ≡ false
-other_first p q h = by_test (is_same_point q p) refl where
-  by_test : (r : Bool) → is_same_point q p ≡ r → r ≡ false
-  by_test false e = refl
-  by_test true e =
-      let yes : is_same_point p q ≡ true = ap (λ (x : Point). is_same_point p x) (is_same_point-same q p e) ∙ is_same_point-itself p in
-      let bad : false ≡ true = sym h ∙ yes in
-      cc
+other_first p q h = search (rules, is_same_point-same, is_same_point-itself)
 
 pub Apart-back : (p q : Point) → Apart p q → Apart q p
 Apart-back p q d = record { apart = λ x y. d.apart (sym x) (sym y) }
@@ -380,19 +293,11 @@ Apart-back p q d = record { apart = λ x y. d.apart (sym x) (sym y) }
 pub none_found-filter : (f g : Point → Bool) → ((x : Point) → f x ≡ false → g x ≡ false) → (ps : List Point) → find f ps ≡ None
     → filter g ps ≡ []
 none_found-filter f g out [] h = refl
-none_found-filter f g out (p ∷ ps) h = by_test (f p) refl h (none_found-filter f g out ps) where
-  by_test : (r : Bool) → f p ≡ r → cond r (Some p) (find f ps) ≡ None → (find f ps ≡ None → filter g ps ≡ []) → filter g (p ∷ ps) ≡ []
-  by_test true e k rest = cc
-  by_test false e k rest = ap (λ r. cond r (p ∷ filter g ps) (filter g ps)) (out p e) ∙ rest k
+none_found-filter f g out (p ∷ ps) h = search (rules, none_found-filter f g out ps)
 
 -- a point is another one either way
 pub other_way : (q x : Point) → not (is_same_point x q) ≡ false → not (is_same_point q x) ≡ false
-other_way q x h = by_test (is_same_point x q) refl h where
-  by_test : (r : Bool) → is_same_point x q ≡ r → not r ≡ false → not (is_same_point q x) ≡ false
-  by_test true e k =
-      let same : x ≡ q = is_same_point-same x q e in
-      ap (λ (z : Point). not (is_same_point q z)) same ∙ ap not (is_same_point-itself q)
-  by_test false e k = cc
+other_way q x h = search (rules, is_same_point-same, is_same_point-itself)
 
 -- no points in a list of length 0
 pub no_points : (xs : List Point) → length xs ≡ 0 → xs ≡ []
@@ -402,17 +307,7 @@ no_points (x ∷ xs) h = absurd (omega arith)
 -- a sum is at least each of its numbers
 pub sum-at : (f : Point → ℕ) (p : Point) (ps : List Point) → list_any (λ x. is_same_point x p) ps ≡ true → f p ≤ sum_by f ps
 sum-at f p [] h = cc
-sum-at f p (x ∷ ps) h = by_test (is_same_point x p) refl h (sum-at f p ps) where
-  by_test : (r : Bool) → is_same_point x p ≡ r → (r || list_any (λ x. is_same_point x p) ps) ≡ true
-      → (list_any (λ x. is_same_point x p) ps ≡ true → f p ≤ sum_by f ps) → f p ≤ sum_by f (x ∷ ps)
-  by_test true e k rest =
-      let same : f x ≡ f p = ap f (is_same_point-same x p e) in
-      let split = sum_by-cons f x ps in
-      omega (arith, same, split)
-  by_test false e k rest =
-      let low = rest k in
-      let split = sum_by-cons f x ps in
-      omega (arith, low, split)
+sum-at f p (x ∷ ps) h = search (rules, is_same_point-same, sum_by-cons, sum-at f p ps)
 
 -- tests that agree find the same
 pub find-same : (f g : Point → Bool) → ((p : Point) → f p ≡ g p) → (ps : List Point) → find f ps ≡ find g ps
@@ -425,11 +320,7 @@ reverse-push ps p = reverse-append ps (p ∷ [])
 pub found-either : (f : Point → Bool) (ps qs : List Point) (d : Point) → list_any f qs ≡ true
     → f (unwrap_or (option_or (find f ps) (find f qs)) d) ≡ true
 found-either f [] qs d h = find-some f qs d h
-found-either f (x ∷ ps) qs d h = by_test (f x) refl (found-either f ps qs d h) where
-  by_test : (r : Bool) → f x ≡ r → f (unwrap_or (option_or (find f ps) (find f qs)) d) ≡ true
-      → f (unwrap_or (option_or (cond r (Some x) (find f ps)) (find f qs)) d) ≡ true
-  by_test true e rest = e
-  by_test false e rest = rest
+found-either f (x ∷ ps) qs d h = search (rules, found-either f ps qs d h)
 
 pub sum-least : (f : Point → ℕ) (b : Grid) (p : Point) → is_on b p ≡ true → f p ≤ sum_by f (points_of b)
 sum-least f b p on = sum-at f p (points_of b) (points-found b (λ x. is_same_point x p) p on (is_same_point-itself p))
@@ -448,11 +339,7 @@ all_implied f g (p ∷ ps) h all = rw (h p (and_left (g p) _ all), all_implied f
 pub find_after : (f : Point → Bool) (before : List Point) (p : Point) (later : List Point) → list_any f before ≡ false → f p ≡ true
     → find f (before ++ p ∷ later) ≡ Some p
 find_after f [] p later none e = rw e refl
-find_after f (q ∷ before) p later none e = by_test (f q) none (find_after f before p later) where
-  by_test : (r : Bool) → (r || list_any f before) ≡ false → (list_any f before ≡ false → f p ≡ true → find f (before ++ p ∷ later) ≡ Some p)
-      → cond r (Some q) (find f (before ++ p ∷ later)) ≡ Some p
-  by_test true h rest = cc
-  by_test false h rest = rest h e
+find_after f (q ∷ before) p later none e = search (rules, find_after f before p later)
 
 -- whether none of the points is nearer
 abbrev pub none_nearer : (Point → ℕ) → Point → List Point → Bool
@@ -468,22 +355,13 @@ module _ (distance : Point → ℕ) where
       → none_nearer distance p ps ≡ true
   none_nearer-than p q [] near h = refl
   none_nearer-than p q (x ∷ xs) near h =
-      let here : distance q ≤ distance x = leb-true _ _ (and_left (nat_le (distance q) (distance x)) _ h) in
-      let rest : none_nearer distance p xs ≡ true = none_nearer-than p q xs near (and_right (nat_le (distance q) (distance x)) _ h) in
-      rw (le-leb (distance p) (distance x) (omega arith), rest) refl
+      search (rules, leb-true, and_left, and_right, le-leb, none_nearer-than p q xs near (and_right (nat_le (distance q) (distance x)) _ h))
 
   -- where one of the points is nearer than p, the nearest of them is
   pub nearer-than : (p q : Point) (ps : List Point) → none_nearer distance p ps ≡ false → none_nearer distance q ps ≡ true
       → distance q < distance p
   nearer-than p q [] fails holds = cc
-  nearer-than p q (x ∷ xs) fails holds = by_test (nat_le (distance p) (distance x)) refl fails (nearer-than p q xs) where
-    here : distance q ≤ distance x
-    here = leb-true _ _ (and_left (nat_le (distance q) (distance x)) _ holds)
-
-    by_test : (r : Bool) → nat_le (distance p) (distance x) ≡ r → (r && none_nearer distance p xs) ≡ false
-        → (none_nearer distance p xs ≡ false → none_nearer distance q xs ≡ true → distance q < distance p) → distance q < distance p
-    by_test true e h rest = rest h (and_right (nat_le (distance q) (distance x)) _ holds)
-    by_test false e h rest = let far = leb-false (distance p) (distance x) e in let near = here in omega (arith, far, near)
+  nearer-than p q (x ∷ xs) fails holds = search (rules, leb-true, and_left, and_right, leb-false, nearer-than p q xs)
 
   -- whether the first point is the nearest tells the nearest of all
   pub first_nearest-cons : (p : Point) (ps : List Point)

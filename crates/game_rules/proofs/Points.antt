@@ -1,15 +1,12 @@
 -- Facts about all points of a board: lists, tests, and points off the board.
-use Rattle.std.proofs.Common.{◌≡◌, ℕ, Bool, true, false, ◌&&◌, ◌||◌, not, cond, refl, sym, ap, subst, ◌∙◌, arith, List, [], ◌∷◌, map}
-use Rattle.std.proofs.Common.{nat_eq, eq-eqb}
-use Rattle.std.specs.List.{list_any, list_all, filter, flat_map, range_with_len}
-use Rattle.std.specs.Prelude.{Option, Some, None, nat_lt, ◌==◌}
+use Rattle.std.proofs.Common.{◌≡◌, ℕ, Bool, true, false, ◌&&◌, ◌||◌, not, refl, sym, ap, ◌∙◌, arith, List, []}
+use Rattle.std.proofs.Common.{◌∷◌, map, eq-eqb, rules, filter, flat_map, Option, Some, nat_lt, ◌==◌}
+use Rattle.std.specs.List.{list_any, list_all, range_with_len}
 use Rattle.std.proofs.lemmas.Bool.{false_from_ne_true}
 use Rattle.std.proofs.lemmas.Bool.Decides.{nat_tests}
 use Rattle.std.proofs.lemmas.List.Folds.{list_any-append}
-use Rattle.game_rules.proofs.Common.{Grid, is_on, is_empty, points_of, row_from, precedes, is_at, is_same_point, outcome}
-use Rattle.game_rules.proofs.Common.{WinsOr}
+use Rattle.game_rules.proofs.Common.{Grid, is_on, is_empty, points_of, row_from, precedes, is_at, is_same_point, outcome, WinsOr}
 use Rattle.game_rules.specs.declared.RuleKind.{RuleKind}
-use Rattle.game_rules.specs.declared.Outcome.{Outcome}
 use Rattle.game_rules.specs.declared.Point.{Point}
 use Rattle.game_rules.specs.declared.Outcome.TheVariants.{Refused}
 use Rattle.game_rules.proofs.Rows.{any_found}
@@ -18,8 +15,7 @@ use Rattle.game_rules.proofs.Boards.{and_left, and_right, Apart, not-apart, on_x
 list_any-flat_map : (h : Point → Bool) (row : ℕ → List Point) (ys : List ℕ)
     → list_any h (flat_map row ys) ≡ list_any (λ y. list_any h (row y)) ys
 list_any-flat_map h row [] = refl
-list_any-flat_map h row (y ∷ ys) = list_any-append h (row y) (flat_map row ys)
-    ∙ ap (λ r. list_any h (row y) || r) (list_any-flat_map h row ys)
+list_any-flat_map h row (y ∷ ys) = search (rules, list_any-append, list_any-flat_map h row ys)
 
 list_any-map : (h : Point → Bool) (at : ℕ → Point) (xs : List ℕ) → list_any h (map at xs) ≡ list_any (λ x. h (at x)) xs
 list_any-map h at [] = refl
@@ -38,19 +34,12 @@ points-found b h q on e =
 -- a test that holds somewhere holds of an item
 pub any_witness : (f : Point → Bool) (xs : List Point) → list_any f xs ≡ true → (x : Point) × (f x ≡ true)
 any_witness f [] h = cc
-any_witness f (x ∷ xs) h = by_test (f x) refl h (any_witness f xs) where
-  by_test : (r : Bool) → f x ≡ r → (r || list_any f xs) ≡ true → (list_any f xs ≡ true → (y : Point) × (f y ≡ true))
-      → (y : Point) × (f y ≡ true)
-  by_test true e k rest = (x, e)
-  by_test false e k rest = rest k
+any_witness f (x ∷ xs) h = search (rules, any_witness f xs)
 
 -- a test that holds of no point holds nowhere
 pub none_of : (f : Point → Bool) (xs : List Point) → ((q : Point) → f q ≡ true → ⊥) → list_any f xs ≡ false
 none_of f [] h = refl
-none_of f (x ∷ xs) h = neither (f x) (list_any f xs) (h x) (none_of f xs h) where
-  neither : (a b : Bool) → (a ≡ true → ⊥) → b ≡ false → (a || b) ≡ false
-  neither true b h k = absurd (h refl)
-  neither false b h k = k
+none_of f (x ∷ xs) h = search (rules, none_of f xs h)
 
 -- a test that holds of all points holds everywhere
 pub all_of : (f : Point → Bool) (xs : List Point) → ((q : Point) → f q ≡ true) → list_all f xs ≡ true
@@ -59,11 +48,7 @@ all_of f (x ∷ xs) h = rw (h x, all_of f xs h) refl
 
 all-any : (f : Point → Bool) (xs : List Point) → list_any (λ x. not (f x)) xs ≡ not (list_all f xs)
 all-any f [] = refl
-all-any f (x ∷ xs) = by_test (f x) (all-any f xs) where
-  by_test : (r : Bool) → list_any (λ x. not (f x)) xs ≡ not (list_all f xs)
-      → (not r || list_any (λ x. not (f x)) xs) ≡ not (r && list_all f xs)
-  by_test true h = h
-  by_test false h = refl
+all-any f (x ∷ xs) = search (rules, all-any f xs)
 
 -- a test that holds everywhere holds at each point of the board
 pub all_at : (b : Grid) (f : Point → Bool) (q : Point) → list_all f (points_of b) ≡ true → is_on b q ≡ true → f q ≡ true
@@ -80,30 +65,20 @@ pub is_same_point-itself : (q : Point) → is_same_point q q ≡ true
 is_same_point-itself q = rw (eq-eqb q.x q.x refl, eq-eqb q.y q.y refl) refl
 
 pub is_same_point-same : (w q : Point) → is_same_point w q ≡ true → w ≡ q
-is_same_point-same w q h =
-    let x : w.x ≡ q.x = let e = and_left (nat_eq w.x q.x) (nat_eq w.y q.y) h in grind (arith, nat_tests) in
-    let y : w.y ≡ q.y = let e = and_right (nat_eq w.x q.x) (nat_eq w.y q.y) h in grind (arith, nat_tests) in
-    λ i. record { x = x i; y = y i }
+is_same_point-same w q h = search (rules, and_left, and_right)
 
 pub is_same_point-apart : (w q : Point) → is_same_point w q ≡ false → Apart w q
-is_same_point-apart w q h = record {
-  apart = λ x y.
-      let same : is_same_point w q ≡ true = rw (eq-eqb w.x q.x x, eq-eqb w.y q.y y) refl in
-      let no : false ≡ true = sym h ∙ same in
-      cc;
-}
+is_same_point-apart w q h = search (rules, eq-eqb)
 
 pub apart-is_same_point : (p q : Point) → Apart p q → is_same_point p q ≡ false
-apart-is_same_point p q apart = false_from_ne_true (is_same_point p q)
-    (λ e. not-apart q (subst (λ (r : Point). Apart r q) (is_same_point-same p q e) apart))
+apart-is_same_point p q apart = search (rules, false_from_ne_true, not-apart, is_same_point-same)
 
 -- where there is a point, and it is q
 pub is_at-here : (q : Point) (o : Option Point) → o ≡ Some q → is_at q o ≡ true
 is_at-here q o e = rw e (is_same_point-itself q)
 
 pub is_at-Some : (q : Point) (o : Option Point) → is_at q o ≡ true → o ≡ Some q
-is_at-Some q None h = cc
-is_at-Some q (Some p) h = ap Some (sym (is_same_point-same q p h))
+is_at-Some q o h = search (rules, is_same_point-same)
 
 -- ---- the order of points
 
@@ -122,34 +97,21 @@ pub precedes-differs : (p q : Point) → precedes p q ≡ true → is_same_point
 precedes-differs p q h = precedes-differs_by p.x p.y q.x q.y h
 
 pub precedes-differs_back : (p q : Point) → precedes p q ≡ true → is_same_point q p ≡ false
-precedes-differs_back p q h = back_by p.x p.y q.x q.y h where
-  back_by : (a b c d : ℕ) → (nat_lt b d || (b == d && nat_lt a c)) ≡ true → (c == a && d == b) ≡ false
-  back_by a b c d h = grind (arith, nat_tests)
+precedes-differs_back p q h = search rules
 
 -- ---- the points that pass a test
 
 pub filter-passes : (f : Point → Bool) (ps : List Point) → list_all f (filter f ps) ≡ true
 filter-passes f [] = refl
-filter-passes f (p ∷ ps) = by_test (f p) refl (filter-passes f ps) where
-  by_test : (r : Bool) → f p ≡ r → list_all f (filter f ps) ≡ true → list_all f (cond r (p ∷ filter f ps) (filter f ps)) ≡ true
-  by_test true e h = rw e h
-  by_test false e h = h
+filter-passes f (p ∷ ps) = search (rules, filter-passes f ps)
 
 pub filter-none : (f : Point → Bool) (ps : List Point) → filter f ps ≡ [] → list_any f ps ≡ false
 filter-none f [] h = refl
-filter-none f (p ∷ ps) h = by_test (f p) refl h (filter-none f ps) where
-  by_test : (r : Bool) → f p ≡ r → cond r (p ∷ filter f ps) (filter f ps) ≡ [] → (filter f ps ≡ [] → list_any f ps ≡ false)
-      → (r || list_any f ps) ≡ false
-  by_test true e k rest = cc
-  by_test false e k rest = rest k
+filter-none f (p ∷ ps) h = search (rules, filter-none f ps)
 
 pub filter-some : (f : Point → Bool) (w : Point) (more ps : List Point) → filter f ps ≡ w ∷ more → list_any f ps ≡ true
 filter-some f w more [] h = cc
-filter-some f w more (p ∷ ps) h = by_test (f p) refl h (filter-some f w more ps) where
-  by_test : (r : Bool) → f p ≡ r → cond r (p ∷ filter f ps) (filter f ps) ≡ w ∷ more → (filter f ps ≡ w ∷ more → list_any f ps ≡ true)
-      → (r || list_any f ps) ≡ true
-  by_test true e k rest = refl
-  by_test false e k rest = rest k
+filter-some f w more (p ∷ ps) h = search (rules, filter-some f w more ps)
 
 -- a point that is not empty is refused, and so is a point off the board
 pub taken_refused : (rule : RuleKind) (b : Grid) (q : Point) → is_empty b q ≡ false → outcome rule b q ≡ Refused
@@ -162,10 +124,7 @@ off_refused rule b q h = rw h refl
 
 -- a move that wins, or goes on, is on the board
 pub WinsOr-on : (rule : RuleKind) (b : Grid) (p : Point) (W : Type 0) → WinsOr (outcome rule b p) W → is_on b p ≡ true
-WinsOr-on rule b p W h = by_test (is_on b p) refl where
-  by_test : (r : Bool) → is_on b p ≡ r → r ≡ true
-  by_test true e = refl
-  by_test false e = absurd (subst (λ (o : Outcome). WinsOr o W) (off_refused rule b p e) h)
+WinsOr-on rule b p W h = search (rules, off_refused)
 
 pub same_point-on : (b : Grid) (p q : Point) → is_same_point p q ≡ true → is_on b p ≡ is_on b q
 same_point-on b p q same = ap (is_on b) (is_same_point-same p q same)

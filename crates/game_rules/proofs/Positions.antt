@@ -1,14 +1,14 @@
 -- A move that goes on leaves a lawful position.
-use Rattle.std.proofs.Common.{◌≡◌, ◌≢◌, ◌⊎◌, inl, inr, ℕ, zero, suc, ◌+◌, ◌-◌, ◌≤◌, Bool, true, false, cond, ◌&&◌, refl, sym, ap, subst}
-use Rattle.std.proofs.Common.{◌∙◌, arith, length-set, List, [], ◌∷◌, set, get_or, get_or-set_same, nat_eq, eq-eqb, ◌*◌}
-use Rattle.std.specs.Prelude.{Option, Some, None}
+use Rattle.std.proofs.Common.{rules, ◌≡◌, ◌≢◌, ◌⊎◌, inl, inr, ℕ, zero, suc, ◌+◌, ◌-◌, ◌≤◌, Bool, true}
+use Rattle.std.proofs.Common.{false, cond, ◌&&◌, refl, sym, ap, subst, ◌∙◌, arith, length-set, List, [], ◌∷◌, set, get_or}
+use Rattle.std.proofs.Common.{get_or-set_same, nat_eq, eq-eqb, ◌*◌, Option, Some, None}
 use Rattle.std.specs.List.{prefix_len, range_with_len}
 use Rattle.std.proofs.lemmas.Bool.{cases_lt}
 use Rattle.std.proofs.lemmas.Bool.Decides.{nat_tests}
 use Rattle.std.proofs.lemmas.List.Sums.{sum_by-set}
-use Rattle.game_rules.proofs.Common.{Grid, IsBoard, is_on, is_empty, is_stone_of, stone_of, holds, cell_at, place_of, put, lift, along}
-use Rattle.game_rules.proofs.Common.{stones_of, empties_of, stone_at, stones_ahead, stones_behind, run_of, line_bound, row_wins, wins_on}
-use Rattle.game_rules.proofs.Common.{five, IsPosition, NamesMover, outcome, outcome_by, foul_of, mover, other, after}
+use Rattle.game_rules.proofs.Common.{Grid, IsBoard, is_on, is_empty, is_stone_of, stone_of, holds, put, lift, along, stones_of, empties_of}
+use Rattle.game_rules.proofs.Common.{stone_at, stones_ahead, stones_behind, run_of, line_bound, row_wins, wins_on, five, IsPosition}
+use Rattle.game_rules.proofs.Common.{NamesMover, outcome, outcome_by, foul_of, mover, other, after}
 use Rattle.game_rules.specs.declared.Foul.{Foul}
 use Rattle.game_rules.specs.declared.Side.{Side}
 use Rattle.game_rules.specs.declared.Cell.{Cell}
@@ -17,7 +17,7 @@ use Rattle.game_rules.specs.declared.Point.{Point}
 use Rattle.game_rules.specs.declared.RuleKind.{RuleKind}
 use Rattle.game_rules.specs.declared.Outcome.TheVariants.{GoesOn}
 use Rattle.game_rules.specs.declared.Side.TheVariants.{Black, White}
-use Rattle.game_rules.specs.declared.Cell.TheVariants.{Empty, Black as BlackStone, White as WhiteStone}
+use Rattle.game_rules.specs.declared.Cell.TheVariants.{Empty}
 use Rattle.game_rules.proofs.Axes.{no_axis}
 use Rattle.game_rules.proofs.Boards.{and_left, and_right, is_empty-on, is_empty-cell, same_or_apart, empty_holds, other-other}
 use Rattle.game_rules.proofs.Boards.{holds-put_other, holds-put_same, place_fits, empties_of-put, prefix_len-same, cell_at-put_same}
@@ -30,18 +30,11 @@ use Rattle.game_rules.proofs.Runs.{Leads, ahead_leads, behind_leads, ahead_is, b
 -- a stone on an empty point adds to its side and takes nothing
 pub holds-put_more : (b : Grid) (s : Side) (p q : Point) → IsBoard b → is_empty b p ≡ true → holds b s q ≡ true
     → holds (put b s p) s q ≡ true
-holds-put_more b s p q ok empty h = elim (same_or_apart p q) [
-  | inl same ↦ subst (λ (r : Point). holds (put b s p) s r ≡ true) same (holds-put_same b s p ok (is_empty-on b p empty))
-  | inr apart ↦ holds-put_other b s s p q (is_empty-on b p empty) apart ∙ h
-]
+holds-put_more b s p q ok empty h = search (rules, same_or_apart, holds-put_same, is_empty-on, holds-put_other)
 
 -- it is that point, or it is not
 pub is_at_or_not : (o : Option Point) (p : Point) → (o ≡ Some p) ⊎ (o ≢ Some p)
-is_at_or_not None p = inr (λ e. cc)
-is_at_or_not (Some q) p = elim (same_or_apart q p) [
-  | inl same ↦ inl (ap Some same)
-  | inr apart ↦ inr (λ e. let same : q ≡ p = cc in apart.apart (ap (λ (r : Point). r.x) same) (ap (λ (r : Point). r.y) same))
-]
+is_at_or_not o p = search (rules, same_or_apart)
 
 -- whether p is one of the first m places
 abbrev pub Meets : (ℕ → Option Point) → Point → ℕ → Type 0
@@ -69,30 +62,19 @@ module _ (b : Grid) (s : Side) (p : Point) (ok : IsBoard b) (empty : is_empty b 
 
   -- other points and the other side stay
   pub stone_at-else : (t : Side) (o : Option Point) → o ≢ Some p → stone_at (put b s p) t o ≡ stone_at b t o
-  stone_at-else t None h = refl
-  stone_at-else t (Some q) h = elim (same_or_apart p q) [
-    | inl same ↦ absurd (h (ap Some (sym same)))
-    | inr apart ↦ holds-put_other b s t p q on_p apart
-  ]
+  stone_at-else t o h = search (rules, same_or_apart, holds-put_other, on_p)
 
   -- and none of its own goes
   pub stone_at-more : (o : Option Point) → stone_at b s o ≡ true → stone_at (put b s p) s o ≡ true
-  stone_at-more None h = h
-  stone_at-more (Some q) h = holds-put_more b s p q ok empty h
+  stone_at-more o h = search (rules, holds-put_more)
 
   pub not_before : (o : Option Point) → stone_at (put b s p) s o ≡ false → stone_at b s o ≡ false
-  not_before o h = by_test (stone_at b s o) refl where
-    by_test : (r : Bool) → stone_at b s o ≡ r → r ≡ false
-    by_test false e = refl
-    by_test true e = let now = stone_at-more o e in cc
+  not_before o h = search (rules, stone_at-more)
 
   -- as many stones stood unbroken before, where p is none of their places
   pub leads_before : (at : ℕ → Option Point) (m : ℕ) → Leads (λ k. stone_at (put b s p) s (at k)) m → Misses at p m
       → Leads (λ k. stone_at b s (at k)) m
-  leads_before at m h miss = record {
-    holds = λ j low high. sym (stone_at-else s (at j) (miss j low high)) ∙ h.holds j low high;
-    stops = not_before (at (1 + m)) h.stops;
-  }
+  leads_before at m h miss = search (rules, stone_at-else, not_before)
 
   -- ---- runs after the move
 
@@ -107,11 +89,7 @@ module _ (b : Grid) (s : Side) (p : Point) (ok : IsBoard b) (empty : is_empty b 
       rw (mine, holds-put_more b s p q ok empty mine, a, z) refl
 
   leads_reach : (f : ℕ → Bool) (m e : ℕ) → Leads f m → ((j : ℕ) → 1 ≤ j → j ≤ e → f j ≡ true) → e ≤ m
-  leads_reach f m e h all = elim (cases_lt m e) [
-    | inl less ↦ absurd (let yes : f (1 + m) ≡ true = all (1 + m) (omega arith) (omega arith) in let no : false ≡ true =
-        sym h.stops ∙ yes in cc)
-    | inr more ↦ more
-  ]
+  leads_reach f m e h all = search (rules, cases_lt)
 
   -- p is e steps behind q, in its run: then q is e steps ahead of p, in the run of p
   run_behind : (d : Axis) (q : Point) (e : ℕ) → holds b s q ≡ true → 1 ≤ e → e ≤ stones_behind (put b s p) s d q → along d q 0 e ≡ Some p
@@ -146,10 +124,7 @@ module _ (b : Grid) (s : Side) (p : Point) (ok : IsBoard b) (empty : is_empty b 
 -- ---- the other side
 
 other_side : (s t : Side) → (s ≡ t) ⊎ (is_stone_of t (stone_of s) ≡ false)
-other_side Black Black = inl refl
-other_side Black White = inr refl
-other_side White Black = inr refl
-other_side White White = inl refl
+other_side s t = search rules
 
 prefix_same : (f g : ℕ → Bool) (n a : ℕ) → ((k : ℕ) → f k ≡ g k) → prefix_len f (range_with_len a n) ≡ prefix_len g (range_with_len a n)
 prefix_same f g n a h = prefix_len-same f g n a (λ k l. h k)
@@ -166,8 +141,7 @@ module _ (b : Grid) (s t : Side) (p : Point) (ok : IsBoard b) (empty : is_empty 
     not_mine = rw (is_empty-on b p empty, cell_at-put_same b s p ok (is_empty-on b p empty)) differ
 
   pub stone_at-other : (o : Option Point) → stone_at (put b s p) t o ≡ stone_at b t o
-  stone_at-other None = refl
-  stone_at-other (Some q) = holds-other q
+  stone_at-other o = search (rules, holds-other)
 
   pub ahead-other : (d : Axis) (q : Point) → stones_ahead (put b s p) t d q ≡ stones_ahead b t d q
   ahead-other d q = prefix_same _ _ (line_bound b) 1 (λ k. stone_at-other (along d q k 0))
@@ -181,8 +155,7 @@ module _ (b : Grid) (s t : Side) (p : Point) (ok : IsBoard b) (empty : is_empty 
 -- ---- the position
 
 and_false : (a b : Bool) → a ≡ true → (a && b) ≡ false → b ≡ false
-and_false true b e h = h
-and_false false b e h = cc
+and_false a b e h = search rules
 
 pub goes_on : (e f l : Bool) (o : Option Foul) → outcome_by e f o l ≡ GoesOn → (e ≡ true) × (f ≡ false) × (l ≡ false)
 goes_on true false false None h = (refl, refl, refl)
@@ -225,27 +198,14 @@ module _ (rule : RuleKind) (b : Grid) (p : Point) (lawful : IsPosition rule b) (
 
 pub stones_of-put : (b : Grid) (s t : Side) (p : Point) → IsBoard b → is_empty b p ≡ true
     → stones_of (put b s p) t ≡ stones_of b t + cond (is_stone_of t (stone_of s)) 1 0
-stones_of-put b s t p ok empty =
-    let e : get_or b.cells (place_of b p) Empty ≡ Empty = is_empty-cell _ (and_right (is_on b p) _ empty) in
-    let count : Cell → ℕ = λ c. cond (is_stone_of t c) 1 0 in
-    let none : count (get_or b.cells (place_of b p) Empty) ≡ 0 = ap count e in
-    let all = sum_by-set count b.cells (place_of b p) (stone_of s) Empty (place_fits b p ok (is_empty-on b p empty)) in
-    omega (arith, all, none)
+stones_of-put b s t p ok empty = search (rules, is_empty-cell, and_right, sum_by-set, place_fits, is_empty-on)
 
 pub IsBoard-put : (b : Grid) (s : Side) (p : Point) → IsBoard b → IsBoard (put b s p)
-IsBoard-put b s p ok = record {
-  wide = ok.wide;
-  width_fits = ok.width_fits;
-  high = ok.high;
-  height_fits = ok.height_fits;
-  filled = length-set b.cells (place_of b p) (stone_of s) ∙ ok.filled;
-}
+IsBoard-put b s p ok = search (rules, length-set)
 
 -- who moves, by the counts
 mover_by : (r : Bool) (x y : ℕ) → nat_eq x y ≡ r → (x ≡ y) ⊎ (x ≡ y + 1) → ((r ≡ true) × (x ≡ y)) ⊎ ((r ≡ false) × (x ≡ y + 1))
-mover_by true x y h e = inl (refl, grind (arith, nat_tests))
-mover_by false x y h (inl e) = absurd (grind (arith, nat_tests))
-mover_by false x y h (inr e) = inr (refl, e)
+mover_by r x y h e = search rules
 
 not_eq : (x y : ℕ) → x ≡ y + 1 → nat_eq x y ≡ false
 not_eq x y e = grind (arith, nat_tests)
@@ -253,10 +213,7 @@ not_eq x y e = grind (arith, nat_tests)
 module _ (b : Grid) (p : Point) (ok : IsBoard b) (empty : is_empty b p ≡ true) (turns : NamesMover b) where
   turn : (side : Side) × (mover b ≡ side)
       × (((side ≡ Black) × (stones_of b Black ≡ stones_of b White)) ⊎ ((side ≡ White) × (stones_of b Black ≡ stones_of b White + 1)))
-  turn = elim (mover_by (nat_eq (stones_of b Black) (stones_of b White)) _ _ refl turns) [
-    | inl h ↦ (Black, ap (λ r. cond r Black White) h.0, inl (refl, h.1))
-    | inr h ↦ (White, ap (λ r. cond r Black White) h.0, inr (refl, h.1))
-  ]
+  turn = search (rules, mover_by)
 
   pub turns_after : NamesMover (after b p)
   turns_after = elim turn.2 [
@@ -349,38 +306,18 @@ set_again (z ∷ l) zero x y h = ap (λ w. w ∷ l) (sym h)
 set_again (z ∷ l) (suc i) x y h = ap (λ w. z ∷ w) (set_again l i x y h)
 
 stone_cell : (s : Side) (c : Cell) → is_stone_of s c ≡ true → c ≡ stone_of s
-stone_cell Black Empty h = cc
-stone_cell Black BlackStone h = refl
-stone_cell Black WhiteStone h = cc
-stone_cell White Empty h = cc
-stone_cell White BlackStone h = cc
-stone_cell White WhiteStone h = refl
+stone_cell s c h = search rules
 
 -- a stone that is lifted and put again
 pub put-lift : (b : Grid) (s : Side) (p : Point) → holds b s p ≡ true → put (lift b p) s p ≡ b
-put-lift b s p h =
-    let e : get_or b.cells (place_of b p) Empty ≡ stone_of s = stone_cell s _ (and_right (is_on b p) _ h) in
-    ap (λ (l : List Cell). let r : Grid = record b { cells = l } in r) (set_again b.cells (place_of b p) Empty (stone_of s) e)
+put-lift b s p h = search (rules, stone_cell, and_right, set_again)
 
 pub lift-empty : (b : Grid) (p : Point) → IsBoard b → is_on b p ≡ true → is_empty (lift b p) p ≡ true
-lift-empty b p ok on =
-    let e : cell_at (lift b p) p ≡ Empty = get_or-set_same b.cells (place_of b p) Empty Empty (place_fits b p ok on) in
-    rw (on, e) refl
+lift-empty b p ok on = search (rules, get_or-set_same, place_fits)
 
 pub IsBoard-lift : (b : Grid) (p : Point) → IsBoard b → IsBoard (lift b p)
-IsBoard-lift b p ok = record {
-  wide = ok.wide;
-  width_fits = ok.width_fits;
-  high = ok.high;
-  height_fits = ok.height_fits;
-  filled = length-set b.cells (place_of b p) Empty ∙ ok.filled;
-}
+IsBoard-lift b p ok = search (rules, length-set)
 
 -- a board has a point for each move
 pub points-many : (rule : RuleKind) (b : Grid) → IsPosition rule b → (m : ℕ) → 1 ≤ b.width * b.height * suc m
-points-many rule b lawful m =
-    let w = lawful.board.wide in
-    let h = lawful.board.high in
-    let one : 1 ≤ b.width * b.height = grind arith in
-    let more : b.width * b.height * suc m ≡ b.width * b.height + b.width * b.height * m = omega arith in
-    omega (arith, one, more)
+points-many rule b lawful m = search rules

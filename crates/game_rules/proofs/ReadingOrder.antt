@@ -1,6 +1,6 @@
 -- Points in reading order: rows of points, and lists whose points come one after another.
-use Rattle.std.proofs.Common.{◌≡◌, ℕ, suc, ◌+◌, refl, ◌∷◌, List, ◌++◌, ◌⊎◌, ◌≤◌, ◌<◌, [], inl, inr, arith, zero, Bool, true, false, cond}
-use Rattle.std.proofs.Common.{nat_lt, nat_eq, eq-eqb, ◌*◌, length, ◌∙◌, not, sym, ap, subst, ◌&&◌, ◌/◌, ◌%◌}
+use Rattle.std.proofs.Common.{◌≡◌, ℕ, suc, ◌+◌, refl, ◌∷◌, List, ◌++◌, ◌⊎◌, ◌≤◌, ◌<◌, [], inr, arith, zero, Bool, true, false}
+use Rattle.std.proofs.Common.{nat_lt, eq-eqb, ◌*◌, length, ◌∙◌, not, sym, ap, ◌&&◌, ◌/◌, ◌%◌, rules}
 use Rattle.std.specs.List.{flat_map, range_with_len, filter, list_all, sum_by, AllByRecursion}
 use Rattle.std.specs.Prelude.{map, slice_index_or}
 use Rattle.std.proofs.lemmas.Bool.Decides.{nat_tests}
@@ -38,8 +38,7 @@ Following y x [] = Unit {0}
 Following y x (p ∷ ps) = From y x p × Following p.y (p.x + 1) ps
 
 from_row : (y x : ℕ) (p : Point) → From (y + 1) 0 p → From y x p
-from_row y x p (inl h) = inl (omega arith)
-from_row y x p (inr h) = let e = h.0 in inl (omega (arith, e))
+from_row y x p h = search rules
 
 Following-row : (y x : ℕ) (ps : List Point) → Following (y + 1) 0 ps → Following y x ps
 unfolding Following
@@ -57,10 +56,7 @@ rows-following w y zero = tt
 rows-following w y (suc n) = row-following y 0 w _ (rows-following w (y + 1) n)
 
 pub later : (p q : Point) → From p.y (p.x + 1) q → (y x : ℕ) → From y x p → From y x q
-later p q (inl h) y x (inl k) = inl (omega arith)
-later p q (inl h) y x (inr k) = let e = k.0 in inl (omega (arith, e))
-later p q (inr h) y x (inl k) = let e = h.0 in inl (omega (arith, e))
-later p q (inr h) y x (inr k) = let e = h.0 in let f = k.0 in let g = h.1 in let l = k.1 in inr (omega (arith, e, f), omega (arith, g, l))
+later p q h y x k = search rules
 
 -- points that follow a later one follow the earlier one too
 pub Following-later : (y x : ℕ) (p : Point) (ps : List Point) → From y x p → Following p.y (p.x + 1) ps → Following y x ps
@@ -72,18 +68,10 @@ Following-later y x p (q ∷ ps) h k = (later p q k.0 y x h, k.1)
 pub filter-following : (f : Point → Bool) (y x : ℕ) (ps : List Point) → Following y x ps → Following y x (filter f ps)
 unfolding Following
 filter-following f y x [] h = h
-filter-following f y x (p ∷ ps) h = by_test (f p) (filter-following f p.y (p.x + 1) ps h.1) where
-  by_test : (r : Bool) → Following p.y (p.x + 1) (filter f ps) → Following y x (cond r (p ∷ filter f ps) (filter f ps))
-  by_test true rest = (h.0, rest)
-  by_test false rest = Following-later y x p (filter f ps) h.0 rest
+filter-following f y x (p ∷ ps) h = search (rules, Following-later, filter-following f p.y (p.x + 1) ps h.1)
 
 pub precedes-from : (p q : Point) → From p.y (p.x + 1) q → precedes p q ≡ true
-precedes-from p q (inl h) = let e : nat_lt p.y q.y ≡ true = grind (arith, nat_tests) in rw e refl
-precedes-from p q (inr h) =
-    let e : nat_eq p.y q.y ≡ true = eq-eqb _ _ h.0 in
-    let low = h.1 in
-    let f : nat_lt p.x q.x ≡ true = grind (arith, nat_tests, low) in
-    or_right (nat_lt p.y q.y) _ (rw (e, f) refl)
+precedes-from p q h = search (rules, eq-eqb, or_right)
 
 pub told_length : {X : Type 0} (f : Point → X) (b : Grid) → length (map f (points_of b)) ≡ b.width * b.height
 told_length f b = length-map (points_of b) f ∙ points_length b
@@ -116,20 +104,11 @@ rises-append (x ∷ xs) ys h k all =
 
 row_rises : (y x n : ℕ) → Rises (row_from y x n)
 row_rises y x zero = tt
-row_rises y x (suc n) = (row_all (precedes (record { x = x; y = y })) y (x + 1) n (λ v low high. in_row v low), row_rises y (x + 1) n) where
-  in_row : (v : ℕ) → x + 1 ≤ v → precedes (record { x = x; y = y }) (record { x = v; y = y }) ≡ true
-  in_row v low =
-      let none : nat_lt y y ≡ false = grind (arith, nat_tests) in
-      let same : nat_eq y y ≡ true = grind (arith, nat_tests) in
-      let less : nat_lt x v ≡ true = grind (arith, nat_tests) in
-      rw (none, same, less) refl
+row_rises y x (suc n) = search (rules, row_all, row_rises y (x + 1) n)
 
 pub rows_rise : (width a n : ℕ) → Rises (rows width a n)
 rows_rise width a zero = tt
-rows_rise width a (suc n) = rises-append (row_from a 0 width) (rows width (a + 1) n) (row_rises a 0 width) (rows_rise width (a + 1) n)
-    (row_all (λ x. list_all (precedes x) (rows width (a + 1) n)) a 0 width (λ v low high.
-    rows_all (precedes (record { x = v; y = a })) width (a + 1) n
-    (λ z u near less more. let below : nat_lt a u ≡ true = grind (arith, nat_tests) in rw below refl)))
+rows_rise width a (suc n) = search (rules, rises-append, row_rises, row_all, rows_all, rows_rise width (a + 1) n)
 
 -- tests that agree on the points of the board pass the same
 pub filter_agree : (b : Grid) (f g : Point → Bool) → ((q : Point) → is_on b q ≡ true → f q ≡ g q)
@@ -175,24 +154,10 @@ not_itself : (q : Point) → precedes q q ≡ false
 not_itself q = grind (arith, nat_tests)
 
 pub differ-after : (p q : Point) → precedes q p ≡ true → is_same_point p q ≡ false
-differ-after p q h = by_test (is_same_point p q) refl where
-  by_test : (r : Bool) → is_same_point p q ≡ r → r ≡ false
-  by_test false e = refl
-  by_test true e =
-      let yes : precedes q q ≡ true = subst (λ (x : Point). precedes q x ≡ true) (is_same_point-same p q e) h in
-      let bad : false ≡ true = sym (not_itself q) ∙ yes in cc
+differ-after p q h = search (rules, is_same_point-same, not_itself)
 
 not_after : (w q : Point) → From w.y (w.x + 1) q → is_same_point q w ≡ false
-not_after w q h = by_test (is_same_point q w) refl where
-  by_test : (r : Bool) → is_same_point q w ≡ r → r ≡ false
-  by_test false e = refl
-  by_test true e =
-      let x : q.x ≡ w.x = ap (λ (z : Point). z.x) (is_same_point-same q w e) in
-      let y : q.y ≡ w.y = ap (λ (z : Point). z.y) (is_same_point-same q w e) in
-      absurd (contra h x y) where
-        contra : From w.y (w.x + 1) q → q.x ≡ w.x → q.y ≡ w.y → ⊥
-        contra (inl l) x y = absurd (omega arith)
-        contra (inr l) x y = let low = l.1 in absurd (omega (arith, low))
+not_after w q h = search (rules, is_same_point-same)
 
 module _ (f : Point → ℕ) (w : Point) (most : ℕ) (some : 1 ≤ most) (high : f w ≤ most)
     (each : (q : Point) → is_same_point q w ≡ false → f q ≤ 1) where
@@ -204,18 +169,7 @@ module _ (f : Point → ℕ) (w : Point) (most : ℕ) (some : 1 ≤ most) (high 
   sum-once-from : (y x : ℕ) (ps : List Point) → Following y x ps → sum_by f ps + 1 ≤ length ps + most
   unfolding Following
   sum-once-from y x [] h = omega arith
-  sum-once-from y x (p ∷ ps) h = by_test (is_same_point p w) refl (sum-once-from p.y (p.x + 1) ps h.1) where
-    by_test : (r : Bool) → is_same_point p w ≡ r → sum_by f ps + 1 ≤ length ps + most → sum_by f (p ∷ ps) + 1 ≤ length (p ∷ ps) + most
-    by_test true e rest =
-        let same : p ≡ w = is_same_point-same p w e in
-        let ones = sum-ones f ps (after_w ps (subst (λ (z : Point). Following z.y (z.x + 1) ps) same h.1)) in
-        let here : f p ≤ most = subst (λ (z : Point). f z ≤ most) (sym same) high in
-        let split = sum_by-cons f p ps in
-        omega (arith, ones, here, split)
-    by_test false e rest =
-        let low = each p e in
-        let split = sum_by-cons f p ps in
-        omega (arith, low, split, rest)
+  sum-once-from y x (p ∷ ps) h = search (rules, is_same_point-same, sum-ones, after_w, sum_by-cons, sum-once-from p.y (p.x + 1) ps h.1)
 
   -- all but one are at most 1
   pub sum-once : (b : Grid) → sum_by f (points_of b) + 1 ≤ length (points_of b) + most
@@ -223,9 +177,7 @@ module _ (f : Point → ℕ) (w : Point) (most : ℕ) (some : 1 ≤ most) (high 
 
 row-on : (b : Grid) (y : ℕ) → y < b.height → (n x : ℕ) → x + n ≤ b.width → AllByRecursion (λ q. is_on b q ≡ true) (row_from y x n)
 row-on b y low zero x l = tt
-row-on b y low (suc n) x l = (on_by x y b.width b.height (omega (arith, l)) low, row-on b y low n (x + 1) (omega (arith, l))) where
-  on_by : (x y w h : ℕ) → x < w → y < h → (nat_lt x w && nat_lt y h) ≡ true
-  on_by x y w h a b = grind (arith, nat_tests)
+row-on b y low (suc n) x l = search (rules, row-on b y low n (x + 1) (omega (arith, l)))
 
 rows-on : (b : Grid) (n y : ℕ) → y + n ≤ b.height → AllByRecursion (λ q. is_on b q ≡ true)
     (flat_map (λ z. row_from z 0 b.width) (range_with_len y n))

@@ -1,6 +1,6 @@
 -- A stone changes the five points of its side at the ends of its runs alone: there its run joins what stands past the end.
-use Rattle.std.proofs.Common.{◌≡◌, ◌≢◌, ◌⊎◌, inl, inr, ℕ, ◌+◌, ◌-◌, ◌≤◌, ◌<◌, true, false, ◌&&◌, refl, sym, ap, ◌∙◌, arith}
-use Rattle.std.specs.Prelude.{Some, Option, None}
+use Rattle.std.proofs.Common.{rules, ◌≡◌, ◌≢◌, ◌⊎◌, inl, inr, ℕ, ◌+◌, ◌-◌, ◌≤◌, ◌<◌, true, false}
+use Rattle.std.proofs.Common.{◌&&◌, refl, sym, ap, ◌∙◌, arith, Some, Option, None}
 use Rattle.std.specs.List.{list_any, range_with_len}
 use Rattle.std.proofs.lemmas.Bool.{both_ways, cases_lt, or_left, or_right, or_cases}
 use Rattle.game_rules.proofs.Common.{Grid, IsBoard, is_on, is_empty, holds, put, along, row_wins, stone_at, stones_ahead, stones_behind}
@@ -10,7 +10,6 @@ use Rattle.game_rules.specs.declared.Side.{Side}
 use Rattle.game_rules.specs.declared.Axis.{Axis}
 use Rattle.game_rules.specs.declared.Way.{Way}
 use Rattle.game_rules.specs.declared.Point.{Point}
-use Rattle.game_rules.specs.declared.Axis.TheVariants.{Row, Column, Down, Up}
 use Rattle.game_rules.specs.declared.Way.TheVariants.{Ahead, Behind}
 use Rattle.game_rules.proofs.Boards.{Apart, and_left, and-same, empty_holds, holds-put_same, is_empty-on, is_empty-put}
 use Rattle.game_rules.proofs.Lines.{OnLine, along-OnLine}
@@ -27,32 +26,10 @@ use Rattle.game_rules.proofs.Runs.{InRun}
 
 -- a point besides p is on one axis through it at most
 one_axis : (p q : Point) (x y u v : ℕ) → x ≢ y → u ≢ v → (d e : Axis) → OnLine d p x y q → OnLine e p u v q → d ≡ e
-one_axis p q x y u v h k Row Row l m = refl
-one_axis p q x y u v h k Row Column l m = absurd (omega arith)
-one_axis p q x y u v h k Row Down l m = absurd (omega arith)
-one_axis p q x y u v h k Row Up l m = absurd (omega arith)
-one_axis p q x y u v h k Column Row l m = absurd (omega arith)
-one_axis p q x y u v h k Column Column l m = refl
-one_axis p q x y u v h k Column Down l m = absurd (omega arith)
-one_axis p q x y u v h k Column Up l m = absurd (omega arith)
-one_axis p q x y u v h k Down Row l m = absurd (omega arith)
-one_axis p q x y u v h k Down Column l m = absurd (omega arith)
-one_axis p q x y u v h k Down Down l m = refl
-one_axis p q x y u v h k Down Up l m = absurd (omega arith)
-one_axis p q x y u v h k Up Row l m = absurd (omega arith)
-one_axis p q x y u v h k Up Column l m = absurd (omega arith)
-one_axis p q x y u v h k Up Down l m = absurd (omega arith)
-one_axis p q x y u v h k Up Up l m = refl
+one_axis p q x y u v h k d e l m = search rules
 
 axes_by : (d e : Axis) (p q : Point) (w v : Way) (j k : ℕ) → 1 ≤ j → 1 ≤ k → go w d p j 0 ≡ Some q → go v e p k 0 ≡ Some q → d ≡ e
-axes_by d e p q Ahead Ahead j k low some h f = one_axis p q j 0 k 0 (λ z. absurd (omega arith)) (λ z. absurd (omega arith)) d e
-    (along-OnLine d p j 0 q h) (along-OnLine e p k 0 q f)
-axes_by d e p q Ahead Behind j k low some h f = one_axis p q j 0 0 k (λ z. absurd (omega arith)) (λ z. absurd (omega arith)) d e
-    (along-OnLine d p j 0 q h) (along-OnLine e p 0 k q f)
-axes_by d e p q Behind Ahead j k low some h f = one_axis p q 0 j k 0 (λ z. absurd (omega arith)) (λ z. absurd (omega arith)) d e
-    (along-OnLine d p 0 j q h) (along-OnLine e p k 0 q f)
-axes_by d e p q Behind Behind j k low some h f = one_axis p q 0 j 0 k (λ z. absurd (omega arith)) (λ z. absurd (omega arith)) d e
-    (along-OnLine d p 0 j q h) (along-OnLine e p 0 k q f)
+axes_by d e p q w v j k low some h f = search (rules, one_axis, along-OnLine)
 
 -- an end of a run on one axis is none on another
 pub ends_differ : (b : Grid) (s : Side) (p q : Point) (d e : Axis) (w v : Way) → run_end b s d w p ≡ Some q → run_end b s e v p ≡ Some q
@@ -231,10 +208,7 @@ module _ (b : Grid) (s : Side) (d : Axis) (x : Point) (on : is_on b x ≡ true) 
   just_stones stop = leads_is b s d x on w m (record { holds = all; stops = stop })
 
   more_at : stone_at b s (go w d x (1 + m) 0) ≡ true → (j : ℕ) → 1 ≤ j → j ≤ 1 + m → stone_at b s (go w d x j 0) ≡ true
-  more_at stone j low high = elim (cases_lt m j) [
-    | inl last ↦ let same : 1 + m ≡ j = omega arith in ap (λ k. stone_at b s (go w d x k 0)) (sym same) ∙ stone
-    | inr inside ↦ all j low inside
-  ]
+  more_at stone j low high = search (rules, cases_lt)
 
   pub more_stones : stone_at b s (go w d x (1 + m) 0) ≡ true → m < stones_towards w b s d x
   more_stones stone = let far = least b s d x on w (1 + m) (more_at stone) in omega (arith, far)

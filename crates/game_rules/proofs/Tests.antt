@@ -1,12 +1,11 @@
 -- Tests of numbers, pairs of tests, and what holds of each item of a list.
-use Rattle.std.proofs.Common.{◌≡◌, ◌≤◌, Bool, true, false, cond, refl, arith, ℕ, nat_le, ◌<◌, nat_eq, ◌≢◌, nat_lt, List, [], ◌∷◌, ◌++◌}
-use Rattle.std.proofs.Common.{◌||◌, zero, suc, subst, Some, slice_get}
+use Rattle.std.proofs.Common.{◌≡◌, ◌≤◌, Bool, true, false, cond, arith, ℕ, nat_le, ◌<◌, nat_eq, ◌≢◌, nat_lt, List, [], ◌∷◌, ◌++◌}
+use Rattle.std.proofs.Common.{◌||◌, zero, suc, subst, Some, slice_get, rules}
 use Rattle.std.specs.List.{AllByRecursion}
 use Rattle.std.proofs.lemmas.Bool.Decides.{nat_tests}
 
 pub more_pass : (r t : Bool) → (r ≡ true → t ≡ true) → cond r 1 0 ≤ cond t 1 0
-more_pass true t h = rw (h refl) (omega arith)
-more_pass false t h = omega arith
+more_pass r t h = search rules
 
 pub le_true : (c x : ℕ) → c ≤ x → nat_le c x ≡ true
 le_true c x h = grind (arith, nat_tests)
@@ -43,13 +42,10 @@ all_get P (y ∷ xs) zero x at all = let same : y ≡ x = cc in subst P same all
 all_get P (y ∷ xs) (suc i) x at all = all_get P xs i x at all.1
 
 pub or_none : (a b : Bool) → (a || b) ≡ false → a ≡ false
-or_none true b h = cc
-or_none false b h = refl
+or_none a b h = search rules
 
 pub or_right : (a b : Bool) → (a || b) ≡ false → b ≡ false
-or_right true b h = cc
-or_right false b h = h
+or_right a b h = search rules
 
 pub or_false : (a : Bool) → (a || false) ≡ true → a ≡ true
-or_false true h = refl
-or_false false h = h
+or_false a h = search rules

@@ -1,18 +1,15 @@
 -- Three points of a line: on empty points alone, and seen along a way.
-use Rattle.std.proofs.Common.{◌≡◌, ℕ, ◌+◌, Bool, true, false, refl, arith, nat_eq, eq-eqb, ◌&&◌, not, cond, sym, ◌∙◌}
-use Rattle.std.specs.Prelude.{Some, None, is_none}
-use Rattle.std.proofs.lemmas.Bool.Decides.{nat_tests}
+use Rattle.std.proofs.Common.{rules, ◌≡◌, ℕ, ◌+◌, Bool, true, false, refl, nat_eq, eq-eqb, ◌&&◌, not, cond, sym, ◌∙◌}
+use Rattle.std.proofs.Common.{Some, None, is_none}
 use Rattle.std.proofs.Math.Bool.{and-true, and-false}
 use Rattle.std.specs.List.{list_any}
-use Rattle.game_rules.proofs.Common.{Grid, holds, along, is_empty, is_on, points_of, wins_at, is_straight, stones_ahead, stones_behind}
-use Rattle.game_rules.proofs.Common.{wins_on, is_line_three_point, is_line_three_at, is_three_point, five, towards}
-use Rattle.game_rules.proofs.Common.{opposite, stones_towards, black_foul, is_three}
+use Rattle.game_rules.proofs.Common.{Grid, holds, along, is_empty, is_on, points_of, wins_at, is_straight, wins_on, is_line_three_point}
+use Rattle.game_rules.proofs.Common.{is_line_three_at, is_three_point, five, towards, opposite, stones_towards, black_foul, is_three}
 use Rattle.game_rules.specs.declared.RuleKind.{RuleKind}
 use Rattle.game_rules.specs.declared.Side.{Side}
 use Rattle.game_rules.specs.declared.Axis.{Axis}
 use Rattle.game_rules.specs.declared.Point.{Point}
 use Rattle.game_rules.specs.declared.Way.{Way}
-use Rattle.game_rules.specs.declared.Way.TheVariants.{Ahead, Behind}
 use Rattle.game_rules.proofs.Boards.{and_left}
 use Rattle.game_rules.proofs.Axes.{no_axis}
 use Rattle.game_rules.specs.declared.Side.TheVariants.{Black}
@@ -20,17 +17,10 @@ use Rattle.game_rules.proofs.Points.{none_of}
 use Rattle.game_rules.proofs.PointLists.{any-filter}
 
 four_by : (n m : ℕ) → n ≡ m + 1 → nat_eq n 4 ≡ nat_eq m 3
-four_by n m e = by_test (nat_eq m 3) refl where
-  by_test : (r : Bool) → nat_eq m 3 ≡ r → nat_eq n 4 ≡ r
-  by_test true h = eq-eqb n 4 (let three : m ≡ 3 = grind (arith, nat_tests) in omega arith)
-  by_test false h = grind (arith, nat_tests)
+four_by n m e = search (rules, eq-eqb)
 
 and-swap : (a c e : Bool) → (a && c && e) ≡ (a && e && c)
-and-swap true true true = refl
-and-swap true true false = refl
-and-swap true false true = refl
-and-swap true false false = refl
-and-swap false c e = refl
+and-swap a c e = search rules
 
 -- a straight four, seen in either way
 pub straight_towards : (rule : RuleKind) (b : Grid) (s : Side) (w : Way) (d : Axis) (p : Point) → holds b s p ≡ true
@@ -39,15 +29,7 @@ pub straight_towards : (rule : RuleKind) (b : Grid) (s : Side) (w : Way) (d : Ax
     (towards w d p (1 + stones_towards w b s d p)) && wins_at rule b s d
     (towards (opposite w) d p (1 + stones_towards (opposite w) b s d p)))
 unfolding is_straight
-straight_towards rule b s Ahead d p mine =
-    let same : nat_eq (1 + stones_ahead b s d p + stones_behind b s d p) 4 ≡ nat_eq (stones_ahead b s d p + stones_behind b s d p) 3 =
-    four_by _ _ (omega arith) in
-    rw (mine, same) refl
-straight_towards rule b s Behind d p mine =
-    let same : nat_eq (1 + stones_ahead b s d p + stones_behind b s d p) 4 ≡ nat_eq (stones_behind b s d p + stones_ahead b s d p) 3 =
-    four_by _ _ (omega arith) in
-    rw (mine, same) (and-swap (nat_eq (stones_behind b s d p + stones_ahead b s d p) 3)
-    (wins_at rule b s d (along d p (1 + stones_ahead b s d p) 0)) (wins_at rule b s d (along d p 0 (1 + stones_behind b s d p))))
+straight_towards rule b s w d p mine = search (rules, four_by, and-swap)
 
 pub three_empty : (rule : RuleKind) (b : Grid) (s : Side) (d : Axis) (p q : Point) → is_line_three_point rule b s d p q ≡ true
     → is_empty b q ≡ true
@@ -62,8 +44,7 @@ taken_three rule b s d p q h = rw h refl
 
 pub kept_three_by : (rule : RuleKind) (b : Grid) (s : Side) (d : Axis) (p q : Point) (r : Bool) → is_on b q ≡ r
     → is_line_three_at rule b s d p (cond r (Some q) None) ≡ is_line_three_point rule b s d p q
-kept_three_by rule b s d p q true h = refl
-kept_three_by rule b s d p q false h = sym (taken_three rule b s d p q (rw h refl))
+kept_three_by rule b s d p q r h = search (rules, taken_three)
 
 module _ (rule : RuleKind) (b : Grid) (s : Side) (d : Axis) (p : Point) where
   pub three_by : (q : Point) (r : Bool) → five rule b s q ≡ r

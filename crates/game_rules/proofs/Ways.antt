@@ -1,6 +1,6 @@
 -- Lines seen from a point in one of two ways: what holds ahead holds behind.
-use Rattle.std.proofs.Common.{◌≡◌, ◌≢◌, inl, inr, ℕ, ◌+◌, ◌-◌, ◌≤◌, true, refl, sym, ap, ◌∙◌, arith}
-use Rattle.std.specs.Prelude.{Option, Some, None}
+use Rattle.std.proofs.Common.{rules, ◌≡◌, ◌≢◌, inl, inr, ℕ, ◌+◌, ◌-◌, ◌≤◌, true, refl, sym, ap, ◌∙◌}
+use Rattle.std.proofs.Common.{arith, Option, Some, None}
 use Rattle.std.proofs.lemmas.Bool.{cases_lt, both_ways}
 use Rattle.game_rules.proofs.Common.{Grid, IsBoard, is_on, holds, put, stone_at, run_of, go, opposite, stones_towards}
 use Rattle.game_rules.specs.declared.Side.{Side}
@@ -13,24 +13,19 @@ use Rattle.game_rules.proofs.Lines.{along-steps, along-apart, along-then, along-
 use Rattle.game_rules.proofs.Runs.{Leads, ahead_leads, behind_leads, ahead_is, behind_is}
 
 pub go-then : (w : Way) (d : Axis) (p q : Point) (e g x y : ℕ) → go w d p e g ≡ Some q → go w d q x y ≡ go w d p (e + x) (g + y)
-go-then Ahead d p q e g x y h = along-then d p q e g x y h
-go-then Behind d p q e g x y h = along-then d p q g e y x h
+go-then w d p q e g x y h = search (rules, along-then)
 
 pub go-same : (w : Way) (d : Axis) (p : Point) (x y x' y' : ℕ) → x + y' ≡ x' + y → go w d p x y ≡ go w d p x' y'
-go-same Ahead d p x y x' y' e = along-same d p x y x' y' e
-go-same Behind d p x y x' y' e = along-same d p y x y' x' (omega arith)
+go-same w d p x y x' y' e = search (rules, along-same)
 
 pub go-zero : (w : Way) (d : Axis) (p : Point) → go w d p 0 0 ≡ Some p
-go-zero Ahead d p = along-zero d p
-go-zero Behind d p = along-zero d p
+go-zero w d p = search (rules, along-zero)
 
 pub go-opposite : (w : Way) (d : Axis) (p : Point) (x y : ℕ) → go (opposite w) d p x y ≡ go w d p y x
-go-opposite Ahead d p x y = refl
-go-opposite Behind d p x y = refl
+go-opposite w d p x y = search rules
 
 pub opposite-opposite : (w : Way) → opposite (opposite w) ≡ w
-opposite-opposite Ahead = refl
-opposite-opposite Behind = refl
+opposite-opposite w = search rules
 
 -- the way back
 pub go-back : (w : Way) (d : Axis) (p q : Point) (k : ℕ) → go w d p k 0 ≡ Some q → go w d q 0 k ≡ Some p
@@ -38,13 +33,11 @@ go-back w d p q k here = go-then w d p q k 0 0 k here ∙ go-same w d p (k + 0) 
 
 -- a point is a fixed number of steps away
 pub go-steps : (w : Way) (d : Axis) (p q : Point) (x y x' y' : ℕ) → go w d p x y ≡ Some q → go w d p x' y' ≡ Some q → x + y' ≡ x' + y
-go-steps Ahead d p q x y x' y' e f = along-steps d p q x y x' y' e f
-go-steps Behind d p q x y x' y' e f = let back = along-steps d p q y x y' x' e f in omega (arith, back)
+go-steps w d p q x y x' y' e f = search (rules, along-steps)
 
 pub go-apart : (w : Way) (d : Axis) (p q r : Point) (x y x' y' : ℕ) → go w d p x y ≡ Some q → go w d p x' y' ≡ Some r → x + y' ≢ x' + y
     → Apart q r
-go-apart Ahead d p q r x y x' y' e f differ = along-apart d p q r x y x' y' e f differ
-go-apart Behind d p q r x y x' y' e f differ = along-apart d p q r y x y' x' e f (λ same. differ (omega arith))
+go-apart w d p q r x y x' y' e f differ = search (rules, along-apart)
 
 -- a stone changes no place a different number of steps away
 pub else_at : (b : Grid) (s : Side) (w : Way) (d : Axis) (p q : Point) (e g x y : ℕ) → is_on b q ≡ true → go w d p e g ≡ Some q
@@ -89,14 +82,12 @@ module _ (b : Grid) (s : Side) (d : Axis) (p : Point) (on : is_on b p ≡ true) 
 -- a run through the new stone, from either of the two ways
 pub run_towards : (b : Grid) (s : Side) (w : Way) (d : Axis) (q : Point) → IsBoard b → is_on b q ≡ true
     → run_of (put b s q) s d q ≡ 1 + stones_towards w b s d q + stones_towards (opposite w) b s d q
-run_towards b s Ahead d q ok on = run_of-put b s q on ok d
-run_towards b s Behind d q ok on = let run = run_of-put b s q on ok d in omega (arith, run)
+run_towards b s w d q ok on = search (rules, run_of-put)
 
 module _ (b : Grid) (s : Side) (p : Point) (on : is_on b p ≡ true) where
   -- a stone changes nothing that stands next to its point
   pub towards-put : (w : Way) (d : Axis) → stones_towards w (put b s p) s d p ≡ stones_towards w b s d p
-  towards-put Ahead d = stones_ahead-put b s p on s d
-  towards-put Behind d = stones_behind-put b s p on s d
+  towards-put w d = search (rules, stones_ahead-put, stones_behind-put)
 
   -- and nothing that stands past another point of its line
   pub beyond-put : (w : Way) (d : Axis) (k : ℕ) (e : Point) → go w d p (1 + k) 0 ≡ Some e → is_on b e ≡ true

@@ -1,7 +1,6 @@
 -- Points that win: they are empty, and their stone joins those ahead of it and behind it to a run that wins.
-use Rattle.std.proofs.Common.{◌≡◌, ℕ, ◌+◌, ◌≤◌, true, false, ◌&&◌, ap, arith}
+use Rattle.std.proofs.Common.{◌≡◌, ℕ, ◌+◌, ◌≤◌, true, false, ◌&&◌, ap, rules}
 use Rattle.std.proofs.lemmas.Bool.{false_from_ne_true, both_ways}
-use Rattle.std.proofs.lemmas.Bool.Decides.{nat_tests}
 use Rattle.game_rules.proofs.Common.{Grid, IsBoard, is_empty, row_wins, stones_ahead, stones_behind, wins_on, five, opposite}
 use Rattle.game_rules.proofs.Common.{stones_towards, has_five}
 use Rattle.game_rules.specs.declared.RuleKind.{RuleKind}
@@ -9,8 +8,6 @@ use Rattle.game_rules.specs.declared.Side.{Side}
 use Rattle.game_rules.specs.declared.Axis.{Axis}
 use Rattle.game_rules.specs.declared.Way.{Way}
 use Rattle.game_rules.specs.declared.Point.{Point}
-use Rattle.game_rules.specs.declared.RuleKind.TheVariants.{Freestyle, Exact, Renju}
-use Rattle.game_rules.specs.declared.Side.TheVariants.{Black, White}
 use Rattle.game_rules.proofs.Axes.{no_axis}
 use Rattle.game_rules.proofs.Boards.{and-same, is_empty-on, run_of-put}
 use Rattle.game_rules.proofs.Points.{points-found}
@@ -30,15 +27,11 @@ module _ (rule : RuleKind) (b : Grid) (s : Side) where
 
   -- where the side has no five point, no point is one, or wins on an axis
   pub no_five : (p : Point) → has_five rule b s ≡ false → five rule b s p ≡ false
-  no_five p none = false_from_ne_true _
-      (λ h. both_ways _ none (points-found b (five rule b s) p (is_empty-on b p (five-empty rule b s p h)) h))
+  no_five p none = search (rules, false_from_ne_true, both_ways, points-found, is_empty-on, five-empty)
 
   pub no_win : (d : Axis) (p : Point) → has_five rule b s ≡ false → wins_on rule b s d p ≡ false
   no_win d p none = no_axis (λ d. wins_on rule b s d p) (no_five p none) d
 
 -- a run that wins has five stones or more
 pub row_wins-five : (rule : RuleKind) (s : Side) (n : ℕ) → row_wins rule s n ≡ true → 5 ≤ n
-row_wins-five Freestyle s n h = grind (arith, nat_tests)
-row_wins-five Exact s n h = grind (arith, nat_tests)
-row_wins-five Renju Black n h = grind (arith, nat_tests)
-row_wins-five Renju White n h = grind (arith, nat_tests)
+row_wins-five rule s n h = search rules
