@@ -1,40 +1,32 @@
 -- Answers to replies: which nodes they are, and what holds of them.
-use Rattle.std.proofs.Common.{◌≡◌, ℕ, ◌≤◌, ◌<◌, max, Bool, true, false, cond, List, [], ◌∷◌, ◌++◌, map, refl, arith, zero, suc, subst, ap}
-use Rattle.std.specs.Prelude.{IsSomeAnd}
-use Rattle.std.proofs.Common.{◌+◌, length, drop, get_or, drop-cons, add-one, ◌∙◌, sym, Option, Some, None, nat_lt, Contains}
-use Rattle.std.specs.List.{list_all, find, AllByRecursion, filter}
-use Rattle.std.specs.Option.{option_map, option_or}
+use Rattle.std.proofs.Common.{rules, ◌≡◌, ℕ, ◌≤◌, ◌<◌, Bool, true, false, cond, List, [], ◌∷◌, ◌++◌, map, refl}
+use Rattle.std.proofs.Common.{arith, zero, suc, subst, ap, IsSomeAnd, ◌+◌, length, drop, get_or, drop-cons, add-one, ◌∙◌, sym}
+use Rattle.std.proofs.Common.{Option, Some, None, nat_lt, Contains, find, filter, option_map, ltb-true}
+use Rattle.std.specs.List.{list_all, AllByRecursion}
+use Rattle.std.specs.Option.{option_or}
 use Rattle.std.proofs.Math.ListN.{drop_of_length-le}
 use Rattle.game_rules.proofs.Common.{is_same_point, Grid, is_on}
 use Rattle.game_rules.specs.declared.Point.{Point}
 use Rattle.strategy_graph.specs.declared.Reply.{Reply}
 use Rattle.strategy_graph.specs.declared.Rest.{Rest}
-use Rattle.strategy_graph.specs.declared.Rest.TheVariants.{Wins, To, Nothing}
+use Rattle.strategy_graph.specs.declared.Rest.TheVariants.{Nothing}
 use Rattle.strategy_graph.proofs.Common.{Answers, answer, listed_node, rest_node, rest_nodes, named, names_below, greatest, RepliesOn}
 use Rattle.strategy_graph.proofs.Common.{is_winning, AtNode}
 use Rattle.strategy_graph.specs.declared.Node.{Node}
 use Rattle.game_rules.proofs.Boards.{and_left, and_right}
-use borrow.Author.Tests.{ltb-true}
 
 -- an answer is the node that is listed, or that of the rest
 option_or_cases : (o p : Option ℕ) (j : ℕ) (W : Type 0) → (o ≡ Some j → W) → (p ≡ Some j → W) → option_or o p ≡ Some j → W
-option_or_cases None p j W f g h = g h
-option_or_cases (Some i) p j W f g h = f h
+option_or_cases o p j W f g h = search rules
 
 -- an answer is no deeper than the deepest node that is named
 greatest-left : (d : ℕ → ℕ) (rs : List Reply) (js : List ℕ) (q : Point) (j : ℕ) → listed_node rs q ≡ Some j
     → d j ≤ greatest (map d (map (λ r. r.next) rs ++ js))
 greatest-left d [] js q j h = cc
-greatest-left d (r ∷ rs) js q j h = by_test (is_same_point r.at q) h (greatest-left d rs js q j) where
-  by_test : (t : Bool) → option_map (λ r. r.next) (cond t (Some r) (find (λ r. is_same_point r.at q) rs)) ≡ Some j
-      → (listed_node rs q ≡ Some j → d j ≤ greatest (map d (map (λ r. r.next) rs ++ js)))
-      → d j ≤ max (d r.next) (greatest (map d (map (λ r. r.next) rs ++ js)))
-  by_test true h below = let e : d r.next ≡ d j = cc in omega (arith, e)
-  by_test false h below = let low = below h in omega (arith, low)
+greatest-left d (r ∷ rs) js q j h = search (rules, greatest-left d rs js q j)
 
 greatest-rest : (d : ℕ → ℕ) (rest : Rest) (j : ℕ) → rest_node rest ≡ Some j → d j ≤ greatest (map d (rest_nodes rest))
-greatest-rest d (To k) j h = let e : d k ≡ d j = cc in omega (arith, e)
-greatest-rest d _ j h = cc
+greatest-rest d rest j h = search rules
 
 greatest-right : (d : ℕ → ℕ) (rs : List Reply) (js : List ℕ) (m : ℕ) → m ≤ greatest (map d js)
     → m ≤ greatest (map d (map (λ r. r.next) rs ++ js))
@@ -42,9 +34,7 @@ greatest-right d [] js m h = h
 greatest-right d (r ∷ rs) js m h = let low = greatest-right d rs js m h in omega (arith, low)
 
 pub answer-greatest : (d : ℕ → ℕ) (a : Answers) (q : Point) (j : ℕ) → answer a q ≡ Some j → d j ≤ greatest (map d (named a))
-answer-greatest d a q j h =
-    option_or_cases (listed_node a.replies q) (rest_node a.rest) j _ (greatest-left d a.replies (rest_nodes a.rest) q j)
-    (λ e. greatest-right d a.replies (rest_nodes a.rest) (d j) (greatest-rest d a.rest j e)) h
+answer-greatest d a q j h = search (rules, option_or_cases, greatest-left, greatest-right, greatest-rest)
 
 -- an answer is one of the nodes that are named
 all-left : (p : ℕ → Bool) (rs : List Reply) (js : List ℕ) (q : Point) (j : ℕ) → list_all p (map (λ r. r.next) rs ++ js) ≡ true
@@ -61,14 +51,11 @@ all-right p [] js all = all
 all-right p (r ∷ rs) js all = all-right p rs js (and_right (p r.next) _ all)
 
 all-rest : (p : ℕ → Bool) (rest : Rest) (j : ℕ) → list_all p (rest_nodes rest) ≡ true → rest_node rest ≡ Some j → p j ≡ true
-all-rest p (To k) j all h = let e : k ≡ j = cc in let here : p k ≡ true = and_left (p k) true all in cc
-all-rest p _ j all h = cc
+all-rest p rest j all h = search (rules, and_left)
 
 -- what holds of each node that is named holds of an answer
 pub answer-named : (p : ℕ → Bool) (a : Answers) (q : Point) (j : ℕ) → list_all p (named a) ≡ true → answer a q ≡ Some j → p j ≡ true
-answer-named p a q j all h =
-    option_or_cases (listed_node a.replies q) (rest_node a.rest) j _ (all-left p a.replies (rest_nodes a.rest) q j all)
-    (all-rest p a.rest j (all-right p a.replies (rest_nodes a.rest) all)) h
+answer-named p a q j all h = search (rules, option_or_cases, all-left, all-rest, all-right)
 
 -- where the answers name only nodes below k, an answer is below k
 pub answer-below : (a : Answers) (k : ℕ) (q : Point) (j : ℕ) → names_below a k ≡ true → answer a q ≡ Some j → j < k
@@ -77,12 +64,10 @@ answer-below a k q j below h = ltb-true _ _ (answer-named (λ j. nat_lt j k) a q
 -- ---- there is an answer of which a fact holds
 
 pub IsSomeAnd-map : (o : Option ℕ) (P Q : ℕ → Type 0) → ((j : ℕ) → o ≡ Some j → P j → Q j) → IsSomeAnd o P → IsSomeAnd o Q
-IsSomeAnd-map None P Q f h = h
-IsSomeAnd-map (Some j) P Q f h = f j refl h
+IsSomeAnd-map o P Q f h = search rules
 
 pub IsSomeAnd-elim : (o : Option ℕ) (P : ℕ → Type 0) (W : Type 0) → ((j : ℕ) → o ≡ Some j → P j → W) → IsSomeAnd o P → W
-IsSomeAnd-elim None P W f h = absurd h
-IsSomeAnd-elim (Some j) P W f h = f j refl h
+IsSomeAnd-elim o P W f h = search rules
 
 pub next-all : (P : ℕ → Type 0) (rs : List Reply) → AllByRecursion (λ r. P r.next) rs → (j : ℕ) → Contains (map (λ r. r.next) rs) j → P j
 next-all P [] h j (k, l, e) = absurd (omega arith)
@@ -96,13 +81,11 @@ nodes-append_nil (n ∷ t) = ap (λ (r : List Node). n ∷ r) (nodes-append_nil 
 module _ (p : ℕ → Bool) (rs : List Reply) (i : ℕ) where
   pub find-next_hit : (d : Reply) → i < length rs → p (get_or rs i d).next ≡ true
       → find p (map (λ r. r.next) (drop i rs)) ≡ Some (get_or rs i d).next
-  find-next_hit d l h = rw (drop-cons rs i d)
-      (ap (λ (b : Bool). cond b (Some (get_or rs i d).next) (find p (map (λ r. r.next) (drop (suc i) rs)))) h)
+  find-next_hit d l h = search (rules, drop-cons)
 
   pub find-next_miss : (d : Reply) → i < length rs → p (get_or rs i d).next ≡ false
       → find p (map (λ r. r.next) (drop i rs)) ≡ find p (map (λ r. r.next) (drop (i + 1) rs))
-  find-next_miss d l h = rw (add-one, drop-cons rs i d)
-      (ap (λ (b : Bool). cond b (Some (get_or rs i d).next) (find p (map (λ r. r.next) (drop (suc i) rs)))) h)
+  find-next_miss d l h = search (rules, add-one, drop-cons)
 
   pub find-next_none : length rs ≤ i → find p (map (λ r. r.next) (drop i rs)) ≡ None
   find-next_none l = ap (λ (xs : List Reply). find p (map (λ r. r.next) xs)) (drop_of_length-le rs l)
@@ -118,25 +101,20 @@ replies-on b (r ∷ rs) (s ∷ ss) e h =
 
 pub attack_at : (o : Option Node) (P : Node → Type 0) (p : Point) → ((n : Node) → P n → n.attack ≡ p) → AtNode o P
     → option_map (λ n. n.attack) o ≡ Some p
-attack_at None P p f h = absurd h
-attack_at (Some n) P p f h = ap Some (f n h)
+attack_at o P p f h = search rules
 
 pub AtNode-parts : (o : Option Node) (P : Node → Type 0) → AtNode o P → (n : Node) × (o ≡ Some n) × P n
-AtNode-parts None P h = absurd h
-AtNode-parts (Some n) P h = (n, refl, h)
+AtNode-parts o P h = search rules
 
 pub nothing_not_winning : (r : Rest) → r ≡ Nothing → is_winning r ≡ true → ⊥
-nothing_not_winning Wins e h = cc
-nothing_not_winning _ e h = cc
+nothing_not_winning r e h = search rules
 
 pub winning_no_answer : (n : Node) (q : Point) (r : Rest) → is_winning r ≡ true → n.replies ≡ []
     → answer (record { replies = n.replies; rest = r }) q ≡ None
-winning_no_answer n q Wins h e = ap (λ (rs : List Reply). answer (record { replies = rs; rest = Wins }) q) e
-winning_no_answer n q _ h e = cc
+winning_no_answer n q r h e = search rules
 
 pub not_winning_by : (o : Option ℕ) (P : ℕ → Type 0) → o ≡ None → IsSomeAnd o P → ⊥
-not_winning_by None P e h = h
-not_winning_by (Some j) P e h = cc
+not_winning_by o P e h = search rules
 
 -- replies at points that pass
 pub passed : (f : Point → Bool) (ps : List Point) (rs : List Reply) → map (λ r. r.at) rs ≡ filter f ps

@@ -1,25 +1,22 @@
 -- A table that holds a copy of nodes of another, under other numbers, says the same at them.
-use Rattle.std.proofs.Common.{◌≡◌, ℕ, zero, suc, Bool, true, false, cond, List, [], ◌∷◌, ◌++◌, map, refl, sym, ap, subst, ◌∙◌, Option, Some}
-use Rattle.std.specs.Prelude.{IsSomeAnd}
-use Rattle.std.proofs.Common.{None, slice_get, ◌↔◌}
-use Rattle.std.specs.List.{list_all, find, sum_by}
-use Rattle.std.specs.Option.{option_map, option_or, option_map_or}
-use Rattle.game_rules.proofs.Common.{Grid, points_of, is_same_point, outcome, after, WinsOr, LosesOr, if_goes_on}
+use Rattle.std.proofs.Common.{◌≡◌, ℕ, zero, suc, Bool, true, false, cond, List, [], ◌∷◌, ◌++◌, map, refl, sym, ap, subst}
+use Rattle.std.proofs.Common.{◌∙◌, Option, Some, IsSomeAnd, slice_get, ◌↔◌, rules, option_map}
+use Rattle.std.specs.List.{list_all}
+use Rattle.std.specs.Option.{option_or, option_map_or}
+use Rattle.game_rules.proofs.Common.{Grid, outcome, after, WinsOr, LosesOr, if_goes_on}
 use Rattle.game_rules.specs.declared.RuleKind.{RuleKind}
 use Rattle.game_rules.specs.declared.Outcome.{Outcome}
-use Rattle.game_rules.specs.declared.Outcome.TheVariants.{Refused, Wins as WinsNow, Fouls, Draws, GoesOn}
+use Rattle.game_rules.specs.declared.Outcome.TheVariants.{GoesOn}
 use Rattle.game_rules.specs.declared.Point.{Point}
 use Rattle.strategy_graph.specs.declared.Reply.{Reply}
 use Rattle.strategy_graph.specs.declared.Rest.{Rest}
-use Rattle.strategy_graph.specs.declared.Rest.TheVariants.{Wins, To, Nothing}
 use Rattle.strategy_graph.specs.declared.Node.{Node}
 use Rattle.strategy_graph.specs.declared.Why.{Why}
 use Rattle.strategy_graph.proofs.Common.{Answers, answers_of, answer, listed_node, rest_node, rest_nodes, named, is_winning, greatest}
 use Rattle.strategy_graph.proofs.Common.{node_depth, depth_within, renumbered_rest, renumbered_reply, renumbered_answers, renumbered_node}
-use Rattle.strategy_graph.proofs.Common.{Meets, AcceptedNode, AcceptedWithin, arrivals_at}
-use Rattle.strategy_graph.proofs.Common.{arrivals_after, arrivals_behind, arrivals_within, End, NoMove, Open, after_attack, after_reply}
-use Rattle.strategy_graph.proofs.Common.{one_later, if_node, end_at, game, points_on, points_from, attacks_at, attacks, attack_fault}
-use Rattle.strategy_graph.proofs.Common.{reply_fault, AtNode, ReplyLeads, Leads}
+use Rattle.strategy_graph.proofs.Common.{Meets, AcceptedNode, AcceptedWithin, arrivals_at, arrivals_after, arrivals_behind, arrivals_within}
+use Rattle.strategy_graph.proofs.Common.{End, NoMove, Open, after_attack, after_reply, if_node, end_at, game, points_on, points_from}
+use Rattle.strategy_graph.proofs.Common.{attacks_at, attacks, attack_fault, reply_fault, AtNode, ReplyLeads, Leads}
 use Rattle.strategy_graph.proofs.Answering.{answer-named}
 use Rattle.game_rules.proofs.Boards.{and_left, and_right}
 
@@ -36,34 +33,24 @@ iff_by A B e = (subst (λ (X : Type 0). X) e, subst (λ (X : Type 0). X) (sym e)
 -- ---- answers
 
 option_or-map : (f : ℕ → ℕ) (o p : Option ℕ) → option_or (option_map f o) (option_map f p) ≡ option_map f (option_or o p)
-option_or-map f None p = refl
-option_or-map f (Some j) p = refl
+option_or-map f o p = search rules
 
 listed-renumbered : (f : ℕ → ℕ) (rs : List Reply) (q : Point)
     → listed_node (map (renumbered_reply f) rs) q ≡ option_map f (listed_node rs q)
 listed-renumbered f [] q = refl
-listed-renumbered f (r ∷ rs) q = by_test (is_same_point r.at q) (listed-renumbered f rs q) where
-  by_test : (b : Bool) → listed_node (map (renumbered_reply f) rs) q ≡ option_map f (listed_node rs q)
-      → option_map (λ r. r.next) (cond b (Some (renumbered_reply f r)) (find (λ r. is_same_point r.at q) (map (renumbered_reply f) rs)))
-      ≡ option_map f (option_map (λ r. r.next) (cond b (Some r) (find (λ r. is_same_point r.at q) rs)))
-  by_test true h = refl
-  by_test false h = h
+listed-renumbered f (r ∷ rs) q = search (rules, listed-renumbered f rs q)
 
 rest_node-renumbered : (f : ℕ → ℕ) (r : Rest) → rest_node (renumbered_rest f r) ≡ option_map f (rest_node r)
-rest_node-renumbered f Wins = refl
-rest_node-renumbered f _ = refl
+rest_node-renumbered f r = search rules
 
 pub answer-renumbered : (f : ℕ → ℕ) (a : Answers) (q : Point) → answer (renumbered_answers f a) q ≡ option_map f (answer a q)
-answer-renumbered f a q = rw (listed-renumbered f a.replies q, rest_node-renumbered f a.rest)
-    (option_or-map f (listed_node a.replies q) (rest_node a.rest))
+answer-renumbered f a q = search (rules, listed-renumbered, rest_node-renumbered, option_or-map)
 
 pub is_winning-renumbered : (f : ℕ → ℕ) (r : Rest) → is_winning (renumbered_rest f r) ≡ is_winning r
-is_winning-renumbered f Wins = refl
-is_winning-renumbered f _ = refl
+is_winning-renumbered f r = search rules
 
 rest_nodes-renumbered : (f : ℕ → ℕ) (r : Rest) → rest_nodes (renumbered_rest f r) ≡ map f (rest_nodes r)
-rest_nodes-renumbered f Wins = refl
-rest_nodes-renumbered f _ = refl
+rest_nodes-renumbered f r = search rules
 
 named_by : (f : ℕ → ℕ) (rs : List Reply) (r : Rest)
     → map (λ r. r.next) (map (renumbered_reply f) rs) ++ rest_nodes (renumbered_rest f r) ≡ map f (map (λ r. r.next) rs ++ rest_nodes r)
@@ -76,8 +63,7 @@ named-renumbered f a = named_by f a.replies a.rest
 -- ---- each number for itself
 
 renumbered_rest-same : (r : Rest) → renumbered_rest (λ j. j) r ≡ r
-renumbered_rest-same Wins = refl
-renumbered_rest-same _ = refl
+renumbered_rest-same r = search rules
 
 renumbered_replies-same : (rs : List Reply) → map (renumbered_reply (λ j. j)) rs ≡ rs
 renumbered_replies-same [] = refl
@@ -95,37 +81,25 @@ module _ (f : ℕ → ℕ) (passes : ℕ → Bool) where
   greatest-copied : (d e : ℕ → ℕ) → ((j : ℕ) → passes j ≡ true → e (f j) ≡ d j) → (js : List ℕ) → list_all passes js ≡ true
       → greatest (map e (map f js)) ≡ greatest (map d js)
   greatest-copied d e same [] all = refl
-  greatest-copied d e same (j ∷ js) all =
-      let here : e (f j) ≡ d j = same j (and_left (passes j) _ all) in
-      let later : greatest (map e (map f js)) ≡ greatest (map d js) = greatest-copied d e same js (and_right (passes j) _ all) in
-      rw (here, later) refl
+  greatest-copied d e same (j ∷ js) all = search (rules, and_left, and_right, greatest-copied d e same js (and_right (passes j) _ all))
 
   answered-copied : (P P' : ℕ → Type 0) (o : Option ℕ) → ((j : ℕ) → o ≡ Some j → P' (f j) ≡ P j)
       → IsSomeAnd (option_map f o) P' ≡ IsSomeAnd o P
-  answered-copied P P' None h = refl
-  answered-copied P P' (Some j) h = h j refl
+  answered-copied P P' o h = search rules
 
   map_or-copied : (m m' : ℕ → ℕ) (o : Option ℕ) → ((j : ℕ) → o ≡ Some j → m' (f j) ≡ m j)
       → option_map_or m' (option_map f o) 0 ≡ option_map_or m o 0
-  map_or-copied m m' None h = refl
-  map_or-copied m m' (Some j) h = h j refl
+  map_or-copied m m' o h = search rules
 
   if_node-copied : (e e' : ℕ → End) (o : Option ℕ) → ((j : ℕ) → o ≡ Some j → e' (f j) ≡ e j) → if_node (option_map f o) e' ≡ if_node o e
-  if_node-copied e e' None h = refl
-  if_node-copied e e' (Some j) h = ap one_later (h j refl)
+  if_node-copied e e' o h = search rules
 
   points_from-copied : (ps ps' : ℕ → List Point) (o : Option ℕ) → ((j : ℕ) → o ≡ Some j → ps' (f j) ≡ ps j)
       → points_from (option_map f o) ps' ≡ points_from o ps
-  points_from-copied ps ps' None h = refl
-  points_from-copied ps ps' (Some j) h = h j refl
+  points_from-copied ps ps' o h = search rules
 
   reply_fault-copied : (u : Outcome) (o : Option ℕ) → reply_fault u (option_map f o) ≡ reply_fault u o
-  reply_fault-copied Refused o = refl
-  reply_fault-copied WinsNow o = refl
-  reply_fault-copied (Fouls g) o = refl
-  reply_fault-copied Draws o = refl
-  reply_fault-copied GoesOn None = refl
-  reply_fault-copied GoesOn (Some j) = refl
+  reply_fault-copied u o = search rules
 
   reply_leads-copied : (u : Outcome) (o : Option ℕ) (line : List Point) (P P' : ℕ → Type 0) (why : Why)
       → ((j : ℕ) → o ≡ Some j → P' (f j) ≡ P j) → ReplyLeads u (option_map f o) line P' why ≡ ReplyLeads u o line P why
@@ -153,10 +127,7 @@ module _ (f : ℕ → ℕ) (passes : ℕ → Bool) where
 
     pub arrivals_after-copied : (rule : RuleKind) (m m' : ℕ → Grid → ℕ) → ((j : ℕ) → passes j ≡ true → (c : Grid) → m' (f j) c ≡ m j c)
         → (b : Grid) → arrivals_after rule (renumbered_answers f a) m' b ≡ arrivals_after rule a m b
-    arrivals_after-copied rule m m' same b =
-        let each : arrivals_at rule (renumbered_answers f a) m' b ≡ arrivals_at rule a m b =
-        λ i q. arrivals_at-copied rule m m' same b q i in
-        ap (λ (g : Point → ℕ). sum_by g (points_of b)) each
+    arrivals_after-copied rule m m' same b = search (rules, arrivals_at-copied)
 
     if_node-answer : (e e' : ℕ → Grid → End) → ((j : ℕ) → passes j ≡ true → (c : Grid) → e' (f j) c ≡ e j c) → (c : Grid) (q : Point)
         → if_node (answer (renumbered_answers f a) q) (λ j. e' j c) ≡ if_node (answer a q) (λ j. e j c)
@@ -219,8 +190,7 @@ module _ (f : ℕ → ℕ) (passes : ℕ → Bool) where
 
     attacks_at-none : (rule : RuleKind) (b : Grid) → attacks_at rule (Some (renumbered_node f n)) b (λ n. []) ≡ attacks_at rule (Some n) b
         (λ n. [])
-    attacks_at-none rule b = ap (λ (w : Bool). n.attack ∷ points_on (outcome rule b n.attack) (cond w [] []))
-        (is_winning-renumbered f n.rest)
+    attacks_at-none rule b = search (rules, is_winning-renumbered)
 
     attacks_at-copied : (rule : RuleKind) (ps ps' : ℕ → Grid → List Point) → ((j : ℕ) → passes j ≡ true → (c : Grid) → ps' (f j) c ≡ ps j c)
         → (b : Grid) (q : Point) → attacks_at rule (Some (renumbered_node f n)) b
@@ -238,15 +208,7 @@ module _ (f : ℕ → ℕ) (passes : ℕ → Bool) where
         (points_from-answer (answers_of n) all ps ps' same (after (after b n.attack) q) q)
 
     attack_fault-renumbered : (u : Outcome) → attack_fault u (renumbered_rest f n.rest) ≡ attack_fault u n.rest
-    attack_fault-renumbered u = by_rest u n.rest where
-      by_rest : (u : Outcome) (r : Rest) → attack_fault u (renumbered_rest f r) ≡ attack_fault u r
-      by_rest Refused r = refl
-      by_rest WinsNow r = refl
-      by_rest (Fouls g) r = refl
-      by_rest Draws r = refl
-      by_rest GoesOn Wins = refl
-      by_rest GoesOn (To j) = refl
-      by_rest GoesOn Nothing = refl
+    attack_fault-renumbered u = search rules
 
     leads_last-copied : (rule : RuleKind) (b : Grid) (p : Point) (why : Why)
         → AtNode (Some (renumbered_node f n)) (λ n. (p ≡ n.attack) × (attack_fault (outcome rule b p) n.rest ≡ Some why)) ≡ AtNode (Some n)
@@ -303,8 +265,7 @@ module _ (f : ℕ → ℕ) (passes : ℕ → Bool) (t u : List Node) (copies : C
 
   pub game-copied : (rule : RuleKind) (i : ℕ) (b : Grid) (qs : List Point) → passes i ≡ true → game rule u (f i) b qs ≡ game rule t i b qs
   unfolding game
-  game-copied rule i b [] p =
-      at_copy End (λ o. end_at rule o b (λ n. Open)) (λ o. end_at rule o b (λ n. Open)) i p (λ n all. end_at-open f passes n all rule b)
+  game-copied rule i b [] p = search (rules, end_at-open)
   game-copied rule i b (q ∷ qs) p =
       at_copy End
       (λ o. end_at rule o b (λ n. after_reply (outcome rule (after b n.attack) q)
@@ -317,9 +278,7 @@ module _ (f : ℕ → ℕ) (passes : ℕ → Bool) (t u : List Node) (copies : C
   pub attacks-copied : (rule : RuleKind) (i : ℕ) (b : Grid) (qs : List Point) → passes i ≡ true
       → attacks rule u (f i) b qs ≡ attacks rule t i b qs
   unfolding attacks
-  attacks-copied rule i b [] p =
-      at_copy (List Point) (λ o. attacks_at rule o b (λ n. [])) (λ o. attacks_at rule o b (λ n. [])) i p
-      (λ n all. attacks_at-none f passes n all rule b)
+  attacks-copied rule i b [] p = search (rules, attacks_at-none)
   attacks-copied rule i b (q ∷ qs) p =
       at_copy (List Point)
       (λ o. attacks_at rule o b

@@ -1,51 +1,36 @@
 -- Games from an accepted node end well. One step of a game against a table, and of its attacks: what a player that follows a table needs.
-use Rattle.std.proofs.Common.{◌≡◌, ℕ, zero, suc, ◌≤◌, cond, List, [], ◌∷◌, length, refl, arith, Option, Some, None, slice_get, false, Bool}
-use Rattle.std.specs.Prelude.{IsSomeAnd}
-use Rattle.std.proofs.Common.{true, ap}
+use Rattle.std.proofs.Common.{◌≡◌, ℕ, zero, suc, ◌≤◌, cond, List, [], ◌∷◌, length, arith, Option, Some, None, slice_get}
+use Rattle.std.proofs.Common.{false, Bool, IsSomeAnd, ap, rules}
 use Rattle.game_rules.specs.declared.RuleKind.{RuleKind}
 use Rattle.game_rules.specs.declared.Outcome.{Outcome}
-use Rattle.game_rules.specs.declared.Outcome.TheVariants.{Refused, Wins as WinsNow, Fouls, GoesOn}
 use Rattle.game_rules.specs.declared.Point.{Point}
-use Rattle.game_rules.specs.declared.Foul.{Foul}
 use Rattle.game_rules.proofs.Common.{Grid, outcome, after, WinsOr, LosesOr}
 use Rattle.strategy_graph.specs.declared.Rest.{Rest}
-use Rattle.strategy_graph.specs.declared.Rest.TheVariants.{Wins}
 use Rattle.strategy_graph.specs.declared.Node.{Node}
-use Rattle.strategy_graph.proofs.Common.{answers_of, answer, is_winning, node_depth, depth_within, depth}
-use Rattle.strategy_graph.proofs.Common.{AcceptedNode, AcceptedWithin, Accepted, End, Won, NoMove, Open, after_attack}
-use Rattle.strategy_graph.proofs.Common.{after_reply, one_later, if_node, end_at, game, EndsWell, attacks, points_on, attacks_at}
+use Rattle.strategy_graph.proofs.Common.{answers_of, answer, is_winning, node_depth, depth_within, depth, AcceptedNode, AcceptedWithin}
+use Rattle.strategy_graph.proofs.Common.{Accepted, End, NoMove, Open, after_attack, after_reply, one_later, if_node, end_at, game, EndsWell}
+use Rattle.strategy_graph.proofs.Common.{attacks, points_on, attacks_at}
 use Rattle.strategy_graph.proofs.Answering.{answer-greatest}
 
 attack_ends : (o : Outcome) (W : Type 0) (d m : ℕ) (e : End) → 1 ≤ d → (W → EndsWell d m e) → WinsOr o W → EndsWell d m (after_attack o e)
-attack_ends WinsNow W d m e l f h = (omega arith, l)
-attack_ends GoesOn W d m e l f h = f h
-attack_ends _ W d m e l f h = absurd h
+attack_ends o W d m e l f h = search rules
 
 reply_ends : (o : Outcome) (W : Type 0) (d m : ℕ) (e : End) → 1 ≤ d → (W → EndsWell d m e) → LosesOr o W → EndsWell d m (after_reply o e)
-reply_ends Refused W d m e l f h = tt
-reply_ends (Fouls g) W d m e l f h = (omega arith, l)
-reply_ends GoesOn W d m e l f h = f h
-reply_ends _ W d m e l f h = absurd h
+reply_ends o W d m e l f h = search rules
 
 not_winning : (r : Rest) (e : End) → is_winning r ≡ false → cond (is_winning r) NoMove e ≡ e
-not_winning Wins e h = cc
-not_winning _ e h = refl
+not_winning r e h = search rules
 
 one_later_ends : (e : End) (d dd m : ℕ) → d ≤ dd → EndsWell d m e → EndsWell (suc dd) (suc m) (one_later e)
-one_later_ends (Won k) d dd m l h = let low = h.0 in let high = h.1 in (omega (arith, low), omega (arith, high))
-one_later_ends Open d dd m l h = omega arith
-one_later_ends _ d dd m l h = h
+one_later_ends e d dd m l h = search rules
 
 node_ends_well : (o : Option ℕ) (P : ℕ → Type 0) (d m : ℕ) (end_from : ℕ → End)
     → ((j : ℕ) → o ≡ Some j → P j → EndsWell d m (one_later (end_from j))) → IsSomeAnd o P → EndsWell d m (if_node o end_from)
-node_ends_well None P d m end_from f h = absurd h
-node_ends_well (Some j) P d m end_from f h = f j refl h
+node_ends_well o P d m end_from f h = search rules
 
 no_reply_ends : (rule : RuleKind) (o : Option Node) (Next : ℕ → Grid → Type 0) (d : ℕ → ℕ) (b : Grid) → AcceptedNode rule o Next b
     → EndsWell (node_depth o d) 0 (end_at rule o b (λ n. Open))
-no_reply_ends rule None Next d b h = absurd h
-no_reply_ends rule (Some n) Next d b h =
-    attack_ends (outcome rule b n.attack) _ _ 0 _ (omega arith) (λ w. rw (not_winning n.rest Open w.0) (omega arith)) h
+no_reply_ends rule o Next d b h = search (rules, attack_ends, not_winning)
 
 step_ends : (rule : RuleKind) (o : Option Node) (Next : ℕ → Grid → Type 0) (d : ℕ → ℕ) (end : ℕ → Grid → End) (m : ℕ)
     → ((j : ℕ) (c : Grid) → Next j c → EndsWell (d j) m (end j c)) → (b : Grid) (q : Point) → AcceptedNode rule o Next b
@@ -77,27 +62,13 @@ games-end-well rule t i b qs h = within_ends rule t (suc i) i b qs h
 
 -- with no reply left there is no further attack
 pub none_on : (o : Outcome) (r : Bool) → points_on o (cond r [] []) ≡ []
-none_on GoesOn true = refl
-none_on GoesOn false = refl
-none_on _ r = refl
+none_on o r = search rules
 
 module _ (rule : RuleKind) (t : List Node) (i : ℕ) (b : Grid) (n : Node) (at : slice_get t i ≡ Some n) where
   -- with no reply left, the attack is the last
   pub attacks-open : attacks rule t i b [] ≡ n.attack ∷ []
   unfolding attacks
   attacks-open = rw at (ap (λ (ps : List Point). n.attack ∷ ps) (none_on (outcome rule b n.attack) (is_winning n.rest)))
-
-  module _ (o : outcome rule b n.attack ≡ GoesOn) (r : is_winning n.rest ≡ false) (q : Point) (qs : List Point) where
-    -- a reply that fouls, or is no move, ends the game
-    pub attacks-foul : (f : Foul) → outcome rule (after b n.attack) q ≡ Fouls f → attacks rule t i b (q ∷ qs) ≡ n.attack ∷ []
-    unfolding attacks
-    attacks-foul f e = rw (at, o, r, e) refl
-
-    -- a reply that goes on leads to the answer to it
-    pub attacks-next : (j : ℕ) → outcome rule (after b n.attack) q ≡ GoesOn → answer (answers_of n) q ≡ Some j
-        → attacks rule t i b (q ∷ qs) ≡ n.attack ∷ attacks rule t j (after (after b n.attack) q) qs
-    unfolding attacks
-    attacks-next j e w = rw (at, o, r, e, w) refl
 
 pub first_at : (rule : RuleKind) (b : Grid) (o : Option Node) (n : Node) (next : Node → List Point) → o ≡ Some n
     → (rest : List Point) × (attacks_at rule o b next ≡ n.attack ∷ rest)

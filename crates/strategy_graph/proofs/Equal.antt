@@ -1,6 +1,6 @@
 -- `==` holds of two nodes exactly where they are equal.
 use Rattle.std.proofs.Common.{◌≡◌, true, ◌&&◌, ◌==◌, refl, ap, subst, ◌<◌, ◌≤◌, List, length, arith, ℕ, get_or, sym, ◌∙◌, zero, suc, false}
-use Rattle.std.proofs.Common.{[], ◌∷◌, Some, slice_get, position, Contains}
+use Rattle.std.proofs.Common.{[], ◌∷◌, Some, slice_get, position, Contains, rules}
 use Rattle.std.specs.Bool.{Decides}
 use Rattle.std.proofs.lemmas.Bool.Decides.{Decides-eqb}
 use Rattle.std.proofs.lemmas.List.Quantifiers.{position-Some}
@@ -9,7 +9,6 @@ use Rattle.std.specs.List.{list_any, AllByRecursion, IsDistinct}
 use Rattle.std.proofs.lemmas.Map.Views.{Contains-from_any}
 use Rattle.strategy_graph.specs.declared.Node.{Node}
 use Rattle.strategy_graph.specs.declared.Rest.{Rest}
-use Rattle.strategy_graph.specs.declared.Rest.TheVariants.{Wins, To, Nothing}
 use Rattle.strategy_graph.specs.Same.{same_replies, same_replies_decides}
 use Rattle.strategy_graph.specs.contracts.NodePartialEq.TheImpl.{ghosts as node_ghosts}
 use Rattle.strategy_graph.specs.contracts.RestPartialEq.TheImpl.{ghosts as rest_ghosts}
@@ -18,15 +17,7 @@ use Rattle.game_rules.proofs.Boards.{and_left, and_right}
 use Rattle.game_rules.proofs.Tests.{or_none, or_right}
 
 rest-eq : (r s : Rest) → Decides (rest_ghosts.eq r s) (r ≡ s)
-rest-eq Wins Wins = (λ h. refl, λ e. refl)
-rest-eq Wins (To j) = (λ h. cc, λ e. cc)
-rest-eq Wins Nothing = (λ h. cc, λ e. cc)
-rest-eq (To i) Wins = (λ h. cc, λ e. cc)
-rest-eq (To i) (To j) = let d = Decides-eqb i j in (λ h. ap To (d.0 h), λ e. let same : i ≡ j = cc in d.1 same)
-rest-eq (To i) Nothing = (λ h. cc, λ e. cc)
-rest-eq Nothing Wins = (λ h. cc, λ e. cc)
-rest-eq Nothing (To j) = (λ h. cc, λ e. cc)
-rest-eq Nothing Nothing = (λ h. refl, λ e. refl)
+rest-eq r s = search (rules, Decides-eqb)
 
 node_from : (m n : Node) → node_ghosts.eq m n ≡ true → m ≡ n
 node_from m n h =
@@ -64,9 +55,7 @@ Contains-found n ks h = Contains-from_any node_from n ks h
 
 pub list_any-Contains : (n : Node) (ks : List Node) → list_any (node_ghosts.eq n) ks ≡ false → ¬ Contains ks n
 list_any-Contains n [] h (i, l, e) = absurd (omega arith)
-list_any-Contains n (k ∷ ks) h (zero, l, e) =
-    let equal : node_ghosts.eq n k ≡ true = subst (λ (m : Node). node_ghosts.eq n m ≡ true) (sym e) (node_itself n) in
-    cc (equal, or_none (node_ghosts.eq n k) _ h)
+list_any-Contains n (k ∷ ks) h (zero, l, e) = search (rules, node_itself, or_none)
 list_any-Contains n (k ∷ ks) h (suc i, l, e) = list_any-Contains n ks (or_right (node_ghosts.eq n k) _ h) (i, omega arith, e)
 
 -- the node is at the place where one is equal to it
@@ -76,8 +65,7 @@ stored-at n ks i (k, at, e) = at ∙ ap Some (sym (node_from n k e))
 
 none_equal : (n : Node) (ks : List Node) (i : ℕ) → AllByRecursion (λ k. node_ghosts.eq n k ≡ false) ks → slice_get ks i ≡ Some n → ⊥
 none_equal n [] i h e = cc
-none_equal n (k ∷ ks) zero h e = let equal : k ≡ n = cc in let is : node_ghosts.eq n n ≡ false =
-    subst (λ (m : Node). node_ghosts.eq n m ≡ false) equal h.0 in cc (node_itself n)
+none_equal n (k ∷ ks) zero h e = search (rules, node_itself)
 none_equal n (k ∷ ks) (suc i) h e = none_equal n ks i h.1 e
 
 pub different_by : (ks : List Node) → IsDistinct node_ghosts.eq ks → (i j : ℕ) (n : Node) → slice_get ks i ≡ Some n

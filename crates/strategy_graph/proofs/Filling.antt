@@ -1,9 +1,8 @@
 -- A table that grows says the same at the nodes that it had. Tables that a node is added to, with the depths of their nodes.
-use Rattle.std.proofs.Common.{◌≡◌, ℕ, zero, suc, ◌≤◌, ◌<◌, Bool, true, List, [], ◌∷◌, ◌++◌, length, refl, ap, sym, subst, ◌∙◌, arith, Some}
-use Rattle.std.proofs.Common.{slice_get, nat_lt, ◌+◌, map, ◌⊎◌, inl, inr, length-append, get_or, replicate, append_assoc, Option, None}
-use Rattle.std.proofs.Common.{IfSome, slice_index}
+use Rattle.std.proofs.Common.{◌≡◌, ℕ, zero, suc, ◌≤◌, ◌<◌, Bool, true, List, [], ◌∷◌, ◌++◌, length, refl, ap}
+use Rattle.std.proofs.Common.{sym, subst, ◌∙◌, arith, Some, slice_get, nat_lt, ◌+◌, map, ◌⊎◌, inl, inr, length-append}
+use Rattle.std.proofs.Common.{get_or, replicate, append_assoc, Option, None, IfSome, slice_index, rules, ltb-true, lt-ltb}
 use Rattle.std.specs.List.{list_all}
-use borrow.Author.Tests.{ltb-true, lt-ltb}
 use Rattle.std.proofs.lemmas.Option.{slice_get_read, slice_get-get_or}
 use Rattle.std.proofs.lemmas.List.{get_or_push, get_or_append_left, append-nil, length-replicate}
 use Rattle.std.proofs.lemmas.Bool.{cases_lt}
@@ -35,8 +34,7 @@ list_all-weaker p q f (j ∷ js) h = rw (f j (and_left (p j) _ h), list_all-weak
 
 -- what names only nodes below i names only nodes below a greater number
 pub names_below-more : (a : Answers) (i k : ℕ) → i ≤ k → names_below a i ≡ true → names_below a k ≡ true
-names_below-more a i k l h = list_all-weaker (λ j. nat_lt j i) (λ j. nat_lt j k)
-    (λ j e. let low : j < i = ltb-true _ _ e in lt-ltb _ _ (omega (arith, low, l))) (named a) h
+names_below-more a i k l h = search (rules, list_all-weaker, ltb-true, lt-ltb)
 
 growth-Copies : (t more : List Node) → NamesLower t → Copies (λ j. j) (λ j. nat_lt j (length t)) t (t ++ more)
 growth-Copies t more lower = record {
@@ -123,17 +121,12 @@ greatest_same : (p : ℕ → ℕ) (d : ℕ → ℕ) (k : ℕ) → ((j : ℕ) →
     → greatest (map p js) ≡ greatest (map d js)
 greatest_same p d k h [] all = refl
 greatest_same p d k h (j ∷ js) all =
-    let here : p j ≡ d j = h j (ltb-true _ _ (and_left (nat_lt j k) _ all)) in
-    let rest : greatest (map p js) ≡ greatest (map d js) = greatest_same p d k h js (and_right (nat_lt j k) _ all) in
-    rw (here, rest) refl
+    search (rules, ltb-true, and_left, and_right, greatest_same p d k h js (and_right (nat_lt j k) _ all))
 
 greatest_under : (p : ℕ → ℕ) (k : ℕ) → ((j : ℕ) → j < k → p j ≤ k) → (js : List ℕ) → list_all (λ j. nat_lt j k) js ≡ true
     → greatest (map p js) ≤ k
 greatest_under p k h [] all = omega arith
-greatest_under p k h (j ∷ js) all =
-    let here : p j ≤ k = h j (ltb-true _ _ (and_left (nat_lt j k) _ all)) in
-    let rest : greatest (map p js) ≤ k = greatest_under p k h js (and_right (nat_lt j k) _ all) in
-    omega (arith, here, rest)
+greatest_under p k h (j ∷ js) all = search (rules, ltb-true, and_left, and_right, greatest_under p k h js (and_right (nat_lt j k) _ all))
 
 -- the greatest depth by the list is that of the table
 greatest-depths : (t : List Node) (ds : List ℕ) → AreDepths t ds → (a : Answers) → names_below a (length t) ≡ true
@@ -143,8 +136,7 @@ greatest-depths t ds h a below = greatest_same (λ j. slice_index ds j) (depth t
 -- the nodes that are named are no deeper than the table is long
 pub greatest-le : (t : List Node) (ds : List ℕ) → AreDepths t ds → (a : Answers) → names_below a (length t) ≡ true
     → greatest (map (λ j. slice_index ds j) (named a)) ≤ length t
-greatest-le t ds h a below = greatest_under (λ j. slice_index ds j) (length t)
-    (λ j l. let e = h.each j l in let most = depth-le t j in omega (arith, e, most)) (named a) below
+greatest-le t ds h a below = search (rules, greatest_under, depth-le)
 
 node_depth-at : (t : List Node) (i : ℕ) (n : Node) → NamesLower t → slice_get t i ≡ Some n → depth t i ≡ suc (start_depth t (answers_of n))
 node_depth-at t i n lower e = depth-step t lower i ∙ ap (λ (o : Option Node). node_depth o (depth t)) e
@@ -163,17 +155,7 @@ added_depth t ds n lower longer h below =
 
 AreDepths-push : (t : List Node) (ds : List ℕ) (n : Node) (d : ℕ) → NamesLower t → AreDepths t ds → d ≡ depth (t ++ n ∷ []) (length t)
     → AreDepths (t ++ n ∷ []) (ds ++ d ∷ [])
-AreDepths-push t ds n d lower h e = record {
-  count = let count = h.count in omega (arith, count, length-append ds (d ∷ []), length-append t (n ∷ []));
-  each = λ i l. elim (cases_lt i (length t)) [
-    | inl less ↦
-        get_or_append_left ds (d ∷ []) 0 i (let count = h.count in omega (arith, count, less)) ∙ h.each i less
-        ∙ sym ((growth-same t (n ∷ []) lower i less).same_depth)
-    | inr more ↦
-        let same : length t ≡ i = omega (arith, l, more, length-append t (n ∷ [])) in
-        get_or_push ds d 0 i (h.count ∙ same) ∙ e ∙ ap (λ (j : ℕ). depth (t ++ n ∷ []) j) same
-  ];
-}
+AreDepths-push t ds n d lower h e = search (rules, length-append, cases_lt, get_or_append_left, growth-same, get_or_push)
 
 -- a table and its depths stay so when such a node is added with its depth
 pub IsTableWithDepths-push : (t : List Node) (ds : List ℕ) (n : Node) (m : ℕ) → IsTableWithDepths t ds → IsNode n (length t)
@@ -193,13 +175,11 @@ greatest-read ds es a rs r m list same last value = value ∙ rw (same, last, li
 
 pub start_depth-read : (t u : List Node) (ds : List ℕ) (a : Answers) (m : ℕ) → u ≡ t → AreDepths u ds → names_below a (length t) ≡ true
     → m ≡ greatest (map (λ j. slice_index ds j) (named a)) → m ≡ start_depth t a
-start_depth-read t u ds a m table h below value =
-    value ∙ greatest-depths u ds h a (rw table below) ∙ ap (λ (x : List Node). start_depth x a) table
+start_depth-read t u ds a m table h below value = search (rules, greatest-depths)
 
 -- the answer of a node of a table is a lower node
 answer_lower : (a : Answers) (i : ℕ) (q : Point) (o : Option ℕ) → names_below a i ≡ true → o ≡ answer a q → IfSome o (λ j. j < i)
-answer_lower a i q None below e = tt
-answer_lower a i q (Some j) below e = answer-below a i q j below (sym e)
+answer_lower a i q o below e = search (rules, answer-below)
 
 pub lookup-below : (t u : List Node) (i : ℕ) (n : Node) (q : Point) (o : Option ℕ) → IsTable t → t ≡ u → i < length u → n ≡ get_or t i n
     → o ≡ answer (answers_of n) q → IfSome o (λ j. j < i)

@@ -1,19 +1,16 @@
 -- One move on from an accepted node or start: its attack is a legal move, and the node that answers a reply is accepted where it
 -- leads, and is no deeper.
-use Rattle.std.proofs.Common.{◌≡◌, ℕ, zero, suc, ◌<◌, ◌≤◌, List, [], ◌∷◌, length, refl, ap, subst, ◌∙◌, arith, true, sym, Option, Some}
-use Rattle.std.specs.Prelude.{IsSomeAnd}
-use Rattle.std.proofs.Common.{None, slice_get, false}
-use Rattle.std.specs.Option.{option_map, option_and_then}
+use Rattle.std.proofs.Common.{◌≡◌, ℕ, zero, suc, ◌<◌, ◌≤◌, List, [], ◌∷◌, length, ◌∙◌, arith, true, Option}
+use Rattle.std.proofs.Common.{Some, IsSomeAnd, slice_get, rules, option_map, option_and_then}
 use Rattle.game_rules.proofs.Common.{Grid, is_empty, outcome, after, WinsOr, LosesOr}
 use Rattle.game_rules.proofs.Games.{WinsOr-map}
 use Rattle.game_rules.specs.declared.RuleKind.{RuleKind}
-use Rattle.game_rules.specs.declared.Outcome.{Outcome}
 use Rattle.game_rules.specs.declared.Outcome.TheVariants.{GoesOn}
 use Rattle.game_rules.specs.declared.Point.{Point}
 use Rattle.game_rules.proofs.Outcomes.{empty_at}
 use Rattle.strategy_graph.specs.declared.Node.{Node}
-use Rattle.strategy_graph.proofs.Common.{Answers, answers_of, answer, answer_at, IsTable, depth, start_depth, Meets, is_winning}
-use Rattle.strategy_graph.proofs.Common.{AcceptedNode, AcceptedWithin, Accepted}
+use Rattle.strategy_graph.proofs.Common.{Answers, answers_of, answer, answer_at, IsTable, depth, start_depth, AcceptedNode, AcceptedWithin}
+use Rattle.strategy_graph.proofs.Common.{Accepted}
 use Rattle.strategy_graph.proofs.Answering.{answer-greatest}
 use Rattle.strategy_graph.proofs.Fuel.{accepted-step}
 use Rattle.strategy_graph.proofs.Filling.{IsTable-lower}
@@ -29,11 +26,7 @@ inside (m ∷ t) (suc i) n h = let low = inside t i n h in omega (arith, low)
 pub accepted-node : (rule : RuleKind) (t : List Node) (i : ℕ) (b : Grid) → Accepted rule t i b
     → (n : Node) × (slice_get t i ≡ Some n) × WinsOr (outcome rule b n.attack) (Unit {0})
 unfolding AcceptedWithin
-accepted-node rule t i b h = by_node (slice_get t i) (AcceptedWithin i rule t) h where
-  by_node : (o : Option Node) (Next : ℕ → Grid → Type 0) → AcceptedNode rule o Next b
-      → (n : Node) × (o ≡ Some n) × WinsOr (outcome rule b n.attack) (Unit {0})
-  by_node None Next h = absurd h
-  by_node (Some n) Next h = (n, refl, WinsOr-map (outcome rule b n.attack) _ _ (λ w. tt) h)
+accepted-node rule t i b h = search (rules, WinsOr-map)
 
 pub accepted-in_table : (rule : RuleKind) (t : List Node) (i : ℕ) (b : Grid) → Accepted rule t i b → i < length t
 accepted-in_table rule t i b h = let there = accepted-node rule t i b h in inside t i there.0 there.1
@@ -43,22 +36,12 @@ replies_by : (rule : RuleKind) (o : Option Node) (Next : ℕ → Grid → Type 0
     → AcceptedNode rule o Next b → outcome rule b p ≡ GoesOn
     → (q : Point) → LosesOr (outcome rule (after b p) q)
     (IsSomeAnd (option_and_then (λ n. answer (answers_of n) q) o) (λ j. Next j (after (after b p) q)))
-replies_by rule None Next b p e h go q = absurd h
-replies_by rule (Some n) Next b p e h go q =
-    let same : n.attack ≡ p = cc in
-    let on : outcome rule b n.attack ≡ GoesOn = ap (outcome rule b) same ∙ go in
-    let w = subst (λ (o : Outcome). WinsOr o
-    ((is_winning n.rest ≡ false) × ((x : Point) → Meets rule (answers_of n) Next (after b n.attack) x))) on
-    h in
-    subst (λ (x : Point). LosesOr (outcome rule (after b x) q) (IsSomeAnd (answer (answers_of n) q) (λ j. Next j (after (after b x) q))))
-    same (w.1 q)
+replies_by rule o Next b p e h go q = search rules
 
 pub accepted-replies : (rule : RuleKind) (t : List Node) → IsTable t → (i : ℕ) (b : Grid) (p : Point)
     → option_map (λ n. n.attack) (slice_get t i) ≡ Some p → Accepted rule t i b → outcome rule b p ≡ GoesOn
     → (q : Point) → LosesOr (outcome rule (after b p) q) (IsSomeAnd (answer_at t i q) (λ j. Accepted rule t j (after (after b p) q)))
-accepted-replies rule t table i b p e h go q =
-    replies_by rule (slice_get t i) (Accepted rule t) b p e (subst (λ (X : Type 0). X) (accepted-step t (IsTable-lower t table) rule i b) h)
-    go q
+accepted-replies rule t table i b p e h go q = search (rules, replies_by, accepted-step, IsTable-lower)
 
 -- ---- depths
 
@@ -69,8 +52,4 @@ answer-no_deeper t a q j e = answer-greatest (depth t) a q j e
 -- the attack of an accepted node is an empty point
 pub attack_empty : (rule : RuleKind) (t : List Node) (i : ℕ) (b : Grid) (p : Point) → Accepted rule t i b
     → option_map (λ n. n.attack) (slice_get t i) ≡ Some p → is_empty b p ≡ true
-attack_empty rule t i b p accepted e =
-    let there = accepted-node rule t i b accepted in
-    let same : Some there.0.attack ≡ Some p = sym (ap (option_map (λ (n : Node). n.attack)) there.1) ∙ e in
-    let at : there.0.attack ≡ p = cc in
-    subst (λ (x : Point). is_empty b x ≡ true) at (empty_at rule b there.0.attack there.2)
+attack_empty rule t i b p accepted e = search (rules, accepted-node, empty_at)

@@ -1,18 +1,17 @@
 -- Depth, acceptance and arrivals of a node by those of the nodes that it names. The bound on the nodes that follow
 -- one another changes nothing once it is above the number of the node.
-use Rattle.std.proofs.Common.{◌≡◌, ℕ, zero, suc, ◌<◌, true, List, refl, sym, ap, ◌∙◌, arith, ◌≤◌, false, Option, Some, None, slice_get}
-use Rattle.std.proofs.Common.{nat_lt}
+use Rattle.std.proofs.Common.{◌≡◌, ℕ, zero, suc, ◌<◌, true, List, refl, sym, ap, ◌∙◌, arith, ◌≤◌, false, Option}
+use Rattle.std.proofs.Common.{Some, None, slice_get, nat_lt, rules, ltb-true}
 use Rattle.std.specs.List.{list_all}
 use Rattle.game_rules.proofs.Common.{Grid, outcome, after, WinsOr}
 use Rattle.game_rules.specs.declared.RuleKind.{RuleKind}
 use Rattle.game_rules.specs.declared.Point.{Point}
 use Rattle.strategy_graph.specs.declared.Node.{Node}
 use Rattle.strategy_graph.proofs.Common.{answers_of, named, names_below, NamesLower, node_depth, depth_within, depth, is_winning, answer}
-use Rattle.strategy_graph.proofs.Common.{AcceptedNode, AcceptedWithin, Accepted, Meets, arrivals_behind, arrivals_within}
-use Rattle.strategy_graph.proofs.Common.{arrivals, renumbered_node}
+use Rattle.strategy_graph.proofs.Common.{AcceptedNode, AcceptedWithin, Accepted, Meets, arrivals_behind, arrivals_within, arrivals}
+use Rattle.strategy_graph.proofs.Common.{renumbered_node}
 use Rattle.strategy_graph.proofs.Copies.{renumbered-same, depths-copied, accepted_node-copied, arrivals_behind-copied}
 use Rattle.strategy_graph.proofs.Answering.{answer-greatest}
-use borrow.Author.Tests.{ltb-true}
 
 module _ (t : List Node) (lower : NamesLower t) where
   -- what is computed of node i agrees where it agrees wherever the values at lower nodes do
@@ -84,10 +83,7 @@ module _ (t : List Node) (lower : NamesLower t) where
 -- a node that is accepted is there, and so has a depth of 1 or more
 pub accepted-deep : (rule : RuleKind) (t : List Node) (i : ℕ) (b : Grid) → Accepted rule t i b → 1 ≤ depth t i
 unfolding AcceptedWithin depth_within
-accepted-deep rule t i b h = by_node (slice_get t i) (AcceptedWithin i rule t) (depth_within i t) h where
-  by_node : (o : Option Node) (Next : ℕ → Grid → Type 0) (depth_at : ℕ → ℕ) → AcceptedNode rule o Next b → 1 ≤ node_depth o depth_at
-  by_node None Next depth_at h = absurd h
-  by_node (Some n) Next depth_at h = omega arith
+accepted-deep rule t i b h = search rules
 
 pub depth_some : (t : List Node) (i : ℕ) (n : Node) (k : ℕ) → slice_get t i ≡ Some n → 1 ≤ depth_within (suc k) t i
 unfolding depth_within
@@ -105,11 +101,4 @@ pub accepted_node : (rule : RuleKind) (t : List Node) (j : ℕ) (b : Grid) (f : 
     × WinsOr (outcome rule b n.attack)
     ((is_winning n.rest ≡ false) × ((q : Point) → Meets rule (answers_of n) (AcceptedWithin k rule t) (after b n.attack) q))
 unfolding AcceptedWithin
-accepted_node rule t j b zero h = absurd h
-accepted_node rule t j b (suc k) h = by_cases (slice_get t j) refl h where
-  by_cases : (o : Option Node) → slice_get t j ≡ o → AcceptedNode rule o (AcceptedWithin k rule t) b
-      → (k' : ℕ) × (n : Node) × (suc k ≡ suc k') × (slice_get t j ≡ Some n)
-      × WinsOr (outcome rule b n.attack)
-      ((is_winning n.rest ≡ false) × ((q : Point) → Meets rule (answers_of n) (AcceptedWithin k' rule t) (after b n.attack) q))
-  by_cases None e w = absurd w
-  by_cases (Some n) e w = (k, n, refl, e, w)
+accepted_node rule t j b f h = search rules

@@ -1,4 +1,5 @@
 -- The greatest of the numbers that a list of nodes gives, and the best of them so far.
+use Rattle.std.proofs.Common.{rules}
 use Rattle.std.proofs.Common.{ℕ, suc, ◌≤◌, refl, arith, List, [], ◌∷◌, map, subst, ◌≡◌, zero, ap, max, ◌++◌, Contains}
 use Rattle.std.specs.List.{AllByRecursion}
 use Rattle.std.proofs.lemmas.List.Elements.{All-from_recursion}
@@ -33,8 +34,7 @@ greatest-within d (j ∷ js) ks inside =
 
 pub greatest-same : (d : ℕ → ℕ) (js ks : List ℕ) → ((j : ℕ) → Contains js j → Contains ks j) → ((j : ℕ) → Contains ks j → Contains js j)
     → greatest (map d js) ≡ greatest (map d ks)
-greatest-same d js ks inside outside =
-    omega (arith, greatest-within d js ks inside, greatest-within d ks js outside)
+greatest-same d js ks inside outside = search (rules, greatest-within)
 
 pub push-most : (d : ℕ → ℕ) (rs : List Reply) (r : Reply)
     → greatest (map d (map (λ r. r.next) (rs ++ r ∷ []))) ≡ max (greatest (map d (map (λ r. r.next) rs))) (d r.next)

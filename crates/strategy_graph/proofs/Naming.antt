@@ -1,16 +1,14 @@
 -- Nodes at their places in a table, and in one that grows. The nodes that answers name, and the greatest of their depths.
-use Rattle.std.proofs.Common.{◌≡◌, ℕ, zero, suc, ◌<◌, List, [], ◌∷◌, ◌++◌, length, arith, refl, Some, slice_get, max, Bool, true}
-use Rattle.std.proofs.Common.{false, ◌&&◌, map, get_or, sym, ap, ◌∙◌, subst, nat_lt, None, All}
+use Rattle.std.proofs.Common.{◌≡◌, ℕ, zero, suc, ◌<◌, List, [], ◌∷◌, ◌++◌, length, arith, refl, Some, slice_get, max}
+use Rattle.std.proofs.Common.{Bool, true, false, ◌&&◌, map, get_or, sym, ap, ◌∙◌, subst, nat_lt, None, All, rules, ltb-true}
 use Rattle.std.specs.List.{list_all}
 use Rattle.std.proofs.lemmas.Option.{same_Some}
 use Rattle.std.proofs.lemmas.List.Folds.{list_all-append, list_all-map}
 use Rattle.std.proofs.lemmas.List.Sums.{AllPass-from_list_all}
-use borrow.Author.Tests.{ltb-true}
 use Rattle.game_rules.proofs.Boards.{and_left, and_right}
 use Rattle.strategy_graph.specs.declared.Node.{Node}
 use Rattle.strategy_graph.specs.declared.Reply.{Reply}
 use Rattle.strategy_graph.specs.declared.Rest.{Rest}
-use Rattle.strategy_graph.specs.declared.Rest.TheVariants.{To}
 use Rattle.strategy_graph.proofs.Common.{Answers, named, names_below, rest_nodes, rest_node, greatest}
 
 pub slice_get-shorter : (t more : List Node) (i : ℕ) (n : Node) → i < length t → slice_get (t ++ more) i ≡ Some n → slice_get t i ≡ Some n
@@ -36,19 +34,14 @@ ext-slice_get (n ∷ t) (m ∷ u) e h =
 -- the nodes that are listed, and that of the rest
 pub names_below-parts : (a : Answers) (k : ℕ) → names_below a k
     ≡ (list_all (λ r. nat_lt r.next k) a.replies && list_all (λ j. nat_lt j k) (rest_nodes a.rest))
-names_below-parts a k =
-    list_all-append (λ j. nat_lt j k) (map (λ r. r.next) a.replies) (rest_nodes a.rest)
-    ∙ ap (λ (b : Bool). b && list_all (λ j. nat_lt j k) (rest_nodes a.rest))
-    (list_all-map (λ j. nat_lt j k) (λ (r : Reply). r.next) a.replies)
+names_below-parts a k = search (rules, list_all-append, list_all-map)
 
 -- a reply that is listed names a node below k where all do
 pub reply-below : (a : Answers) (k i : ℕ) (d : Reply) → names_below a k ≡ true → i < length a.replies → (get_or a.replies i d).next < k
-reply-below a k i d h l = ltb-true _ _
-    (AllPass-from_list_all (λ r. nat_lt r.next k) a.replies (and_left _ _ (sym (names_below-parts a k) ∙ h)) i d l)
+reply-below a k i d h l = search (rules, ltb-true, AllPass-from_list_all, and_left, names_below-parts)
 
 rest_by : (r : Rest) (k j : ℕ) → list_all (λ j. nat_lt j k) (rest_nodes r) ≡ true → rest_node r ≡ Some j → j < k
-rest_by (To i) k j h e = let same : i ≡ j = cc in let low : i < k = ltb-true _ _ (and_left (nat_lt i k) true h) in omega (arith, same, low)
-rest_by _ k j h e = cc
+rest_by r k j h e = search (rules, ltb-true, and_left)
 
 -- and so does the rest
 pub rest-below : (a : Answers) (k j : ℕ) → names_below a k ≡ true → rest_node a.rest ≡ Some j → j < k
@@ -69,12 +62,10 @@ pub greatest-parts : (d : ℕ → ℕ) (a : Answers) → greatest (map d (named 
 greatest-parts d a = let both = greatest-append d (map (λ r. r.next) a.replies) (rest_nodes a.rest) in omega (arith, both)
 
 pub greatest_rest-none : (d : ℕ → ℕ) (r : Rest) → rest_node r ≡ None → greatest (map d (rest_nodes r)) ≡ 0
-greatest_rest-none d (To j) e = cc
-greatest_rest-none d _ e = refl
+greatest_rest-none d r e = search rules
 
 pub greatest_rest-some : (d : ℕ → ℕ) (r : Rest) (j : ℕ) → rest_node r ≡ Some j → greatest (map d (rest_nodes r)) ≡ d j
-greatest_rest-some d (To i) j e = let same : d i ≡ d j = cc in omega (arith, same)
-greatest_rest-some d _ j e = cc
+greatest_rest-some d r j e = search rules
 
 -- ---- by parts
 
@@ -93,8 +84,7 @@ greatest-none d a m e h = greatest-parts d a ∙ ap (λ (k : ℕ). max k (greate
 
 pub greatest-some : (d : ℕ → ℕ) (a : Answers) (m j : ℕ) → rest_node a.rest ≡ Some j → m ≡ d j
     → greatest (map d (named a)) ≡ max m (greatest_listed d a.replies)
-greatest-some d a m j e h = greatest-parts d a ∙ ap (λ (k : ℕ). max k (greatest_listed d a.replies))
-    (greatest_rest-some d a.rest j e ∙ sym h)
+greatest-some d a m j e h = search (rules, greatest-parts, greatest_rest-some)
 
 -- the listed replies name nodes below k where all that is named is
 pub replies-below : (a : Answers) (k : ℕ) (rs : List Reply) → rs ≡ a.replies → names_below a k ≡ true → All (λ r. r.next < k) rs

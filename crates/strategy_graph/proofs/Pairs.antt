@@ -1,6 +1,6 @@
 -- Lists of numbers that are related place by place, and nodes that are the same but for related numbers.
 use Rattle.std.proofs.Common.{ℕ, true, List, [], ◌∷◌, ◌++◌, ◌≡◌, ◌==◌, ◌<◌, subst, refl, ap, sym, ◌∙◌, map, zero, suc, arith, length}
-use Rattle.std.proofs.Common.{get_or, Option, Some, None, Contains, fold, nat_eq}
+use Rattle.std.proofs.Common.{get_or, Option, Some, None, Contains, fold, nat_eq, rules}
 use Rattle.std.specs.List.{AllByRecursion}
 use Rattle.std.specs.Option.{option_eq}
 use Rattle.game_rules.specs.declared.Point.{Point}
@@ -69,10 +69,7 @@ pub record TellsApart (R : ℕ → ℕ → Type 0) : Type 0 where
 
 pub same-pairs : (R : ℕ → ℕ → Type 0) → TellsApart R → (o p o' p' : Option ℕ) → OptionPair R o o' → OptionPair R p p'
     → option_eq nat_eq o p ≡ option_eq nat_eq o' p'
-same-pairs R one _ _ _ _ (Both a b r) (Both c d r') = one.apart a c b d r r'
-same-pairs R one _ _ _ _ (Both a b r) Neither = refl
-same-pairs R one _ _ _ _ Neither Neither = refl
-same-pairs R one _ _ _ _ Neither (Both c d r) = refl
+same-pairs R one o p o' p' h k = search rules
 
 -- nodes that are the same but for related numbers
 pub record NodePair (R : ℕ → ℕ → Type 0) (n m : Node) : Type 0 where
@@ -117,24 +114,13 @@ node-by_parts n m attack winning points rests nexts =
           λ i. record { at = at i; next = next i } ∷ others i
 
 pub node-right : (R S : ℕ → ℕ → Type 0) → ((x y z : ℕ) → R x y → S x z → y ≡ z) → (n m l : Node) → NodePair R n m → NodePair S n l → m ≡ l
-node-right R S f n m l h k =
-    node-by_parts m l (sym h.attack ∙ k.attack) (sym h.winning ∙ k.winning) (sym h.points ∙ k.points)
-    (pairs-right R S f _ _ _ h.rests k.rests) (pairs-right R S f _ _ _ h.nexts k.nexts)
+node-right R S f n m l h k = search (rules, node-by_parts, pairs-right)
 
 pub node-left : (R S : ℕ → ℕ → Type 0) → ((x y z : ℕ) → R y x → S z x → y ≡ z) → (n m l : Node) → NodePair R m n → NodePair S l n → m ≡ l
-node-left R S f n m l h k =
-    node-by_parts m l (h.attack ∙ sym k.attack) (h.winning ∙ sym k.winning) (h.points ∙ sym k.points)
-    (pairs-left R S f _ _ _ h.rests k.rests) (pairs-left R S f _ _ _ h.nexts k.nexts)
+node-left R S f n m l h k = search (rules, node-by_parts, pairs-left)
 
 pub node-itself : (n : Node) → NodePair (λ x y. x ≡ y) n n
-node-itself n = record {
-  attack = refl;
-  winning = refl;
-  points = refl;
-  rests = pairs-itself (rest_nodes n.rest);
-  nexts =
-      pairs-itself (map (λ r. r.next) n.replies);
-}
+node-itself n = search (rules, pairs-itself)
 
 -- nodes that name none
 pub bare-pair : (R : ℕ → ℕ → Type 0) (n m : Node) → n.attack ≡ m.attack → n.rest ≡ m.rest → rest_nodes m.rest ≡ [] → n.replies ≡ []
@@ -151,20 +137,16 @@ bare-pair R n m attack rest none e f = record {
 }
 
 pub AtNode-some : (o : Option Node) (n : Node) (P : Node → Type 0) → o ≡ Some n → AtNode o P → P n
-AtNode-some None n P e h = absurd h
-AtNode-some (Some m) n P e h = let same : m ≡ n = cc in subst P same h
+AtNode-some o n P e h = search rules
 
 pub there-at : (o : Option Node) (P : Node → Type 0) → AtNode o P → (n : Node) × (o ≡ Some n)
-there-at None P h = absurd h
-there-at (Some n) P h = (n, refl)
+there-at o P h = search rules
 
 pub winning-rest : (r : Rest) → is_winning r ≡ true → r ≡ Wins
-winning-rest Wins h = refl
-winning-rest _ h = cc
+winning-rest r h = search rules
 
 pub rest-to : (r : Rest) (j : ℕ) → rest_node r ≡ Some j → r ≡ To j
-rest-to (To i) j e = let same : i ≡ j = cc in ap To same
-rest-to _ j e = cc
+rest-to r j e = search rules
 
 abbrev pub IsThere : Option ℕ → Type 0
 IsThere None = ⊥
@@ -181,9 +163,7 @@ some-pair R _ _ (Both j k r) = r
 answer-pair : (R : ℕ → ℕ → Type 0) (a b : Answers) (qs : List Point) (q : Point) (j k : ℕ) → AnswerPairs R a b qs → Contains qs q
     → answer a q ≡ Some j → answer b q ≡ Some k → R j k
 answer-pair R a b [] q j k h (m, l, e) x y = absurd (omega arith)
-answer-pair R a b (p ∷ qs) q j k h (zero, l, e) x y =
-    some-pair R j k (subst (λ (o : Option ℕ). OptionPair R o (Some k)) x
-    (subst (λ (o : Option ℕ). OptionPair R (answer a q) o) y (subst (λ (r : Point). OptionPair R (answer a r) (answer b r)) e h.0)))
+answer-pair R a b (p ∷ qs) q j k h (zero, l, e) x y = search (rules, some-pair)
 answer-pair R a b (p ∷ qs) q j k h (suc m, l, e) x y = answer-pair R a b qs q j k h.2 (m, omega arith, e) x y
 
 pub listed-pairs : (R : ℕ → ℕ → Type 0) (a b : Answers) (qs : List Point) (rs ss : List Reply) → AnswerPairs R a b qs

@@ -1,6 +1,7 @@
 -- A table that holds copies of nodes of another, under other numbers, says the same at them: what a compiler of
 -- tables needs.
-use Rattle.std.proofs.Common.{◌≡◌, ℕ, suc, ◌+◌, Bool, true, List, ◌∙◌, arith, refl, ap, [], ◌∷◌, map, sym, ◌&&◌, ◌==◌, ◌<◌, nat_lt}
+use Rattle.std.proofs.Common.{rules, ◌≡◌, ℕ, suc, ◌+◌, Bool, true, List, ◌∙◌, arith, refl, ap, [], ◌∷◌, map, sym}
+use Rattle.std.proofs.Common.{◌&&◌, ◌==◌, ◌<◌, nat_lt, option_map, lt-ltb}
 use Rattle.game_rules.proofs.Common.{Grid, precedes}
 use Rattle.game_rules.specs.declared.RuleKind.{RuleKind}
 use Rattle.game_rules.proofs.Boards.{and_left, and_right}
@@ -8,9 +9,7 @@ use Rattle.game_rules.specs.declared.Point.{Point}
 use Rattle.strategy_graph.specs.declared.Node.{Node}
 use Rattle.std.specs.List.{list_all}
 use Rattle.std.proofs.lemmas.List.Folds.{list_all-append}
-use Rattle.std.specs.Option.{option_map}
 use Rattle.std.proofs.lemmas.Bool.Decides.{Decides-eqb}
-use borrow.Author.Tests.{lt-ltb}
 use Rattle.strategy_graph.proofs.Common.{Answers, NamesLower, depth, named, rest_nodes, answers_of, is_rising, rest_node, IsNode}
 use Rattle.strategy_graph.proofs.Common.{renumbered_answers, renumbered_rest, renumbered_reply, renumbered_node, Accepted, arrivals}
 use Rattle.strategy_graph.proofs.Common.{SaysSame, StartSaysSame}
@@ -52,14 +51,7 @@ module _ (f : ℕ → ℕ) (passes : ℕ → Bool) (t u : List Node) (copies : C
 
   -- the copy at f i says what node i says
   pub copies-same : SaysSame t i u (f i)
-  copies-same = record {
-    same_depth = depth-copied;
-    same_accepted = λ rule b. iff_by _ _ (accepted-copied rule b);
-    same_arrivals = arrivals-copied;
-    same_game = λ rule b qs. game-copied f passes t u copies rule i b qs p;
-    same_attacks = λ rule b qs. attacks-copied f passes t u copies rule i b qs p;
-    same_leads = λ rule b line why. iff_by _ _ (Leads-copied f passes t u copies rule i b line why p);
-  }
+  copies-same = search (rules, depth-copied, iff_by, accepted-copied, arrivals-copied, game-copied, attacks-copied, Leads-copied)
 
 -- a start with the numbers of the copies says what the start says
 pub copies-same-start : (f : ℕ → ℕ) (passes : ℕ → Bool) (t u : List Node) → Copies f passes t u → NamesLower t → NamesLower u
@@ -76,24 +68,17 @@ copies-same-start f passes t u copies lower lower' a all =
 -- it matters only what is put for the numbers that are named
 pub renumbered_rest-agree : (f g : ℕ → ℕ) (passes : ℕ → Bool) → ((j : ℕ) → passes j ≡ true → f j ≡ g j) → (rest : Rest)
     → list_all passes (rest_nodes rest) ≡ true → renumbered_rest f rest ≡ renumbered_rest g rest
-renumbered_rest-agree f g passes same (To j) h = ap To (same j (and_left (passes j) true h))
-renumbered_rest-agree f g passes same _ h = refl
+renumbered_rest-agree f g passes same rest h = search (rules, and_left)
 
 pub renumbered_replies-agree : (f g : ℕ → ℕ) (passes : ℕ → Bool) → ((j : ℕ) → passes j ≡ true → f j ≡ g j) → (rs : List Reply)
     → list_all passes (map (λ r. r.next) rs) ≡ true → map (renumbered_reply f) rs ≡ map (renumbered_reply g) rs
 renumbered_replies-agree f g passes same [] h = refl
 renumbered_replies-agree f g passes same (r ∷ rs) h =
-    let here : f r.next ≡ g r.next = same r.next (and_left (passes r.next) _ h) in
-    let later = renumbered_replies-agree f g passes same rs (and_right (passes r.next) _ h) in
-    λ i. record { at = r.at; next = here i } ∷ later i
+    search (rules, and_left, and_right, renumbered_replies-agree f g passes same rs (and_right (passes r.next) _ h))
 
 pub renumbered-agree : (f g : ℕ → ℕ) (passes : ℕ → Bool) → ((j : ℕ) → passes j ≡ true → f j ≡ g j) → (n : Node)
     → list_all passes (named (answers_of n)) ≡ true → renumbered_node f n ≡ renumbered_node g n
-renumbered-agree f g passes same n h =
-    let parts = sym (list_all-append passes (map (λ (r : Reply). r.next) n.replies) (rest_nodes n.rest)) ∙ h in
-    let replies = renumbered_replies-agree f g passes same n.replies (and_left _ (list_all passes (rest_nodes n.rest)) parts) in
-    let rest = renumbered_rest-agree f g passes same n.rest (and_right (list_all passes (map (λ (r : Reply). r.next) n.replies)) _ parts) in
-    λ i. record { attack = n.attack; replies = replies i; rest = rest i }
+renumbered-agree f g passes same n h = search (rules, list_all-append, renumbered_replies-agree, and_left, renumbered_rest-agree, and_right)
 
 -- the replies are as they were
 all_precede-renumbered : (f : ℕ → ℕ) (p : Point) (rs : List Reply)
@@ -115,8 +100,7 @@ pub record IsOneToOne (f : ℕ → ℕ) (passes : ℕ → Bool) : Type 0 where
 
 module _ (f : ℕ → ℕ) (passes : ℕ → Bool) (one : IsOneToOne f passes) where
   pub rest_node-renumbered : (r : Rest) → rest_node (renumbered_rest f r) ≡ option_map f (rest_node r)
-  rest_node-renumbered Wins = refl
-  rest_node-renumbered _ = refl
+  rest_node-renumbered r = search rules
 
   -- ---- nodes
   pub reply-renumbered : (r s : Reply) → passes r.next ≡ true → passes s.next ≡ true → renumbered_reply f r ≡ renumbered_reply f s → r ≡ s
@@ -171,8 +155,7 @@ module _ (f : ℕ → ℕ) (passes : ℕ → Bool) (one : IsOneToOne f passes) w
 
   -- ---- tables
   pub rest_nodes-renumbered : (r : Rest) → rest_nodes (renumbered_rest f r) ≡ map f (rest_nodes r)
-  rest_nodes-renumbered Wins = refl
-  rest_nodes-renumbered _ = refl
+  rest_nodes-renumbered r = search rules
 
   pub nexts-renumbered : (rs : List Reply) → map (λ r. r.next) (map (renumbered_reply f) rs) ≡ map f (map (λ r. r.next) rs)
   nexts-renumbered [] = refl

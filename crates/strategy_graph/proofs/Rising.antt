@@ -1,8 +1,8 @@
 -- Points in reading order, and replies at such points, which rise. Replies that rise strictly in reading order.
 use Rattle.std.proofs.Common.{◌≡◌, ℕ, ◌+◌, Bool, true, refl, sym, subst, List, [], ◌∷◌, map, zero, suc, ◌≤◌, ◌<◌, false, cond, ◌&&◌, length}
-use Rattle.std.proofs.Common.{get_or, drop, drop-cons, add-one, ap, ◌∙◌, arith, Some, None, Option, All, Contains, nat_lt}
-use Rattle.std.specs.List.{list_all, filter, find, AllByRecursion}
-use Rattle.std.specs.Option.{option_map, option_or}
+use Rattle.std.proofs.Common.{get_or, drop, drop-cons, add-one, ap, ◌∙◌, arith, Some, None, Option, All, Contains, nat_lt, rules}
+use Rattle.std.specs.List.{list_all, filter, AllByRecursion}
+use Rattle.std.specs.Option.{option_or}
 use Rattle.std.proofs.lemmas.List.Sums.{AllPass-from_list_all}
 use Rattle.std.proofs.Math.ListN.{drop_of_length-le}
 use Rattle.std.proofs.lemmas.List.{length-map, get_or-map}
@@ -51,22 +51,15 @@ climbs p (r ∷ rs) = precedes p r.at && climbs r.at rs
 all_after : (p q : Point) → precedes p q ≡ true → (rs : List Reply) → list_all (λ s. precedes q s.at) rs ≡ true
     → list_all (λ s. precedes p s.at) rs ≡ true
 all_after p q h [] k = refl
-all_after p q h (r ∷ rs) k =
-    rw (precedes-trans p q r.at h (and_left (precedes q r.at) _ k), all_after p q h rs (and_right (precedes q r.at) _ k)) refl
+all_after p q h (r ∷ rs) k = search (rules, precedes-trans, and_left, and_right, all_after p q h rs (and_right (precedes q r.at) _ k))
 
 climbs_by : (a b c d : Bool) → (a ≡ true → b ≡ true → c ≡ true) → (a && (b && d)) ≡ ((a && c) && (b && d))
-climbs_by true true c d f = rw (f refl refl) refl
-climbs_by true false true d f = refl
-climbs_by true false false d f = refl
-climbs_by false b c d f = refl
+climbs_by a b c d f = search rules
 
 -- to come after one another is to come after all earlier ones
 pub climbs-rising : (p : Point) (rs : List Reply) → climbs p rs ≡ (list_all (λ s. precedes p s.at) rs && is_rising rs)
 climbs-rising p [] = refl
-climbs-rising p (r ∷ rs) =
-    ap (λ (b : Bool). precedes p r.at && b) (climbs-rising r.at rs)
-    ∙ climbs_by (precedes p r.at) (list_all (λ s. precedes r.at s.at) rs) (list_all (λ s. precedes p s.at) rs) (is_rising rs)
-    (λ h k. all_after p r.at h rs k)
+climbs-rising p (r ∷ rs) = search (rules, climbs_by, all_after, climbs-rising r.at rs)
 
 pub is_rising-climbs : (r : Reply) (rs : List Reply) → is_rising (r ∷ rs) ≡ climbs r.at rs
 is_rising-climbs r rs = sym (climbs-rising r.at rs)
@@ -82,17 +75,11 @@ none_listed : (f : Reply → Bool) (p : Point) (rs : List Reply) → list_all (�
     → listed_node (filter f rs) p ≡ None
 none_listed f p [] h = refl
 none_listed f p (r ∷ rs) h =
-    by_test (f r) (precedes-differs_back p r.at (and_left (precedes p r.at) _ h))
-    (none_listed f p rs (and_right (precedes p r.at) _ h)) where
-      by_test : (b : Bool) → is_same_point r.at p ≡ false → listed_node (filter f rs) p ≡ None
-          → listed_node (cond b (r ∷ filter f rs) (filter f rs)) p ≡ None
-      by_test true e h = rw e h
-      by_test false e h = h
+    search (rules, precedes-differs_back, and_left, and_right, none_listed f p rs (and_right (precedes p r.at) _ h))
 
 after_head : (r : Reply) (rs : List Reply) (k : ℕ) (d : Reply) → is_rising (r ∷ rs) ≡ true → k < length rs
     → is_same_point r.at (get_or rs k d).at ≡ false
-after_head r rs k d h l = precedes-differs r.at (get_or rs k d).at
-    (AllPass-from_list_all (λ s. precedes r.at s.at) rs (and_left _ _ h) k d l)
+after_head r rs k d h l = search (rules, precedes-differs, AllPass-from_list_all, and_left)
 
 -- of rising replies, one that is kept is listed for its point
 pub listed-kept : (f : Reply → Bool) (rs : List Reply) (k : ℕ) (d : Reply) → is_rising rs ≡ true → k < length rs → f (get_or rs k d) ≡ true
@@ -108,25 +95,9 @@ listed-kept f (r ∷ rs) (suc k) d h l e =
       by_test true e h = rw e h
       by_test false e h = h
 
--- and for the point of one that is left out nothing is listed
-pub listed-left_out : (f : Reply → Bool) (rs : List Reply) (k : ℕ) (d : Reply) → is_rising rs ≡ true → k < length rs
-    → f (get_or rs k d) ≡ false → listed_node (filter f rs) (get_or rs k d).at ≡ None
-listed-left_out f [] k d h l e = absurd (omega arith)
-listed-left_out f (r ∷ rs) zero d h l e = rw e (none_listed f r.at rs (and_left _ _ h))
-listed-left_out f (r ∷ rs) (suc k) d h l e =
-    by_test (f r) (after_head r rs k d h (omega arith))
-    (listed-left_out f rs k d (and_right (list_all (λ s. precedes r.at s.at) rs) _ h) (omega arith) e) where
-      by_test : (b : Bool) → is_same_point r.at (get_or rs k d).at ≡ false → listed_node (filter f rs) (get_or rs k d).at ≡ None
-          → listed_node (cond b (r ∷ filter f rs) (filter f rs)) (get_or rs k d).at ≡ None
-      by_test true e h = rw e h
-      by_test false e h = h
-
 all_filter : (p : Reply → Bool) (f : Reply → Bool) (rs : List Reply) → list_all p rs ≡ true → list_all p (filter f rs) ≡ true
 all_filter p f [] h = refl
-all_filter p f (r ∷ rs) h = by_test (f r) (and_left (p r) _ h) (all_filter p f rs (and_right (p r) _ h)) where
-  by_test : (b : Bool) → p r ≡ true → list_all p (filter f rs) ≡ true → list_all p (cond b (r ∷ filter f rs) (filter f rs)) ≡ true
-  by_test true e h = rw (e, h) refl
-  by_test false e h = h
+all_filter p f (r ∷ rs) h = search (rules, and_left, and_right, all_filter p f rs (and_right (p r) _ h))
 
 -- rising replies rise where some are left out
 pub is_rising-filter : (f : Reply → Bool) (rs : List Reply) → is_rising rs ≡ true → is_rising (filter f rs) ≡ true
@@ -163,19 +134,11 @@ next-filter p q (r ∷ rs) h = by_test (q r) (next-filter p q rs (and_right (p r
 -- the first of rising replies, and those after it
 listed-first : (q : Reply → Bool) (r : Reply) (rs : List Reply) → list_all (λ s. precedes r.at s.at) rs ≡ true
     → listed_node (filter q (r ∷ rs)) r.at ≡ cond (q r) (Some r.next) None
-listed-first q r rs h = by_test (q r) where
-  by_test : (b : Bool) → listed_node (cond b (r ∷ filter q rs) (filter q rs)) r.at ≡ cond b (Some r.next) None
-  by_test true = ap (λ (b : Bool). option_map (λ r. r.next) (cond b (Some r) (find (λ s. is_same_point s.at r.at) (filter q rs))))
-      (is_same_point-itself r.at)
-  by_test false = none_listed q r.at rs h
+listed-first q r rs h = search (rules, is_same_point-itself, none_listed)
 
 listed-skips : (q : Reply → Bool) (r : Reply) (rs : List Reply) (p : Point) → precedes r.at p ≡ true
     → listed_node (filter q (r ∷ rs)) p ≡ listed_node (filter q rs) p
-listed-skips q r rs p h = by_test (q r) where
-  by_test : (b : Bool) → listed_node (cond b (r ∷ filter q rs) (filter q rs)) p ≡ listed_node (filter q rs) p
-  by_test true = ap (λ (b : Bool). option_map (λ r. r.next) (cond b (Some r) (find (λ s. is_same_point s.at p) (filter q rs))))
-      (precedes-differs r.at p h)
-  by_test false = refl
+listed-skips q r rs p h = search (rules, precedes-differs)
 
 -- each reply that is kept is listed with its node, and no other is
 unfoldable pub Kept : (Reply → Bool) → List Reply → Reply → Type 0
@@ -228,11 +191,7 @@ point-given rs = λ k d l. (
 pub listed-given : (a : Answers) (rs : List Reply) (q : Point) (j : ℕ) → AnsweredAsGiven a rs → listed_node rs q ≡ Some j
     → answer a q ≡ Some j
 listed-given a [] q j given e = cc
-listed-given a (r ∷ rs) q j given e = by_test (is_same_point r.at q) refl e (listed-given a rs q j given.1) where
-  by_test : (b : Bool) → is_same_point r.at q ≡ b → option_map (λ r. r.next) (cond b (Some r) (find (λ r. is_same_point r.at q) rs)) ≡ Some
-      j → (listed_node rs q ≡ Some j → answer a q ≡ Some j) → answer a q ≡ Some j
-  by_test true same e next = ap (answer a) (sym (is_same_point-same r.at q same)) ∙ given.0 ∙ e
-  by_test false same e next = next e
+listed-given a (r ∷ rs) q j given e = search (rules, is_same_point-same, listed-given a rs q j given.1)
 
 pub all-next : (rs : List Reply) (k : ℕ) → All (λ r. r.next < k) rs → list_all (λ j. nat_lt j k) (map (λ r. r.next) rs) ≡ true
 all-next [] k h = refl

@@ -1,7 +1,6 @@
 -- What says the same as what says the same. Roots say the same as their table grows, and in a table that holds copies of their nodes.
-use Rattle.std.proofs.Common.{◌≡◌, ◌↔◌, ℕ, ◌<◌, true, List, ◌++◌, length, refl, sym, subst, ◌∙◌, Option, Some, None, nat_lt}
-use Rattle.std.specs.Option.{option_map}
-use borrow.Author.Tests.{ltb-true}
+use Rattle.std.proofs.Common.{rules, ◌≡◌, ◌↔◌, ℕ, ◌<◌, true, List, ◌++◌, length, refl, ◌∙◌, Option, Some, None}
+use Rattle.std.proofs.Common.{nat_lt, option_map, ltb-true}
 use Rattle.strategy_graph.specs.declared.Node.{Node}
 use Rattle.strategy_graph.specs.declared.roots.Root.{Root}
 use Rattle.strategy_graph.specs.declared.roots.Root.TheVariants.{Attack, Defend}
@@ -16,14 +15,7 @@ pub iff-then : {A B C : Type 0} → A ↔ B → B ↔ C → A ↔ C
 iff-then f g = (λ a. g.0 (f.0 a), λ c. f.1 (g.1 c))
 
 pub same-then : (t u v : List Node) (i j k : ℕ) → SaysSame t i u j → SaysSame u j v k → SaysSame t i v k
-same-then t u v i j k f g = record {
-  same_depth = g.same_depth ∙ f.same_depth;
-  same_accepted = λ rule b. iff-then (g.same_accepted rule b) (f.same_accepted rule b);
-  same_arrivals = λ rule b. g.same_arrivals rule b ∙ f.same_arrivals rule b;
-  same_game = λ rule b qs. g.same_game rule b qs ∙ f.same_game rule b qs;
-  same_attacks = λ rule b qs. g.same_attacks rule b qs ∙ f.same_attacks rule b qs;
-  same_leads = λ rule b line why. iff-then (g.same_leads rule b line why) (f.same_leads rule b line why);
-}
+same-then t u v i j k f g = search (rules, iff-then)
 
 pub start-then : (t u v : List Node) (a c e : Answers) → StartSaysSame t a u c → StartSaysSame u c v e → StartSaysSame t a v e
 start-then t u v a c e f g = record {
@@ -37,10 +29,7 @@ start-then t u v a c e f g = record {
 
 -- a root that says the same has the same depth
 pub root-deep : (t u : List Node) (r s : Root) → RootSaysSame t r u s → root_depth u s ≡ root_depth t r
-root-deep t u (Attack i) (Attack j) h = h.same_depth
-root-deep t u (Attack i) (Defend c) h = absurd h
-root-deep t u (Defend a) (Attack j) h = absurd h
-root-deep t u (Defend a) (Defend c) h = h.0.same_depth
+root-deep t u r s h = search rules
 
 -- what the second root says with a table, it says with a longer one
 module _ (t u more : List Node) (lower : NamesLower u) where
@@ -62,20 +51,13 @@ module _ (t u more : List Node) (lower : NamesLower u) where
 -- a root of a table has the same depth in a longer one
 pub root-longer : (t more : List Node) → NamesLower t → (root : Root) → root_below root (length t) ≡ true
     → root_depth (t ++ more) root ≡ root_depth t root
-root-longer t more lower (Attack i) below = (growth-same t more lower i (ltb-true _ _ below)).same_depth
-root-longer t more lower (Defend a) below = (growth-same-start t more lower a below).same_depth
+root-longer t more lower root below = search (rules, growth-same, ltb-true, growth-same-start)
 
 -- a root with the numbers of the copies says what the root says
 module _ (f : ℕ → ℕ) (k : ℕ) (t u : List Node) (copies : Copies f (λ j. nat_lt j k) t u) (lower : NamesLower t)
     (lower' : NamesLower u) where
   answers-copied : (o : Option ℕ) → ((j : ℕ) → o ≡ Some j → nat_lt j k ≡ true) → AnswersSaySame t o u (option_map f o)
-  answers-copied None passes = tt
-  answers-copied (Some j) passes = copies-same f (λ j. nat_lt j k) t u copies lower lower' j (passes j refl)
+  answers-copied o passes = search (rules, copies-same)
 
   pub root-copied : (root : Root) → root_below root k ≡ true → RootSaysSame t root u (renumbered_root f root)
-  root-copied (Attack i) below = copies-same f (λ j. nat_lt j k) t u copies lower lower' i below
-  root-copied (Defend a) below = (
-    copies-same-start f (λ j. nat_lt j k) t u copies lower lower' a below,
-    λ q. subst (AnswersSaySame t (answer a q) u) (sym (answer-renumbered f a q))
-        (answers-copied (answer a q) (λ j e. answer-named (λ j. nat_lt j k) a q j below e)),
-  )
+  root-copied root below = search (rules, copies-same, copies-same-start, answer-renumbered, answers-copied, answer-named)

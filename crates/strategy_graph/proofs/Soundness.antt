@@ -1,13 +1,12 @@
 -- An accepted node, and an accepted start, wins within its depth. A node is accepted where its answers are, step by step.
-use Rattle.std.proofs.Common.{ℕ, zero, suc, map, List, refl, Option, Some, None, slice_get, Bool, false, ◌&&◌, ◌||◌, not, ◌≡◌, inl, inr}
-use Rattle.std.proofs.Common.{true, nat_eq}
+use Rattle.std.proofs.Common.{ℕ, zero, suc, map, List, refl, Option, Some, None, slice_get, Bool, false, ◌&&◌, ◌||◌, not}
+use Rattle.std.proofs.Common.{◌≡◌, true, nat_eq, rules}
 use Rattle.std.specs.List.{list_all}
 use Rattle.std.proofs.lemmas.Bool.{or_cases, not-true}
 use Rattle.game_rules.specs.declared.RuleKind.{RuleKind}
 use Rattle.game_rules.specs.declared.Point.{Point}
 use Rattle.game_rules.specs.declared.Outcome.TheVariants.{GoesOn}
-use Rattle.game_rules.proofs.Common.{Grid, outcome, after, LosesOr, WinsWithin, WinsAfter, is_empty, is_on, points_of, empties_of, five}
-use Rattle.game_rules.proofs.Common.{mover}
+use Rattle.game_rules.proofs.Common.{Grid, outcome, after, LosesOr, WinsWithin, WinsAfter, is_empty, points_of, empties_of, five, mover}
 use Rattle.game_rules.proofs.Games.{WinsOr-map, LosesOr-map, WinsWithin-more}
 use Rattle.game_rules.proofs.Boards.{and_left, and_right}
 use Rattle.game_rules.proofs.Points.{all_at, taken_refused, off_refused}
@@ -22,10 +21,7 @@ use Rattle.strategy_graph.proofs.Steps.{accepted-by-win, met-no_move, met-foul, 
 met_loses : (rule : RuleKind) (a : Answers) (Next : ℕ → Grid → Type 0) (d : ℕ → ℕ)
     → ((j : ℕ) (c : Grid) → Next j c → WinsWithin rule (d j) c) → (b : Grid) (q : Point) → Meets rule a Next b q
     → LosesOr (outcome rule b q) (WinsWithin rule (greatest (map d (named a))) (after b q))
-met_loses rule a Next d next b q h =
-    LosesOr-map (outcome rule b q) _ _
-    (IsSomeAnd-elim (answer a q) (λ j. Next j (after b q)) _ (λ j e k.
-    WinsWithin-more rule (d j) _ (after b q) (answer-greatest d a q j e) (next j (after b q) k))) h
+met_loses rule a Next d next b q h = search (rules, LosesOr-map, IsSomeAnd-elim, WinsWithin-more, answer-greatest)
 
 node_wins : (rule : RuleKind) (o : Option Node) (Next : ℕ → Grid → Type 0) (d : ℕ → ℕ)
     → ((j : ℕ) (c : Grid) → Next j c → WinsWithin rule (d j) c) → (b : Grid) → AcceptedNode rule o Next b
@@ -74,24 +70,12 @@ module _ (rule : RuleKind) (t : List Node) (lower : NamesLower t) (a : Answers) 
 
   by_answer : (o : Option ℕ) → answer a q ≡ o → answer_wins rule t o (after b q) ≡ true → outcome rule b q ≡ GoesOn
       → Meets rule a (Accepted rule t) b q
-  by_answer None e h on = cc
-  by_answer (Some j) e h on = met-answer rule t a b q j on e (by_node j (slice_get t j) refl h)
+  by_answer o e h on = search (rules, met-answer, by_node)
 
   by_empty : (r : Bool) → is_empty b q ≡ r → (not r || (not (five rule b (mover b) q) && answer_wins rule t (answer a q) (after b q)))
       ≡ true → Meets rule a (Accepted rule t) b q
-  by_empty false e h = met-no_move rule t a b q (taken_refused rule b q e)
-  by_empty true e h = elim
-      (quiet_move rule b q e (not-true (five rule b (mover b) q) (and_left (not (five rule b (mover b) q)) _ h)) some) [
-        | inl on ↦ by_answer (answer a q) refl (and_right (not (five rule b (mover b) q)) _ h) on
-        | inr foul ↦ met-foul rule t a b q foul.0 foul.1
-      ]
+  by_empty r e h = search (rules, met-no_move, taken_refused, quiet_move, not-true, and_left, by_answer, and_right, met-foul)
 
   pub met-by_test : (skip : Point → Bool) → list_all (is_met rule t a b skip) (points_of b) ≡ true
       → (skip q ≡ true → Meets rule a (Accepted rule t) b q) → Meets rule a (Accepted rule t) b q
-  met-by_test skip all passed = by_on (is_on b q) refl where
-    by_on : (r : Bool) → is_on b q ≡ r → Meets rule a (Accepted rule t) b q
-    by_on false e = met-no_move rule t a b q (off_refused rule b q e)
-    by_on true e = elim (or_cases (skip q) _ (all_at b (is_met rule t a b skip) q all e)) [
-      | inl over ↦ passed over
-      | inr h ↦ by_empty (is_empty b q) refl h
-    ]
+  met-by_test skip all passed = search (rules, met-no_move, off_refused, or_cases, all_at, by_empty)

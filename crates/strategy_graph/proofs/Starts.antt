@@ -1,6 +1,6 @@
 -- What holds of a node and of a start holds of a root: where it is accepted it wins, and a line to a fault refutes it. A start whose nodes
 -- are copies, under other numbers, says the same.
-use Rattle.std.proofs.Common.{List, ◌≡◌, ℕ, suc, Bool, true, [], ◌∷◌, refl, ap}
+use Rattle.std.proofs.Common.{List, ◌≡◌, ℕ, suc, Bool, true, [], ◌∷◌, refl, ap, rules}
 use Rattle.std.specs.List.{list_all}
 use Rattle.game_rules.specs.declared.RuleKind.{RuleKind}
 use Rattle.game_rules.specs.declared.Point.{Point}
@@ -8,7 +8,6 @@ use Rattle.game_rules.proofs.Common.{Grid, outcome, after}
 use Rattle.strategy_graph.specs.declared.Node.{Node}
 use Rattle.strategy_graph.specs.declared.Why.{Why}
 use Rattle.strategy_graph.specs.declared.roots.Root.{Root}
-use Rattle.strategy_graph.specs.declared.roots.Root.TheVariants.{Attack, Defend}
 use Rattle.strategy_graph.proofs.Soundness.{accepted-wins, accepted-start-wins}
 use Rattle.strategy_graph.proofs.Refutation.{leads-refutes, leads-refutes-start}
 use Rattle.strategy_graph.proofs.Common.{AcceptedRoot, LeadsRoot, RootWins, root_depth, Answers, named, depth, renumbered_answers, Accepted}
@@ -17,13 +16,11 @@ use Rattle.strategy_graph.proofs.Copies.{iff_by, Meets-copied, arrivals_after-co
 
 pub accepted-root-wins : (rule : RuleKind) (t : List Node) (root : Root) (b : Grid) → AcceptedRoot rule t root b
     → RootWins rule root (root_depth t root) b
-accepted-root-wins rule t (Attack i) b h = accepted-wins rule t i b h
-accepted-root-wins rule t (Defend a) b h = accepted-start-wins rule t a b h
+accepted-root-wins rule t root b h = search (rules, accepted-wins, accepted-start-wins)
 
 pub leads-refutes-root : (rule : RuleKind) (t : List Node) (root : Root) (b : Grid) (line : List Point) (why : Why)
     → LeadsRoot rule t root b line why → AcceptedRoot rule t root b → ⊥
-leads-refutes-root rule t (Attack i) b line why h = leads-refutes rule t i b line why h
-leads-refutes-root rule t (Defend a) b line why h = leads-refutes-start rule t a b line why h
+leads-refutes-root rule t root b line why h = search (rules, leads-refutes, leads-refutes-start)
 
 -- node f j of table u says what node j of table t says, if j passes
 pub record SameNodes (f : ℕ → ℕ) (passes : ℕ → Bool) (t u : List Node) : Type 1 where
@@ -50,9 +47,4 @@ module _ (f : ℕ → ℕ) (passes : ℕ → Bool) (t u : List Node) (same : Sam
       (outcome rule b q) line why (after b q) q
 
   pub starts-same : StartSaysSame t a u (renumbered_answers f a)
-  starts-same = record {
-    same_depth = depths-copied f passes a all (depth t) (depth u) same.deep;
-    same_accepted = λ rule b. iff_by _ _ (accepted_start-same rule b);
-    same_arrivals = start_arrivals-same;
-    same_leads = λ rule b line why. iff_by _ _ (leads_start-same rule b line why);
-  }
+  starts-same = search (rules, depths-copied, iff_by, accepted_start-same, start_arrivals-same, leads_start-same)

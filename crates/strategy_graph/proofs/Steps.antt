@@ -1,10 +1,8 @@
 -- One step of acceptance, of arrivals and of a line to a fault, at a node and at a reply, and over the replies so
 -- far: what a checker of tables needs.
-use Rattle.std.proofs.Common.{◌≡◌, ℕ, suc, ◌≤◌, Bool, true, false, cond, List, [], ◌∷◌, refl, sym, ap, subst, ◌∙◌, arith, Option}
-use Rattle.std.specs.Option.{option_map_or}
-use Rattle.std.specs.Prelude.{IsSomeAnd}
-use Rattle.std.proofs.Common.{Some, slice_get, All}
-use Rattle.game_rules.proofs.Common.{Grid, is_on, points_of, is_same_point, outcome, after, WinsOr, LosesOr, if_goes_on}
+use Rattle.std.proofs.Common.{◌≡◌, ℕ, suc, ◌≤◌, Bool, true, false, List, [], ◌∷◌, refl, ap, ◌∙◌, arith, Option}
+use Rattle.std.proofs.Common.{IsSomeAnd, Some, slice_get, All, rules}
+use Rattle.game_rules.proofs.Common.{Grid, is_on, points_of, is_same_point, outcome, after, LosesOr}
 use Rattle.game_rules.specs.declared.RuleKind.{RuleKind}
 use Rattle.game_rules.specs.declared.Foul.{Foul}
 use Rattle.game_rules.specs.declared.Outcome.{Outcome}
@@ -15,9 +13,8 @@ use Rattle.game_rules.proofs.Outcomes.{if_goes_on-stops, if_goes_on-none}
 use Rattle.game_rules.proofs.PointLists.{found_all}
 use Rattle.strategy_graph.specs.declared.Node.{Node}
 use Rattle.strategy_graph.specs.declared.Why.{Why}
-use Rattle.strategy_graph.proofs.Common.{Answers, answers_of, answer, is_winning, NamesLower, Meets, AcceptedNode}
-use Rattle.strategy_graph.proofs.Common.{Accepted, arrivals_at, arrivals_after, arrivals_behind}
-use Rattle.strategy_graph.proofs.Common.{arrivals_within, arrivals, attack_fault, Leads, LeadsStart}
+use Rattle.strategy_graph.proofs.Common.{Answers, answers_of, answer, is_winning, NamesLower, Meets, AcceptedNode, Accepted, arrivals_at}
+use Rattle.strategy_graph.proofs.Common.{arrivals_after, arrivals_behind, arrivals_within, arrivals, attack_fault, Leads, LeadsStart}
 use Rattle.strategy_graph.proofs.Fuel.{accepted-step, arrivals-step}
 
 -- an arrival count is at least 1
@@ -36,19 +33,12 @@ module _ (rule : RuleKind) (t : List Node) (lower : NamesLower t) (i : ℕ) (b :
 
   -- an attack that wins
   pub accepted-by-win : outcome rule b n.attack ≡ WinsNow → Accepted rule t i b
-  accepted-by-win o =
-      subst (λ (X : Type 0). X) (sym accepted-at)
-      (subst (λ (u : Outcome). WinsOr u
-      ((is_winning n.rest ≡ false) × ((q : Point) → Meets rule (answers_of n) (Accepted rule t) (after b n.attack) q))) (sym o) tt)
+  accepted-by-win o = search (rules, accepted-at)
 
   -- an attack that goes on, of a node that is no winning one
   pub accepted-by-replies : outcome rule b n.attack ≡ GoesOn → is_winning n.rest ≡ false
       → ((q : Point) → Meets rule (answers_of n) (Accepted rule t) (after b n.attack) q) → Accepted rule t i b
-  accepted-by-replies o r met =
-      subst (λ (X : Type 0). X) (sym accepted-at)
-      (subst (λ (u : Outcome). WinsOr u
-      ((is_winning n.rest ≡ false) × ((q : Point) → Meets rule (answers_of n) (Accepted rule t) (after b n.attack) q))) (sym o)
-      (r, met))
+  accepted-by-replies o r met = search (rules, accepted-at)
 
   -- the arrivals where the attack goes on, and where it does not
   pub arrivals-by-replies : outcome rule b n.attack ≡ GoesOn → is_winning n.rest ≡ false
@@ -56,16 +46,10 @@ module _ (rule : RuleKind) (t : List Node) (lower : NamesLower t) (i : ℕ) (b :
   arrivals-by-replies o r = arrivals-at ∙ rw (o, r) refl
 
   pub arrivals-one : (u : Outcome) → outcome rule b n.attack ≡ u → (u ≡ GoesOn → ⊥) → arrivals rule t i b ≡ 1
-  arrivals-one u o stops =
-      arrivals-at ∙ ap (λ (v : Outcome). suc
-      (if_goes_on v (cond (is_winning n.rest) 0 (arrivals_after rule (answers_of n) (arrivals rule t) (after b n.attack))))) o
-      ∙ ap suc (if_goes_on-stops u _ stops)
+  arrivals-one u o stops = search (rules, arrivals-at, if_goes_on-stops)
 
   pub arrivals-winning : is_winning n.rest ≡ true → arrivals rule t i b ≡ 1
-  arrivals-winning r =
-      arrivals-at ∙ ap (λ (w : Bool). suc
-      (if_goes_on (outcome rule b n.attack) (cond w 0 (arrivals_after rule (answers_of n) (arrivals rule t) (after b n.attack))))) r
-      ∙ ap suc (if_goes_on-none (outcome rule b n.attack))
+  arrivals-winning r = search (rules, arrivals-at, if_goes_on-none)
 
 -- ---- at a reply
 
@@ -91,8 +75,7 @@ module _ (rule : RuleKind) (t : List Node) (a : Answers) (c : Grid) (q : Point) 
   arrivals-answer j e w = rw (e, w) refl
 
   pub arrivals-stops : (u : Outcome) → outcome rule c q ≡ u → (u ≡ GoesOn → ⊥) → arrivals_at rule a (arrivals rule t) c q ≡ 0
-  arrivals-stops u e stops = ap (λ (v : Outcome). if_goes_on v (option_map_or (λ j. arrivals rule t j (after c q)) (answer a q) 0)) e
-      ∙ if_goes_on-stops u _ stops
+  arrivals-stops u e stops = search (rules, if_goes_on-stops)
 
 -- ---- over the replies so far
 
@@ -124,5 +107,4 @@ leads-reply rule t i b n q line why at o r h = rw at (refl, o, r, h)
 pub leads-answer : (rule : RuleKind) (t : List Node) (a : Answers) (c : Grid) (q : Point) (j : ℕ) (line : List Point) (why : Why)
     → outcome rule c q ≡ GoesOn → answer a q ≡ Some j → Leads rule t j (after c q) line why → LeadsStart rule t a c (q ∷ line) why
 unfolding Leads
-leads-answer rule t a c q j [] why o w h = absurd h
-leads-answer rule t a c q j (p ∷ line) why o w h = (o, rw w h)
+leads-answer rule t a c q j line why o w h = search rules
