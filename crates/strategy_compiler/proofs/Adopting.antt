@@ -1,6 +1,6 @@
 -- Nodes that are handed over one after the other, with the numbers that they have.
-use Rattle.std.proofs.Common.{◌≡◌, ◌<◌, List, [], ◌∷◌, ◌++◌, length, refl, ap, sym, ◌∙◌, arith, length-append, append_assoc, ◌+◌, Some}
-use Rattle.std.proofs.Common.{slice_get}
+use Rattle.std.proofs.Common.{◌≡◌, ◌<◌, List, [], ◌∷◌, ◌++◌, length, refl, ap, sym, ◌∙◌, length-append, append_assoc, ◌+◌, Some}
+use Rattle.std.proofs.Common.{slice_get, rules}
 use Rattle.strategy_graph.specs.declared.Node.{Node}
 use Rattle.strategy_graph.specs.declared.TheConstants.{MAX_NODES}
 use Rattle.strategy_graph.proofs.Common.{IsNode, IsTable}
@@ -19,10 +19,7 @@ module _ (t done next rest : List Node) (n : Node) (table : IsTable t) (whole : 
 
   -- which has room for it
   pub next-has_room : length done < MAX_NODES
-  next-has_room =
-      let size = table.size in
-      let count : length t ≡ length done + length (n ∷ rest) = ap length (sym parts) ∙ length-append done (n ∷ rest) in
-      omega arith
+  next-has_room = search (rules, length-append)
 
   pub next-done : (more : List Node) → more ≡ done ++ n ∷ [] → more ++ rest ≡ t
   next-done more is = ap (λ (ns : List Node). ns ++ rest) is ∙ append_assoc done (n ∷ []) rest ∙ parts

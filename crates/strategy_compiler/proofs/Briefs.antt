@@ -1,12 +1,11 @@
 -- A set of nodes in order: which node is at a place, and what is put in. The node that answers given replies: it is a node of a table,
 -- answers each as given, and stands for the tree of these branches. The commonest of some numbers, found by going over them.
 use Rattle.std.proofs.Common.{◌≡◌, inl, inr, ◌<◌, ◌≤◌, Bool, true, false, cond, List, [], ◌∷◌, ◌++◌, length, refl, sym, subst, ℕ, not, map}
-use Rattle.std.specs.Prelude.{IsSomeAnd}
-use Rattle.std.proofs.Common.{filter, ap, ◌∙◌, Option, Some, None, Result, Ok, Err, IfOk, OnOk, nat_lt, nat_eq, slice_get, All, Contains}
-use Rattle.std.proofs.Common.{◌+◌, max, ◌&&◌, ◌==◌, take, get_or, arith, IsSome, nat_le}
+use Rattle.std.proofs.Common.{filter, ap, ◌∙◌, Option, Some, None, Result, IfOk, OnOk, nat_lt, nat_eq, slice_get, All, Contains}
+use Rattle.std.proofs.Common.{◌+◌, max, ◌&&◌, ◌==◌, take, get_or, arith, IsSome, nat_le, rules}
 use Rattle.std.specs.List.{list_any, IsDistinct, list_all, find, AllByRecursion, count_by, sum_by}
 use Rattle.std.specs.Option.{option_or, option_eq}
-use Rattle.std.proofs.lemmas.Bool.Decides.{Decides-eqb, nat_tests}
+use Rattle.std.proofs.lemmas.Bool.Decides.{Decides-eqb}
 use Rattle.std.proofs.lemmas.List.Folds.{list_all-append}
 use Rattle.std.proofs.lemmas.List.Elements.{All-from_recursion, All-filter}
 use Rattle.std.proofs.lemmas.Result.{IfOk-weaker}
@@ -22,7 +21,7 @@ use Rattle.strategy_graph.specs.declared.Reply.{Reply}
 use Rattle.strategy_graph.specs.declared.Rest.TheVariants.{Wins}
 use Rattle.strategy_graph.proofs.Equal.{lt_of_le, Contains-found, list_any-Contains, different_by}
 use Rattle.strategy_graph.proofs.Filling.{IsTable-push}
-use Rattle.strategy_graph.proofs.Common.{IsNode, IsTable, Answers, answers_of, answer, answer_at, listed_node, is_rising, is_winning, named}
+use Rattle.strategy_graph.proofs.Common.{IsNode, IsTable, Answers, answers_of, answer, answer_at, is_rising, is_winning, named}
 use Rattle.strategy_graph.proofs.Common.{rest_node, rest_nodes, AtNode, greatest}
 use Rattle.strategy_graph.proofs.Rising.{is_rising-filter, next-filter, Kept, kept_all, AnsweredAsGiven, point-given, all-next}
 use Rattle.strategy_compiler.proofs.Common.{AreDifferent, IsCompiled, PutsIn, Tree, Branches, Leaf, Fork, NoBranch, Branch, StandsFor}
@@ -37,8 +36,7 @@ use Rattle.indexmap.specs.IndexSet.{insert_key}
 
 put_by : (old : List Node) (n : Node) (new : List Node) (b : Bool) → list_any (node_ghosts.eq n) old ≡ b → new ≡ cond b old (old ++ n ∷ [])
     → PutsIn old n new
-put_by old n new true e h = inl (Contains-found n old e, h)
-put_by old n new false e h = inr (list_any-Contains n old e, h)
+put_by old n new x3 e h = search (rules, Contains-found, list_any-Contains)
 
 pub PutsIn-insert_key : (old : List Node) (n : Node) (new : List Node) → new ≡ insert_key node_ghosts.eq old n → PutsIn old n new
 PutsIn-insert_key old n new h = put_by old n new (list_any (node_ghosts.eq n) old) refl h
@@ -58,12 +56,7 @@ table_by old n new t node room (inr h) = subst IsTable (sym h.1) (IsTable-push o
 -- they stay so once a node is put in
 pub IsCompiled-insert_key : (old : List Node) (n : Node) (new : List Node) → IsCompiled old → IsNode n (length old)
     → (length old ≡ MAX_NODES → ⊥) → IsDistinct node_ghosts.eq new → new ≡ insert_key node_ghosts.eq old n → IsCompiled new
-IsCompiled-insert_key old n new c node room distinct h =
-    let few : length old ≤ MAX_NODES = c.table.size in
-    record {
-      table = table_by old n new c.table node (lt_of_le old few room) (PutsIn-insert_key old n new h);
-      different = AreDifferent-distinct new distinct;
-    }
+IsCompiled-insert_key old n new c node room distinct h = search (rules, table_by, lt_of_le, PutsIn-insert_key, AreDifferent-distinct)
 
 pub PutsIn-found : (n : Node) (ks : List Node) → list_any (node_ghosts.eq n) ks ≡ true → PutsIn ks n ks
 PutsIn-found n ks h = inl (Contains-found n ks h, refl)
@@ -72,25 +65,17 @@ PutsIn-found n ks h = inl (Contains-found n ks h, refl)
 
 found_passes : (p q : ℕ → Bool) (js : List ℕ) (j : ℕ) → list_all p js ≡ true → find q js ≡ Some j → p j ≡ true
 found_passes p q [] j h e = cc
-found_passes p q (k ∷ ks) j h e = by_test (q k) e (found_passes p q ks j (and_right (p k) _ h)) where
-  by_test : (b : Bool) → cond b (Some k) (find q ks) ≡ Some j → (find q ks ≡ Some j → p j ≡ true) → p j ≡ true
-  by_test true e next = let same : k ≡ j = cc in subst (λ (i : ℕ). p i ≡ true) same (and_left (p k) _ h)
-  by_test false e next = next e
+found_passes p q (k ∷ ks) j h e = search (rules, and_right, and_left, found_passes p q ks j (and_right (p k) _ h))
 
 all-rest : (p : ℕ → Bool) (o : Option ℕ) → ((j : ℕ) → o ≡ Some j → p j ≡ true) → list_all p (rest_nodes (rest_of o)) ≡ true
-all-rest p None h = refl
-all-rest p (Some j) h = rw (h j refl) refl
+all-rest p x1 h = search rules
 
 not_winning : (o : Option ℕ) → is_winning (rest_of o) ≡ false
-not_winning None = refl
-not_winning (Some j) = refl
+not_winning x0 = search rules
 
 -- what holds of each node that answers holds of each that the answers in brief name
 pub brief-named : (p : ℕ → Bool) (rs : List Reply) → list_all p (map (λ r. r.next) rs) ≡ true → list_all p (named (brief_answers rs)) ≡ true
-brief-named p rs all =
-    list_all-append p (map (λ r. r.next) (answers_beside (commonest_next rs) rs)) (rest_nodes (rest_of (commonest_next rs)))
-    ∙ rw (next-filter p (λ r. not (option_eq nat_eq (Some r.next) (commonest_next rs))) rs all)
-    (all-rest p (commonest_next rs) (λ j e. found_passes p _ (map (λ r. r.next) rs) j all e))
+brief-named p rs all = search (rules, list_all-append, next-filter, all-rest, found_passes)
 
 pub brief-rising : (rs : List Reply) → is_rising rs ≡ true → is_rising (brief_answers rs).replies ≡ true
 brief-rising rs rising = is_rising-filter (λ r. not (option_eq nat_eq (Some r.next) (commonest_next rs))) rs rising
@@ -110,28 +95,19 @@ IsNode-answering attack rs k rising below = record {
 -- ---- the answer to each reply
 
 rest_node-of : (o : Option ℕ) → rest_node (rest_of o) ≡ o
-rest_node-of None = refl
-rest_node-of (Some j) = refl
+rest_node-of x0 = search rules
 
 equal_option : (j : ℕ) (o : Option ℕ) → option_eq nat_eq (Some j) o ≡ true → o ≡ Some j
-equal_option j None h = cc
-equal_option j (Some k) h = ap Some (sym ((Decides-eqb j k).0 h))
+equal_option j x1 h = search (rules, Decides-eqb)
 
 answer_by : (o : Option ℕ) (j : ℕ) (b : Bool) → option_eq nat_eq (Some j) o ≡ b → option_or (cond (not b) (Some j) None) o ≡ Some j
-answer_by o j true h = equal_option j o h
-answer_by o j false h = refl
+answer_by o j x2 h = search (rules, equal_option)
 
 as_given : (a : Answers) (o : Option ℕ) (rs ss : List Reply) → a.replies ≡ answers_beside o rs → rest_node a.rest ≡ o
     → AllByRecursion (Kept (λ r. not (option_eq nat_eq (Some r.next) o)) rs) ss → AnsweredAsGiven a ss
 unfolding Kept
 as_given a o rs [] e f h = tt
-as_given a o rs (s ∷ ss) e f h = (
-  ap (λ (xs : List Reply). option_or (listed_node xs s.at) (rest_node a.rest)) e
-      ∙ ap (λ (p : Option ℕ). option_or p (rest_node a.rest)) h.0
-      ∙ ap (λ (p : Option ℕ). option_or (cond (not (option_eq nat_eq (Some s.next) o)) (Some s.next) None) p) f
-      ∙ answer_by o s.next (option_eq nat_eq (Some s.next) o) refl,
-  as_given a o rs ss e f h.1,
-)
+as_given a o rs (s ∷ ss) e f h = search (rules, answer_by, as_given a o rs ss e f h.1)
 
 -- the answers in brief are as given
 pub brief-as_given : (rs : List Reply) → is_rising rs ≡ true → AnsweredAsGiven (brief_answers rs) rs
@@ -142,12 +118,7 @@ brief-as_given rs h =
 -- in a table that has the node
 pub answers-at : (t : List Node) (i : ℕ) (attack : Point) (rs : List Reply) → slice_get t i ≡ Some (answering_node attack rs)
     → is_rising rs ≡ true → All (λ r. answer_at t i r.at ≡ Some r.next) rs
-answers-at t i attack rs at h =
-    All-from_recursion (λ r. answer_at t i r.at ≡ Some r.next) rs (at_node rs (brief-as_given rs h)) where
-      at_node : (ss : List Reply) → AnsweredAsGiven (answers_of (answering_node attack rs)) ss
-          → AllByRecursion (λ r. answer_at t i r.at ≡ Some r.next) ss
-      at_node [] k = tt
-      at_node (s ∷ ss) k = (rw at k.0, at_node ss k.1)
+answers-at t i attack rs at h = search (rules, All-from_recursion, brief-as_given)
 
 -- ---- the tree that the node stands for
 
@@ -164,18 +135,7 @@ answers_to-given a (r ∷ rs) h = rw (h.0, answers_to-given a rs h.1) refl
 others-given : (a : Answers) (o : Option ℕ) (rs : List Reply) → AnsweredAsGiven a rs
     → map (λ r. r.at) (answers_beside o rs) ≡ filter (λ q. not (option_eq nat_eq (answer a q) o)) (map (λ r. r.at) rs)
 others-given a o [] h = refl
-others-given a o (r ∷ rs) h =
-    at_kept (not (option_eq nat_eq (Some r.next) o)) (others-given a o rs h.1)
-    ∙ ap (λ (p : Option ℕ). cond (not (option_eq nat_eq p o))
-    (r.at ∷ filter (λ q. not (option_eq nat_eq (answer a q) o)) (map (λ r. r.at) rs))
-    (filter (λ q. not (option_eq nat_eq (answer a q) o)) (map (λ r. r.at) rs))) (sym h.0)
-  where
-    at_kept : (b : Bool) → map (λ r. r.at) (answers_beside o rs) ≡ filter (λ q. not (option_eq nat_eq (answer a q) o)) (map (λ r. r.at) rs)
-        → map (λ r. r.at) (cond b (r ∷ answers_beside o rs) (answers_beside o rs)) ≡ cond b
-        (r.at ∷ filter (λ q. not (option_eq nat_eq (answer a q) o)) (map (λ r. r.at) rs))
-        (filter (λ q. not (option_eq nat_eq (answer a q) o)) (map (λ r. r.at) rs))
-    at_kept true k = ap (λ (ps : List Point). r.at ∷ ps) k
-    at_kept false k = k
+others-given a o (r ∷ rs) h = search (rules, others-given a o rs h.1)
 
 answers-briefly : (rs : List Reply) → AnsweredAsGiven (brief_answers rs) rs → AnswersBriefly (brief_answers rs) (map (λ r. r.at) rs)
 answers-briefly [] h = (refl, refl)
@@ -194,9 +154,7 @@ unfolding StandsForAll
 stands-all t u a [] NoBranch keep g h = tt
 stands-all t u a [] (Branch q s bs) keep g h = absurd h
 stands-all t u a (r ∷ rs) NoBranch keep g h = absurd h
-stands-all t u a (r ∷ rs) (Branch q s bs) keep g h =
-    let given : answer a q ≡ Some r.next = subst (λ (p : Point). answer a p ≡ Some r.next) h.0 g.0 in
-    (subst (λ (o : Option ℕ). IsSomeAnd o (λ j. StandsFor u j s)) (sym given) (keep r.next s h.1), stands-all t u a rs bs keep g.1 h.2)
+stands-all t u a (r ∷ rs) (Branch q s bs) keep g h = search (rules, stands-all t u a rs bs keep g.1 h.2)
 
 -- where each given node stands for the tree of a branch, the answers in brief stand for the branches in each list that keeps the trees
 pub brief-branches : (t u : List Node) (rs : List Reply) → is_rising rs ≡ true
@@ -220,24 +178,18 @@ stands-answering old new i attack rs h put at bs given =
 
 pub stands-winning : (t : List Node) (i : ℕ) (attack : Point) → slice_get t i ≡ Some (winning_node attack) → StandsFor t i (Leaf attack)
 unfolding StandsFor
-stands-winning t i attack at = subst (λ (o : Option Node). AtNode o (λ n. (n.attack ≡ attack) × (is_winning n.rest ≡ true))) (sym at)
-    (refl, refl)
+stands-winning t i attack at = search rules
 
 pub points-kept : (rs : List Reply) → All (λ r. Contains (map (λ s. s.at) rs) r.at) (brief_answers rs).replies
-points-kept rs = All-filter (λ r. not (option_eq nat_eq (Some r.next) (commonest_next rs))) (λ r. Contains (map (λ r. r.at) rs) r.at) rs
-    (point-given rs)
+points-kept rs = search (rules, All-filter, point-given)
 
 names-only : (attack : Point) (rs : List Reply) → NamesOnly attack (map (λ r. r.at) rs) (answering_node attack rs)
-names-only attack rs = record {
-  attack_is = refl;
-  replies_among = points-kept rs;
-}
+names-only attack rs = search (rules, points-kept)
 
 -- ---- what a call answers
 
 IfOk-both : {T E : Type 0} (r : Result T E) (P Q : T → Type 0) (W : Type 0) → ((x : T) → P x → W → Q x) → IfOk r P → OnOk r W → IfOk r Q
-IfOk-both (Ok x) P Q W f h k = f x h k
-IfOk-both (Err e) P Q W f h k = h
+IfOk-both x0 x1 x2 x3 f h k = search rules
 
 module _ {E : Type 0} (old new : List Node) (r : Result ℕ E) (attack : Point) where
   pub answered-stands : (rs : List Reply) (n : Node) → n ≡ answering_node attack rs → is_rising rs ≡ true
@@ -263,10 +215,7 @@ module _ {E : Type 0} (old new : List Node) (r : Result ℕ E) (attack : Point) 
   pub answered-winning : (rs : List Reply) → rs ≡ []
       → IfOk r (λ i. slice_get new i ≡ Some (record { attack = attack; replies = rs; rest = Wins }))
       → IfOk r (λ i. StandsFor new i (Leaf attack))
-  answered-winning rs e =
-      IfOk-weaker r (λ i. slice_get new i ≡ Some (record { attack = attack; replies = rs; rest = Wins }))
-      (λ i. StandsFor new i (Leaf attack))
-      (λ i at. stands-winning new i attack (at ∙ λ k. Some (record { attack = attack; replies = e k; rest = Wins })))
+  answered-winning rs e = search (rules, IfOk-weaker, stands-winning)
 
 -- how many of the answers are the node j
 abbrev pub answers_of_node : List Reply → ℕ → ℕ
@@ -290,27 +239,16 @@ IsCommonestSoFar answers seen best most = IsBestSoFar (answers_of_node answers) 
 
 find-push_none : (p : ℕ → Bool) (js : List ℕ) (j : ℕ) → find p js ≡ None → find p (js ++ j ∷ []) ≡ cond (p j) (Some j) None
 find-push_none p [] j h = refl
-find-push_none p (x ∷ xs) j h = by_test (p x) h (find-push_none p xs j) where
-  by_test : (b : Bool) → cond b (Some x) (find p xs) ≡ None → (find p xs ≡ None → find p (xs ++ j ∷ []) ≡ cond (p j) (Some j) None)
-      → cond b (Some x) (find p (xs ++ j ∷ [])) ≡ cond (p j) (Some j) None
-  by_test true h next = cc
-  by_test false h next = next h
+find-push_none p (x ∷ xs) j h = search (rules, find-push_none p xs j)
 
 find-push_some : (p : ℕ → Bool) (js : List ℕ) (j k : ℕ) → find p js ≡ Some k → find p (js ++ j ∷ []) ≡ Some k
 find-push_some p [] j k h = cc
-find-push_some p (x ∷ xs) j k h = by_test (p x) h (find-push_some p xs j k) where
-  by_test : (b : Bool) → cond b (Some x) (find p xs) ≡ Some k → (find p xs ≡ Some k → find p (xs ++ j ∷ []) ≡ Some k)
-      → cond b (Some x) (find p (xs ++ j ∷ [])) ≡ Some k
-  by_test true h next = h
-  by_test false h next = next h
+find-push_some p (x ∷ xs) j k h = search (rules, find-push_some p xs j k)
 
 -- none has more than the greatest
 none_above : (f : ℕ → ℕ) (m : ℕ) (js : List ℕ) → greatest (map f js) < m → find (λ j. nat_le m (f j)) js ≡ None
 none_above f m [] h = refl
-none_above f m (j ∷ js) h = by_test (nat_le m (f j)) refl (none_above f m js (omega arith)) where
-  by_test : (b : Bool) → nat_le m (f j) ≡ b → find (λ j. nat_le m (f j)) js ≡ None → cond b (Some j) (find (λ j. nat_le m (f j)) js) ≡ None
-  by_test true e next = absurd (omega (arith, leb-true _ _ e))
-  by_test false e next = next
+none_above f m (j ∷ js) h = search (rules, leb-true, none_above f m js (omega arith))
 
 greatest-push : (f : ℕ → ℕ) (js : List ℕ) (j : ℕ) → greatest (map f (js ++ j ∷ [])) ≡ max (greatest (map f js)) (f j)
 greatest-push f [] j = omega arith
@@ -324,38 +262,19 @@ best-none f = record { best_is = refl; most_is = refl; some = λ h. absurd (omeg
 module _ (f : ℕ → ℕ) (js : List ℕ) (best : Option ℕ) (most j : ℕ) (so_far : IsBestSoFar f js best most) where
   -- with a greater value
   pub best-greater : most < f j → IsBestSoFar f (js ++ j ∷ []) (Some j) (f j)
-  best-greater h =
-      let most_is : most ≡ greatest (map f js) = so_far.most_is in
-      let none : first_with f (f j) js ≡ None = none_above f (f j) js (omega arith) in
-      record {
-        best_is = sym (find-push_none (λ k. nat_le (f j) (f k)) js j none
-            ∙ ap (λ (b : Bool). cond b (Some j) None) (le-leb (f j) (f j) (omega arith)));
-        most_is = let both = greatest-push f js j in omega arith;
-        some = λ l. refl;
-      }
+  best-greater h = search (rules, none_above, find-push_none, le-leb, greatest-push)
 
   keep_by : (o : Option ℕ) → best ≡ o → 0 < most → first_with f most (js ++ j ∷ []) ≡ best
-  keep_by None e l = let bad : IsSome {T = ℕ} None = subst IsSome e (so_far.some l) in cc
-  keep_by (Some k) e l = find-push_some (λ k. nat_le most (f k)) js j k (sym so_far.best_is ∙ e) ∙ sym e
+  keep_by x0 e l = search (rules, find-push_some)
 
   -- with one that is no greater, and not 0
   pub best-kept : f j ≤ most → 1 ≤ f j → IsBestSoFar f (js ++ j ∷ []) best most
-  best-kept h l =
-      let most_is : most ≡ greatest (map f js) = so_far.most_is in
-      record {
-        best_is = sym (keep_by best refl (omega arith));
-        most_is = let both = greatest-push f js j in omega arith;
-        some = so_far.some;
-      }
+  best-kept h l = search (rules, keep_by, greatest-push)
 
 -- the number that is found is one of them
 found-le : (f : ℕ → ℕ) (p : ℕ → Bool) (js : List ℕ) (k : ℕ) → find p js ≡ Some k → f k ≤ greatest (map f js)
 found-le f p [] k h = cc
-found-le f p (j ∷ js) k h = by_test (p j) h (found-le f p js k) where
-  by_test : (b : Bool) → cond b (Some j) (find p js) ≡ Some k → (find p js ≡ Some k → f k ≤ greatest (map f js))
-      → f k ≤ max (f j) (greatest (map f js))
-  by_test true h next = let same : f j ≡ f k = cc in omega (arith, same)
-  by_test false h next = let later = next h in omega (arith, later)
+found-le f p (j ∷ js) k h = search (rules, found-le f p js k)
 
 -- with the best itself
 pub best-again : (f : ℕ → ℕ) (js : List ℕ) (best : Option ℕ) (most j : ℕ) → IsBestSoFar f js best most → best ≡ Some j → 1 ≤ f j
@@ -369,9 +288,7 @@ best-again f js best most j so_far e l =
 
 le_greatest : (f : ℕ → ℕ) (m : ℕ) (js : List ℕ) → list_all (λ k. nat_le (f k) m) js ≡ nat_le (greatest (map f js)) m
 le_greatest f m [] = sym (le-leb 0 m (omega arith))
-le_greatest f m (j ∷ js) = ap (λ (b : Bool). nat_le (f j) m && b) (le_greatest f m js) ∙ both (f j) (greatest (map f js)) m where
-  both : (a b m : ℕ) → (nat_le a m && nat_le b m) ≡ nat_le (max a b) m
-  both a b m = grind (arith, nat_tests)
+le_greatest f m (j ∷ js) = search (rules, le_greatest f m js)
 
 best-all : (f : ℕ → ℕ) (js : List ℕ) (best : Option ℕ) (most : ℕ) → IsBestSoFar f js best most
     → best ≡ find (λ j. list_all (λ k. nat_le (f k) (f j)) js) js
@@ -419,8 +336,7 @@ module _ (answers : List Reply) (i : ℕ) (d : Reply) (best : Option ℕ) (most 
       (omega arith) low))
 
 pub equal_best : (o : Option ℕ) (j : ℕ) → option_eq nat_eq o (Some j) ≡ true → o ≡ Some j
-equal_best None j h = cc
-equal_best (Some i) j h = ap Some ((Decides-eqb i j).0 h)
+equal_best x0 j h = search (rules, Decides-eqb)
 
 -- an answer that is the best already
 pub commonest-again : (answers : List Reply) (i : ℕ) (d : Reply) (best : Option ℕ) (most : ℕ)
@@ -445,11 +361,7 @@ commonest-all answers i best most l h =
 
 some-greatest : (f : ℕ → ℕ) (m : ℕ) (js : List ℕ) → 1 ≤ m → m ≤ greatest (map f js) → find (λ j. nat_le m (f j)) js ≡ None → ⊥
 some-greatest f m [] l h e = absurd (omega arith)
-some-greatest f m (j ∷ js) l h e = by_test (nat_le m (f j)) refl e (some-greatest f m js l) where
-  by_test : (b : Bool) → nat_le m (f j) ≡ b → cond b (Some j) (find (λ j. nat_le m (f j)) js) ≡ None
-      → (m ≤ greatest (map f js) → find (λ j. nat_le m (f j)) js ≡ None → ⊥) → ⊥
-  by_test true k e next = cc
-  by_test false k e next = let low : f j < m = leb-false _ _ k in next (omega (arith, h, low)) e
+some-greatest f m (j ∷ js) l h e = search (rules, leb-false, some-greatest f m js l)
 
 pub commonest-there : (j : ℕ) (js : List ℕ) → commonest (j ∷ js) ≡ None → ⊥
 commonest-there j js e =

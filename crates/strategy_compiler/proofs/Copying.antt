@@ -2,8 +2,8 @@
 -- completed in the same order, reach the same nodes, and are different where the nodes are.
 use Rattle.std.proofs.Common.{◌≡◌, ℕ, zero, suc, ◌+◌, Bool, true, false, cond, not, ◌&&◌, ◌||◌, ◌==◌, List, [], ◌∷◌, ◌++◌, map, filter}
 use Rattle.std.specs.Prelude.{IsSomeAnd}
-use Rattle.std.proofs.Common.{refl, sym, ap, subst, ◌∙◌, arith, Option, Some, None, nat_le, nat_eq, slice_get, fold, Contains}
-use Rattle.std.specs.List.{list_all, find, cons_option}
+use Rattle.std.proofs.Common.{refl, sym, ap, subst, ◌∙◌, arith, Option, Some, nat_le, nat_eq, slice_get, fold, Contains, rules}
+use Rattle.std.specs.List.{list_all, find}
 use Rattle.std.specs.Option.{option_map, option_map_or, option_eq}
 use Rattle.std.proofs.lemmas.Option.{same_Some}
 use Rattle.std.proofs.lemmas.List.{map-append}
@@ -12,10 +12,7 @@ use Rattle.std.proofs.lemmas.List.Sums.{sum_by-cons}
 use Rattle.game_rules.specs.declared.Point.{Point}
 use Rattle.game_rules.proofs.Boards.{and_left, and_right}
 use Rattle.strategy_graph.specs.declared.Node.{Node}
-use Rattle.strategy_graph.specs.declared.Reply.{Reply}
-use Rattle.strategy_graph.specs.declared.Rest.{Rest}
-use Rattle.strategy_graph.specs.declared.Rest.TheVariants.{To}
-use Rattle.strategy_graph.proofs.Common.{Answers, answers_of, answer, named, rest_node, rest_nodes, is_winning, AtNode}
+use Rattle.strategy_graph.proofs.Common.{Answers, answers_of, answer, named, rest_node, is_winning, AtNode}
 use Rattle.strategy_graph.proofs.Common.{renumbered_node, renumbered_reply, renumbered_rest, renumbered_answers}
 use Rattle.strategy_graph.proofs.Answering.{answer-named}
 use Rattle.strategy_graph.proofs.Copies.{Copies, answer-renumbered, is_winning-renumbered, named-renumbered}
@@ -51,15 +48,7 @@ module _ (f : ℕ → ℕ) (passes : ℕ → Bool) (one : IsOneToOne f passes) w
   find-map : (js ks : List ℕ) → list_all passes js ≡ true → list_all passes ks ≡ true
       → find (λ j. tops j (map f js) (map f js)) (map f ks) ≡ option_map f (find (λ j. tops j js js) ks)
   find-map js [] h l = refl
-  find-map js (k ∷ ks) h l =
-      ap (λ (b : Bool). cond b (Some (f k)) (find (λ j. tops j (map f js) (map f js)) (map f ks)))
-      (tops-map k js js (and_left (passes k) _ l) h)
-      ∙ by_test (tops k js js) (find-map js ks h (and_right (passes k) _ l)) where
-        by_test : (b : Bool) → find (λ j. tops j (map f js) (map f js)) (map f ks) ≡ option_map f (find (λ j. tops j js js) ks)
-            → cond b (Some (f k)) (find (λ j. tops j (map f js) (map f js)) (map f ks)) ≡ option_map f
-            (cond b (Some k) (find (λ j. tops j js js) ks))
-        by_test true e = refl
-        by_test false e = e
+  find-map js (k ∷ ks) h l = search (rules, tops-map, and_left, and_right, find-map js ks h (and_right (passes k) _ l))
 
   pub commonest-map : (js : List ℕ) → list_all passes js ≡ true → commonest (map f js) ≡ option_map f (commonest js)
   unfolding tops
@@ -68,45 +57,24 @@ module _ (f : ℕ → ℕ) (passes : ℕ → Bool) (one : IsOneToOne f passes) w
   -- ---- answers
   answers_to-renumbered : (a : Answers) (qs : List Point) → answers_to (renumbered_answers f a) qs ≡ map f (answers_to a qs)
   answers_to-renumbered a [] = refl
-  answers_to-renumbered a (q ∷ qs) =
-      ap (λ (o : Option ℕ). cons_option o (answers_to (renumbered_answers f a) qs)) (answer-renumbered f a q)
-      ∙ ap (λ (js : List ℕ). cons_option (option_map f (answer a q)) js) (answers_to-renumbered a qs)
-      ∙ cons_map (answer a q) (answers_to a qs) where
-        cons_map : (o : Option ℕ) (js : List ℕ) → cons_option (option_map f o) (map f js) ≡ map f (cons_option o js)
-        cons_map None js = refl
-        cons_map (Some j) js = refl
+  answers_to-renumbered a (q ∷ qs) = search (rules, answer-renumbered, answers_to-renumbered a qs)
 
   module _ (a : Answers) (all : list_all passes (named a) ≡ true) where
     answers_to-pass : (qs : List Point) → list_all passes (answers_to a qs) ≡ true
     answers_to-pass [] = refl
-    answers_to-pass (q ∷ qs) = by_answer (answer a q) (λ j e. answer-named passes a q j all e) (answers_to-pass qs) where
-      by_answer : (o : Option ℕ) → ((j : ℕ) → o ≡ Some j → passes j ≡ true) → list_all passes (answers_to a qs) ≡ true
-          → list_all passes (cons_option o (answers_to a qs)) ≡ true
-      by_answer None g h = h
-      by_answer (Some j) g h = rw (g j refl) h
+    answers_to-pass (q ∷ qs) = search (rules, answer-named, answers_to-pass qs)
 
     rest-passes : (j : ℕ) → rest_node a.rest ≡ Some j → passes j ≡ true
-    rest-passes j e = by_rest a.rest
-        (and_right (list_all passes (map (λ (r : Reply). r.next) a.replies)) _
-        (sym (list_all-append passes (map (λ (r : Reply). r.next) a.replies) (rest_nodes a.rest)) ∙ all)) e where
-          by_rest : (r : Rest) → list_all passes (rest_nodes r) ≡ true → rest_node r ≡ Some j → passes j ≡ true
-          by_rest (To k) h e = let same : k ≡ j = cc in subst (λ (i : ℕ). passes i ≡ true) same (and_left (passes k) true h)
-          by_rest _ h e = cc
+    rest-passes j e = search (rules, and_right, list_all-append, and_left)
 
     -- whether an answer is that of the rest
     same-renumbered : (o r : Option ℕ) → ((j : ℕ) → r ≡ Some j → passes j ≡ true)
         → option_eq nat_eq (option_map f o) (option_map f r) ≡ option_eq nat_eq o r
-    same-renumbered None None g = refl
-    same-renumbered None (Some j) g = refl
-    same-renumbered (Some i) None g = refl
-    same-renumbered (Some i) (Some j) g = one.apart i j (g j refl)
+    same-renumbered x0 x1 g = search rules
 
     beside-renumbered : (q : Point) → not (option_eq nat_eq (answer (renumbered_answers f a) q) (rest_node (renumbered_rest f a.rest)))
         ≡ not (option_eq nat_eq (answer a q) (rest_node a.rest))
-    beside-renumbered q =
-        ap (λ (o : Option ℕ). not (option_eq nat_eq o (rest_node (renumbered_rest f a.rest)))) (answer-renumbered f a q)
-        ∙ ap (λ (o : Option ℕ). not (option_eq nat_eq (option_map f (answer a q)) o)) ((rest_node-renumbered f passes one) a.rest)
-        ∙ ap not (same-renumbered (answer a q) (rest_node a.rest) rest-passes)
+    beside-renumbered q = search (rules, answer-renumbered, rest_node-renumbered, same-renumbered, rest-passes)
 
     pub brief-renumbered : (qs : List Point) → AnswersBriefly a qs → AnswersBriefly (renumbered_answers f a) qs
     brief-renumbered [] h = (ap (renumbered_rest f) h.0, ap (map (renumbered_reply f)) h.1)
@@ -121,9 +89,7 @@ module _ (f : ℕ → ℕ) (passes : ℕ → Bool) (one : IsOneToOne f passes) w
     }
 
   pub visits-renumbered : (a : Answers) → visits (renumbered_answers f a) ≡ map f (visits a)
-  visits-renumbered a =
-      (λ i. (rest_nodes-renumbered f passes one) a.rest i ++ (nexts-renumbered f passes one) a.replies i)
-      ∙ sym (map-append f (rest_nodes a.rest) (map (λ (r : Reply). r.next) a.replies))
+  visits-renumbered a = search (rules, rest_nodes-renumbered, nexts-renumbered, map-append)
 
   contained-passes : (js : List ℕ) (j : ℕ) → list_all passes js ≡ true → Contains js j → passes j ≡ true
   contained-passes [] j h (k, l, e) = absurd (omega arith)
@@ -148,8 +114,7 @@ module _ (f : ℕ → ℕ) (passes : ℕ → Bool) (one : IsOneToOne f passes) w
         → (js done : List ℕ) → list_all passes js ≡ true → fold h (map f done) (map f js) ≡ map f (fold g done js)
     fold-copied g h same [] done l = refl
     fold-copied g h same (j ∷ js) done l =
-        ap (λ (d : List ℕ). fold h d (map f js)) (same done j (and_left (passes j) _ l))
-        ∙ fold-copied g h same js (g done j) (and_right (passes j) _ l)
+        search (rules, and_left, and_right, fold-copied g h same js (g done j) (and_right (passes j) _ l))
 
     -- the copies are completed in the same order
     pub within-copied : (k : ℕ) (done : List ℕ) (i : ℕ) → passes i ≡ true
@@ -188,14 +153,11 @@ module _ (f : ℕ → ℕ) (passes : ℕ → Bool) (one : IsOneToOne f passes) w
     at-copy : (i : ℕ) (P Q : Node → Type 0) → passes i ≡ true
         → ((n : Node) → list_all passes (named (answers_of n)) ≡ true → P n → Q (renumbered_node f n)) → AtNode (slice_get t i) P
         → AtNode (slice_get u (f i)) Q
-    at-copy i P Q p g h =
-        let c = copies.copied i p in
-        subst (λ (o : Option Node). AtNode o Q) (sym c.2) (g c.0 c.3 (subst (λ (o : Option Node). AtNode o P) c.1 h))
+    at-copy i P Q p g h = search rules
 
     answered-copied : (o : Option ℕ) (P Q : ℕ → Type 0) → ((j : ℕ) → o ≡ Some j → P j → Q (f j)) → IsSomeAnd o P
         → IsSomeAnd (option_map f o) Q
-    answered-copied None P Q g h = h
-    answered-copied (Some j) P Q g h = g j refl h
+    answered-copied x0 x1 x2 g h = search rules
 
     -- they stand for the same trees
     mutual

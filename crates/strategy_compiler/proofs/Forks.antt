@@ -1,10 +1,9 @@
 -- A node whose attack wins at once is a win, and so is one whose attack goes on and whose answers win after it.
-use Rattle.std.proofs.Common.{◌≡◌, ◌⊎◌, inl, inr, ℕ, suc, ◌+◌, ◌≤◌, ◌<◌, Bool, true, false, cond, not, ◌||◌, refl, sym, ap, subst, ◌∙◌}
-use Rattle.std.specs.Prelude.{IsSomeAnd}
-use Rattle.std.proofs.Common.{arith, List, [], ◌∷◌, ◌++◌, map, length, filter, nat_eq, Option, Some, None, IsSome, Result, Ok, Err, IfOk}
-use Rattle.std.proofs.Common.{OnOk, All, Contains, slice_get, nat_lt}
-use Rattle.std.specs.List.{list_any, list_all, find, cons_option, filter_map, AllByRecursion}
-use Rattle.std.specs.Option.{option_map, option_or, option_eq}
+use Rattle.std.proofs.Common.{◌≡◌, ◌⊎◌, inl, inr, ℕ, suc, ◌+◌, ◌≤◌, ◌<◌, Bool, true, false, cond, not, ◌||◌}
+use Rattle.std.proofs.Common.{refl, sym, ap, subst, ◌∙◌, IsSomeAnd, arith, List, [], ◌∷◌, ◌++◌, map, length, filter, nat_eq}
+use Rattle.std.proofs.Common.{Option, Some, None, Result, Ok, Err, IfOk, OnOk, All, Contains, slice_get, nat_lt, rules, find, filter_map}
+use Rattle.std.specs.List.{list_any, list_all, AllByRecursion}
+use Rattle.std.specs.Option.{option_or, option_eq}
 use Rattle.std.proofs.lemmas.Bool.{or_right}
 use Rattle.std.proofs.lemmas.List.{append-nil}
 use Rattle.std.proofs.lemmas.List.Elements.{All-from_recursion, Contains-append_cases}
@@ -20,19 +19,17 @@ use Rattle.game_rules.proofs.Outcomes.{wins-on}
 use Rattle.strategy_graph.specs.declared.Node.{Node}
 use Rattle.strategy_graph.specs.declared.Reply.{Reply}
 use Rattle.strategy_graph.specs.declared.Rest.{Rest}
-use Rattle.strategy_graph.specs.declared.Rest.TheVariants.{To}
 use Rattle.strategy_graph.proofs.Common.{Answers, answer, rest_node, rest_nodes, answers_of, named, names_below, listed_node, is_rising}
-use Rattle.strategy_graph.proofs.Common.{NamesLower, NamesOnBoard, depth, node_depth, start_depth, greatest, Accepted}
-use Rattle.strategy_graph.proofs.Common.{AcceptedStart}
+use Rattle.strategy_graph.proofs.Common.{NamesLower, NamesOnBoard, depth, node_depth, start_depth, greatest, Accepted, AcceptedStart}
 use Rattle.strategy_graph.proofs.Filling.{IsTable-lower, growth-same-start}
 use Rattle.strategy_graph.proofs.Fuel.{depth-step}
 use Rattle.strategy_graph.proofs.Steps.{accepted-by-win, accepted-by-replies}
 use Rattle.strategy_graph.proofs.Rising.{answered-as-listed, all-next}
 use Rattle.strategy_graph.proofs.Answering.{next-all}
 use Rattle.strategy_graph.proofs.Greatest.{greatest-all, contained}
-use Rattle.strategy_compiler.proofs.Common.{IsCompiled, PutsIn, winning_node, answering_node, answers_alone, AnswersEach, Reaches, Itself}
-use Rattle.strategy_compiler.proofs.Common.{Through, StaysOnBoard, IsWrittenWin, AnswersWin, WinsAtOnce, WinsByAnswers, IsDoubleThreat}
-use Rattle.strategy_compiler.proofs.Common.{answer_node, two_answers, double_moves, AnswersBriefly, commonest, answers_to}
+use Rattle.strategy_compiler.proofs.Common.{IsCompiled, PutsIn, winning_node, answering_node, answers_alone, AnswersEach, Reaches}
+use Rattle.strategy_compiler.proofs.Common.{StaysOnBoard, IsWrittenWin, AnswersWin, WinsAtOnce, WinsByAnswers, IsDoubleThreat, answer_node}
+use Rattle.strategy_compiler.proofs.Common.{two_answers, double_moves, AnswersBriefly, commonest, answers_to}
 use Rattle.strategy_compiler.proofs.Briefs.{brief-not_winning}
 use Rattle.strategy_compiler.proofs.Starting.{brief-inside, brief-deep, brief-accepted}
 use Rattle.strategy_compiler.proofs.Growing.{stays-longer}
@@ -41,10 +38,7 @@ use Rattle.strategy_compiler.proofs.Growing.{stays-longer}
 
 pub all-filter : {X : Type 0} (P : X → Type 0) (f : X → Bool) (xs : List X) → AllByRecursion P xs → AllByRecursion P (filter f xs)
 all-filter P f [] h = tt
-all-filter P f (x ∷ xs) h = by_test (f x) (all-filter P f xs h.1) where
-  by_test : (b : Bool) → AllByRecursion P (filter f xs) → AllByRecursion P (cond b (x ∷ filter f xs) (filter f xs))
-  by_test true k = (h.0, k)
-  by_test false k = k
+all-filter P f (x ∷ xs) h = search (rules, all-filter P f xs h.1)
 
 pub all-weaker : {X : Type 0} (P Q : X → Type 0) → ((x : X) → P x → Q x) → (xs : List X) → AllByRecursion P xs → AllByRecursion Q xs
 all-weaker P Q f [] h = tt
@@ -71,8 +65,7 @@ alone-deep t answers = ap (λ (js : List ℕ). greatest (map (depth t) js)) (app
 
 reach-cases : (t : List Node) (i k : ℕ) → Reaches t i k
     → (i ≡ k) ⊎ ((j : ℕ) × (n : Node) × (slice_get t i ≡ Some n) × Contains (named (answers_of n)) j × Reaches t j k)
-reach-cases t _ _ (Itself i) = inl refl
-reach-cases t _ _ (Through i j k n at names rest) = inr (j, n, at, names, rest)
+reach-cases t x1 x2 x3 = search rules
 
 -- a node whose names stay on the board does so too
 pub stays-by : (b : Grid) (t : List Node) (i : ℕ) (n : Node) → slice_get t i ≡ Some n → NamesOnBoard b n
@@ -112,19 +105,11 @@ module _ (P : ℕ → Type 0) (a : Answers) where
   found-named : (f : ℕ → Bool) (qs : List Point) → AllByRecursion (λ q. IfAnswer P (answer a q)) qs → (j : ℕ)
       → find f (filter_map (answer a) qs) ≡ Some j → P j
   found-named f [] h j e = cc
-  found-named f (q ∷ qs) h j e = by_answer (answer a q) h.0 e (found-named f qs h.1 j) where
-    by_answer : (o : Option ℕ) → IfAnswer P o → find f (cons_option o (filter_map (answer a) qs)) ≡ Some j
-        → (find f (filter_map (answer a) qs) ≡ Some j → P j) → P j
-    by_answer None k e later = later e
-    by_answer (Some i) k e later = by_test (f i) e where
-      by_test : (b : Bool) → cond b (Some i) (find f (filter_map (answer a) qs)) ≡ Some j → P j
-      by_test true e = let same : i ≡ j = cc in subst P same k
-      by_test false e = later e
+  found-named f (q ∷ qs) h j e = search (rules, found-named f qs h.1 j)
 
   rest-named : (r : Rest) (js : List ℕ) → rest_node r ≡ commonest js → ((j : ℕ) → commonest js ≡ Some j → P j)
       → AllByRecursion P (rest_nodes r)
-  rest-named (To j) js e h = (h j (sym e), tt)
-  rest-named _ js e h = tt
+  rest-named x0 js e h = search rules
 
   -- what holds of each answer to one of these replies holds of each node that is named
   pub briefly-named : (qs : List Point) → is_rising a.replies ≡ true → AnswersBriefly a qs
@@ -158,13 +143,7 @@ leaf-wins t lower i p at rule b wins = record {
 -- answers that win are to each move that goes on
 each-answered : (rule : RuleKind) (c : Grid) (t : List Node) (answers : List Reply) → AcceptedStart rule t (answers_alone answers) c
     → AnswersEach rule c answers
-each-answered rule c t answers h q go =
-    by_listed (listed_node answers q)
-    (subst (λ (o : Outcome). LosesOr o (IsSomeAnd (option_or (listed_node answers q) None) (λ j. Accepted rule t j (after c q)))) go
-    (h q)) where
-      by_listed : (o : Option ℕ) → IsSomeAnd (option_or o None) (λ j. Accepted rule t j (after c q)) → IsSome o
-      by_listed None k = absurd k
-      by_listed (Some j) k = refl
+each-answered rule c t answers h q go = search rules
 
 module _ (t : List Node) (lower : NamesLower t) (p : Point) (answers : List Reply) (rising : is_rising answers ≡ true) (i : ℕ)
     (at : slice_get t i ≡ Some (answering_node p answers)) where
@@ -244,36 +223,14 @@ pub record IsAnswer (rule : RuleKind) (limit : ℕ) (c : Grid) (t : List Node) (
 -- a reply that goes on, and a win after it
 pub answer-by-win : (rule : RuleKind) (limit : ℕ) (c : Grid) (t : List Node) (r : Reply) (m : ℕ) → outcome rule c r.at ≡ GoesOn
     → IsWrittenWin rule limit (after c r.at) t (record { node = r.next; moves = m }) → IsAnswer rule limit c t r
-answer-by-win rule limit c t r m go win = record {
-  on_board = GoesOn-on rule c r.at go;
-  accepted = λ e. win.accepted;
-  within = let deep = win.deep in let low = win.within in omega (arith, deep, low);
-  stays = stays-before c r.at t r.next win.on_board;
-}
+answer-by-win rule limit c t r m go win = search (rules, GoesOn-on, stays-before)
 
 module _ (rule : RuleKind) (limit : ℕ) (c : Grid) (t : List Node) where
   answer-found : (answers : List Reply) → AllByRecursion (IsAnswer rule limit c t) answers → (q : Point) → outcome rule c q ≡ GoesOn
       → list_any (is_same_point q) (map (λ r. r.at) answers) ≡ true
       → IsSomeAnd (option_or (listed_node answers q) None) (λ j. Accepted rule t j (after c q))
   answer-found [] h q go e = cc
-  answer-found (r ∷ rs) h q go e = by_test (is_same_point r.at q) refl (answer-found rs h.1 q go) where
-    later : (b : Bool) → is_same_point q r.at ≡ b → is_same_point r.at q ≡ false
-        → (b || list_any (is_same_point q) (map (λ r. r.at) rs)) ≡ true → list_any (is_same_point q) (map (λ r. r.at) rs) ≡ true
-    later true same other k =
-        let back = is_same_point-same q r.at same in
-        let yes : is_same_point r.at q ≡ true = ap (is_same_point r.at) back ∙ is_same_point-itself r.at in
-        cc
-    later false same other k = k
-
-    by_test : (b : Bool) → is_same_point r.at q ≡ b
-        → (list_any (is_same_point q) (map (λ r. r.at) rs) ≡ true
-        → IsSomeAnd (option_or (listed_node rs q) None) (λ j. Accepted rule t j (after c q)))
-        → IsSomeAnd (option_or (option_map (λ r. r.next) (cond b (Some r) (find (λ r. is_same_point r.at q) rs))) None)
-        (λ j. Accepted rule t j (after c q))
-    by_test true same rest =
-        let here = is_same_point-same r.at q same in
-        subst (λ (x : Point). Accepted rule t r.next (after c x)) here (h.0.accepted (ap (outcome rule c) here ∙ go))
-    by_test false other rest = rest (later (is_same_point q r.at) refl other e)
+  answer-found (r ∷ rs) h q go e = search (rules, is_same_point-same, is_same_point-itself, answer-found rs h.1 q go)
 
   -- no move wins or draws, and each that goes on has such an answer
   pub answers-win : (answers : List Reply) → ((q : Point) → LosesOr (outcome rule c q) (Unit {0}))
@@ -363,10 +320,7 @@ module _ (t : List Node) (lower : NamesLower t) (start first second : Point) (re
       by_outcome _ h = tt
 
     taken-on : (q : Point) → is_on b (cond (is_same_point q first) second first) ≡ true
-    taken-on q = by_test (is_same_point q first) where
-      by_test : (r : Bool) → is_on b (cond r second first) ≡ true
-      by_test true = threat.on_board.1.0
-      by_test false = threat.on_board.0
+    taken-on q = search rules
 
     is-answer : (q : Point) (k : ℕ) → slice_get t k ≡ Some (winning_node (cond (is_same_point q first) second first)) → is_on b q ≡ true
         → IsAnswer rule 1 (after b start) t (record { at = q; next = k })

@@ -1,8 +1,8 @@
 -- Wins that a search wrote: they stay, and the table of one. Nodes that are added, in steps.
-use Rattle.std.proofs.Common.{◌≡◌, ℕ, zero, suc, ◌<◌, List, [], ◌∷◌, ◌++◌, length, ap, ◌∙◌, arith, refl, subst, All, Result, Ok, Err, IfOk}
-use Rattle.std.proofs.Common.{◌+◌, ◌≤◌, sym, append_assoc, length-append, Some, OnOk, slice_get}
+use Rattle.std.proofs.Common.{◌≡◌, ℕ, zero, suc, ◌<◌, List, [], ◌∷◌, ◌++◌, length, ap, ◌∙◌, arith, subst, All, Result, Ok, Err, IfOk}
+use Rattle.std.proofs.Common.{◌+◌, ◌≤◌, sym, append_assoc, length-append, Some, slice_get, rules}
 use Rattle.game_rules.specs.declared.RuleKind.{RuleKind}
-use Rattle.game_rules.proofs.Common.{Grid, is_on, WinsWithin}
+use Rattle.game_rules.proofs.Common.{Grid, is_on}
 use Rattle.strategy_graph.specs.declared.Node.{Node}
 use Rattle.strategy_graph.proofs.Common.{NamesLower, NamesOnBoard, TableOnBoard, depth, SaysSame}
 use Rattle.strategy_graph.proofs.Filling.{growth-same}
@@ -12,7 +12,7 @@ use Rattle.strategy_graph.proofs.Answering.{replies-on, nodes-append_nil}
 use Rattle.strategy_graph.proofs.Soundness.{accepted-wins}
 use Rattle.strategy_compiler.specs.declared.wins.WrittenWin.{WrittenWin}
 use Rattle.strategy_compiler.specs.declared.error.SearchError.{SearchError}
-use Rattle.strategy_compiler.specs.declared.error.SearchError.TheVariants.{Full, Memory}
+use Rattle.strategy_compiler.specs.declared.error.SearchError.TheVariants.{Memory}
 use Rattle.strategy_compiler.proofs.Common.{NamesPointsReached, last, StaysOnBoard, IsWrittenWin, IsWinTable, GrowthKeepsWins, IsCompiled}
 use Rattle.strategy_compiler.proofs.Common.{GrowsBy, Writes, Tree, StandsFor, GrowthKeepsTrees}
 use Rattle.strategy_compiler.proofs.Standing.{reaches-shorter, reaches-inside}
@@ -72,20 +72,11 @@ win-tables t win (Err e) same points = tt
 -- a win whose moves are told as the depth of its node
 pub win-deep : (rule : RuleKind) (n : ℕ) (b : Grid) (t : List Node) (win : WrittenWin) → IsWrittenWin rule n b t win
     → IsWrittenWin rule n b t (record { node = win.node; moves = depth t win.node })
-win-deep rule n b t win h = record {
-  in_compiler = h.in_compiler;
-  accepted = h.accepted;
-  deep = refl;
-  within = let low = h.within in let e = h.deep in omega (arith, e, low);
-  on_board = h.on_board;
-}
+win-deep rule n b t win h = search rules
 
 -- a written win has a move
 pub win-some : (rule : RuleKind) (n : ℕ) (b : Grid) (c : List Node) (win : WrittenWin) → IsWrittenWin rule n b c win → 0 < win.moves
-win-some rule n b c win h = by_moves win.moves h.deep where
-  by_moves : (m : ℕ) → depth c win.node ≡ m → 0 < m
-  by_moves zero e = absurd (subst (λ (k : ℕ). WinsWithin rule k b) e (accepted-wins rule c win.node b h.accepted))
-  by_moves (suc m) e = omega arith
+win-some rule n b c win h = search (rules, accepted-wins)
 
 -- ---- how they grow
 
@@ -106,8 +97,7 @@ pub grows-more : (a b : List Node) (j m : ℕ) → GrowsBy a b j → j ≤ m →
 grows-more a b j m f l = record { added = f.added; is = f.is; few = let x = f.few in omega (arith, x, l) }
 
 pub grows-length : (a b : List Node) (k : ℕ) → GrowsBy a b k → length b ≤ length a + k
-grows-length a b k f = let x = f.few in let e : length b ≡ length a + length f.added = ap length f.is
-    ∙ length-append a f.added in omega (arith, x, e)
+grows-length a b k f = search (rules, length-append)
 
 -- a node stays where it is
 pub node-stays : (a b : List Node) (k i : ℕ) (n : Node) → GrowsBy a b k → slice_get a i ≡ Some n → slice_get b i ≡ Some n
@@ -122,28 +112,16 @@ win-stays rule limit b t u k win lower f h =
 -- a win within fewer moves
 pub win-within : (rule : RuleKind) (n m : ℕ) (b : Grid) (t : List Node) (win : WrittenWin) → n ≤ m → IsWrittenWin rule n b t win
     → IsWrittenWin rule m b t win
-win-within rule n m b t win l h = record {
-  in_compiler = h.in_compiler;
-  accepted = h.accepted;
-  deep = h.deep;
-  within = let low = h.within in omega (arith, l, low);
-  on_board = h.on_board;
-}
+win-within rule n m b t win l h = search rules
 
 -- ---- what calls write
 
 -- a call that wrote nothing and has an answer, or had no memory
 pub writes-nothing : {A : Type 0} (a b : List Node) (k : ℕ) (x : A) → IsCompiled a → b ≡ a → Writes a b k (Ok x)
-writes-nothing a b k x compiled e = record {
-  grows = grows-not a b k e;
-  compiled = subst IsCompiled (sym e) compiled;
-  full = λ h. cc;
-  full_now = λ h. cc;
-}
+writes-nothing a b k x compiled e = search (rules, grows-not)
 
 pub writes-memory : {A : Type 0} (a b : List Node) (k : ℕ) (s : Result A SearchError) → GrowsBy a b k → s ≡ Err Memory → Writes a b k s
-writes-memory a b k s grows is = record
-    { grows = grows; compiled = subst (λ s. OnOk s (IsCompiled b)) (sym is) tt; full = λ h. cc; full_now = λ h. cc }
+writes-memory a b k s grows is = search rules
 
 -- a call, and another after it that had an answer
 pub writes-then : {A B : Type 0} (a b c : List Node) (j k m : ℕ) (x : A) (s : Result B SearchError) → Writes a b j (Ok x) → Writes b c k s
@@ -171,20 +149,12 @@ writes-tells a b j m x y f l = record { grows = grows-more a b j m f.grows l; co
 pub writes-fails : {A B : Type 0} (a b : List Node) (j m : ℕ) (e : SearchError) (s : Result B SearchError) → Writes {A = A} a b j (Err e)
     → j ≤ m → s ≡ Err e
     → Writes a b m s
-writes-fails {B = B} a b j m e s f l is = subst (Writes a b m) (sym is) (writes-more {A = B} a b j m (Err e) failed l) where
-  failed : Writes {A = B} a b j (Err e)
-  failed = record {
-    grows = f.grows;
-    compiled = tt;
-    full = λ h. let same : e ≡ Full = cc in f.full (ap Err same);
-    full_now = λ h. let same : e ≡ Full = cc in f.full_now (ap Err same);
-  }
+writes-fails {B = B} a b j m e s f l is = search (rules, writes-more)
 
 pub writes-then-fails : {A B C : Type 0} (a b c : List Node) (j k m : ℕ) (x : A) (e : SearchError) (s : Result C SearchError)
     → Writes a b j (Ok x)
     → Writes {A = B} b c k (Err e) → j + k ≤ m → s ≡ Err e → Writes a c m s
-writes-then-fails {B = B} {C = C} a b c j k m x e s f g l is = writes-fails {A = B} {B = C} a c m m e s
-    (writes-then a b c j k m x (Err e) f g l) (omega arith) is
+writes-then-fails {B = B} {C = C} a b c j k m x e s f g l is = search (rules, writes-fails, writes-then)
 
 -- a node that stood for a tree still does
 pub stands-grown : GrowthKeepsTrees → (a c : List Node) (k : ℕ) → GrowsBy a c k → (i : ℕ) (tree : Tree) → StandsFor a i tree

@@ -1,14 +1,14 @@
 -- The places of numbers in an order, and nodes with these in place of the numbers. The table that is made of the nodes that some roots
 -- reach, in the order in which walks complete them.
 use Rattle.std.proofs.Common.{◌≡◌, ◌≢◌, ℕ, zero, suc, ◌+◌, ◌<◌, ◌≤◌, Bool, true, false, cond, not, ◌||◌, ◌==◌, List, [], ◌∷◌, ◌++◌, length}
-use Rattle.std.proofs.Common.{take, get_or, refl, sym, ap, subst, ◌∙◌, ◌⊎◌, inl, inr, arith, length-append, one-add, Some, nat_lt}
+use Rattle.std.proofs.Common.{rules}
+use Rattle.std.proofs.Common.{take, get_or, refl, sym, ap, subst, ◌∙◌, ◌⊎◌, inl, inr, arith, length-append, one-add, Some}
 use Rattle.std.proofs.Common.{slice_get, replicate, Contains, map, fold, All}
 use Rattle.std.specs.List.{list_all, range_with_len}
 use Rattle.std.proofs.Math.ListN.{set, length-set}
 use Rattle.std.proofs.lemmas.List.{get_or-set_same, get_or-set_other, length-replicate, ext_get_or, get_or-map, length-map}
 use Rattle.std.proofs.lemmas.Option.{slice_get_within, slice_get_read, slice_get-get_or, get_or_from_slice_get, same_Some}
 use Rattle.std.proofs.lemmas.Bool.Decides.{Decides-eqb}
-use borrow.Author.Tests.{ltb-true, ltb-false}
 use Rattle.std.proofs.lemmas.List.FromFn.{length-range_with_len, get_or-range_with_len}
 use Rattle.game_rules.specs.declared.Point.{Point}
 use Rattle.strategy_graph.specs.declared.Node.{Node}
@@ -27,17 +27,14 @@ use Rattle.strategy_compiler.proofs.Common.{AnswersBriefly, Branches, StandsForA
 use Rattle.strategy_compiler.proofs.Walking.{among-at, walked-step, walks-itself, visited-above, within-enough, contains-map}
 use Rattle.strategy_compiler.proofs.Copying.{brief-renumbered, fold-copied, within-copied, reaches-copied, stands-copied, stands_all-copied}
 use Rattle.strategy_compiler.proofs.Standing.{completed-reached}
+use borrow.Author.Tests.{ltb-true, ltb-false}
 
 -- ---- places
 
 -- a number of the list is at its place
 pub among-place : (order : List ℕ) (i : ℕ) → is_in_list i order ≡ true → slice_get order (place_in order i) ≡ Some i
 among-place [] i h = cc
-among-place (x ∷ xs) i h = by_test (x == i) refl h (among-place xs i) where
-  by_test : (b : Bool) → (x == i) ≡ b → (b || is_in_list i xs) ≡ true → (is_in_list i xs ≡ true → slice_get xs (place_in xs i) ≡ Some i)
-      → slice_get (x ∷ xs) (cond (not b) (1 + place_in xs i) 0) ≡ Some i
-  by_test true e h next = ap Some ((Decides-eqb x i).0 e)
-  by_test false e h next = rw one-add (next h)
+among-place (x ∷ xs) i h = search (rules, Decides-eqb, one-add, among-place xs i)
 
 -- a number that comes once is at that place alone
 pub place-at : (order : List ℕ) → ((k l i : ℕ) → slice_get order k ≡ Some i → slice_get order l ≡ Some i → k ≡ l) → (k i : ℕ)
@@ -61,10 +58,7 @@ pub record PlacesUpTo (order : List ℕ) (len : ℕ) (places : List ℕ) (p : �
   pub up_to : (k i : ℕ) → k < p → slice_get order k ≡ Some i → get_or places i 0 ≡ k
 
 below_more_cases : (k p : ℕ) → k < p + 1 → (k ≡ p) ⊎ (k < p)
-below_more_cases k p m = by_lt (nat_lt k p) refl where
-  by_lt : (b : Bool) → nat_lt k p ≡ b → (k ≡ p) ⊎ (k < p)
-  by_lt true e = inr (ltb-true _ _ e)
-  by_lt false e = inl (let up : p ≤ k = ltb-false _ _ e in omega arith)
+below_more_cases k p m = search (rules, ltb-true, ltb-false)
 
 not_same : (k p : ℕ) → k < p → k ≡ p → ⊥
 not_same k p low e = omega arith
@@ -76,21 +70,7 @@ pub places-more : (order : List ℕ) (len : ℕ) (places : List ℕ) (p : ℕ)
     → ((k l i : ℕ) → slice_get order k ≡ Some i → slice_get order l ≡ Some i → k ≡ l) → p < length order → get_or order p 0 < len
     → PlacesUpTo order len places p → PlacesUpTo order len (set places (get_or order p 0) p) (p + 1)
 places-more order len places p once l low h =
-    record {
-      sized = length-set places (get_or order p 0) p ∙ h.sized;
-      up_to = λ k i m e. elim (below_more_cases k p m) [ inl same ↦ here k i same e | inr low ↦ before k i low e ];
-    } where
-      here : (k i : ℕ) → k ≡ p → slice_get order k ≡ Some i → get_or (set places (get_or order p 0) p) i 0 ≡ k
-      here k i same e =
-          let is : get_or order p 0 ≡ i = get_or_from_slice_get order p i 0 (subst (λ (m : ℕ). slice_get order m ≡ Some i) same e) in
-          subst (λ (j : ℕ). get_or (set places (get_or order p 0) p) j 0 ≡ k) is
-          (get_or-set_same places (get_or order p 0) p 0 (let sized = h.sized in omega (arith, sized, low)) ∙ sym same)
-
-      before : (k i : ℕ) → k < p → slice_get order k ≡ Some i → get_or (set places (get_or order p 0) p) i 0 ≡ k
-      before k i less e =
-          let other : i ≢ get_or order p 0 = λ (same : i ≡ get_or order p 0). not_same k p less
-          (once k p i e (slice_get-get_or order p 0 l ∙ ap Some (sym same))) in
-          get_or-set_other places (get_or order p 0) i p 0 other ∙ h.up_to k i less e
+    search (rules, length-set, below_more_cases, get_or_from_slice_get, get_or-set_same, not_same, slice_get-get_or, get_or-set_other)
 
 pub places-all : (order : List ℕ) (len : ℕ) (places : List ℕ) (p : ℕ) → length order ≤ p → PlacesUpTo order len places p
     → ArePlaces order places
@@ -115,10 +95,7 @@ pub record RenumbersUpTo (t : List Node) (order : List ℕ) (u : List Node) (p :
       → (n : Node) × (slice_get t i ≡ Some n) × (slice_get u k ≡ Some (renumbered_node (place_in order) n))
 
 pub from-renumbers : (t : List Node) (order : List ℕ) (u : List Node) → Renumbers t order u → RenumbersUpTo t order u (length order)
-from-renumbers t order u re = record {
-  count = re.count;
-  each = λ k i l e. let r = re.each k i e in (r.0, r.1, r.2);
-}
+from-renumbers t order u re = search rules
 
 pub renumbers-none : (t : List Node) (order : List ℕ) (u : List Node) → u ≡ [] → RenumbersUpTo t order u 0
 renumbers-none t order u e = record { count = ap length e; each = λ k i l at. absurd (omega arith) }
@@ -142,9 +119,7 @@ module _ (t : List Node) (order : List ℕ) (table : IsTable t) (is_order : IsOr
     -- and it is the node with the places that are kept
     pub renumbered-places : (f : ℕ → ℕ) → ((k i : ℕ) → slice_get order k ≡ Some i → f i ≡ k)
         → renumbered_node f n ≡ renumbered_node (place_in order) n
-    renumbered-places f places =
-        renumbered-agree f (place_in order) (λ j. is_in_list j (take k order))
-        (λ j h. let m = among-take order k j h in places m.0 j m.2 ∙ sym (place-is m.0 j m.2)) n all-among
+    renumbered-places f places = search (rules, renumbered-agree, among-take, place-is, all-among)
 
   -- one node more
   pub renumbers-more : (u : List Node) (p i : ℕ) (n m : Node) (f : ℕ → ℕ) → RenumbersUpTo t order u p → slice_get order p ≡ Some i
@@ -169,10 +144,7 @@ module _ (t : List Node) (order : List ℕ) (table : IsTable t) (is_order : IsOr
         )
 
   pub renumbers-all : (u : List Node) (p : ℕ) → p ≤ length order → length order ≤ p → RenumbersUpTo t order u p → Renumbers t order u
-  renumbers-all u p l m h = record {
-    count = let count = h.count in omega (arith, count);
-    each = λ k i e. let r = h.each k i (let inside = slice_get_within order k i e in omega (arith, inside)) e in (r.0, r.1, r.2);
-  }
+  renumbers-all u p l m h = search (rules, slice_get_within)
 
 -- ---- the same, as the loop reads it
 
@@ -208,11 +180,7 @@ module _ (t : List Node) (order : List ℕ) (table : IsTable t) (is_order : IsOr
 -- a number that is not in the list has its length for a place
 place-absent : (order : List ℕ) (i : ℕ) → is_in_list i order ≡ false → place_in order i ≡ length order
 place-absent [] i h = refl
-place-absent (x ∷ xs) i h = by_test (x == i) h (place-absent xs i) where
-  by_test : (b : Bool) → (b || is_in_list i xs) ≡ false → (is_in_list i xs ≡ false → place_in xs i ≡ length xs)
-      → cond (not b) (1 + place_in xs i) 0 ≡ suc (length xs)
-  by_test true e next = cc
-  by_test false e next = let later = next e in omega (arith, later)
+place-absent (x ∷ xs) i h = search (rules, place-absent xs i)
 
 -- no number of the list has the place of another number
 module _ (order : List ℕ) where
@@ -226,15 +194,7 @@ module _ (order : List ℕ) where
     by_test false k = let past = place-absent order j k in let low = place-within i h in absurd (omega (arith, past, low, e))
 
   pub places-apart : IsOneToOne (place_in order) (λ i. is_in_list i order)
-  places-apart = record { apart = λ j i h. by_test j i h (j == i) refl } where
-    by_test : (j i : ℕ) → is_in_list i order ≡ true → (b : Bool) → (j == i) ≡ b → (place_in order j == place_in order i) ≡ (j == i)
-    by_test j i h true e = let same : j ≡ i = (Decides-eqb j i).0 e in
-        (Decides-eqb (place_in order j) (place_in order i)).1 (ap (place_in order) same) ∙ sym e
-    by_test j i h false e = by_place (place_in order j == place_in order i) refl where
-      by_place : (b : Bool) → (place_in order j == place_in order i) ≡ b → b ≡ (j == i)
-      by_place true k = let same : j ≡ i = same_place j i h ((Decides-eqb (place_in order j) (place_in order i)).0 k) in
-          let equal : (j == i) ≡ true = (Decides-eqb j i).1 same in sym equal
-      by_place false k = sym e
+  places-apart = search (rules, Decides-eqb, same_place)
 
 module _ (t : List Node) (roots order : List ℕ) (u : List Node) (table : IsTable t) (different : AreDifferent t)
     (is_order : IsOrder t order) (walked : order ≡ completed_from t roots) (re : RenumbersUpTo t order u (length order)) where
@@ -416,11 +376,7 @@ made-from t roots order u table different is_order walked re = subst (λ (o : Li
 -- the place of the last number, which is nowhere before
 place-last : (js : List ℕ) (i : ℕ) → is_in_list i js ≡ false → place_in (js ++ i ∷ []) i ≡ length js
 place-last [] i h = ap (λ (b : Bool). cond (not b) 1 0) ((Decides-eqb i i).1 refl)
-place-last (x ∷ xs) i h = by_test (x == i) h (place-last xs i) where
-  by_test : (b : Bool) → (b || is_in_list i xs) ≡ false → (is_in_list i xs ≡ false → place_in (xs ++ i ∷ []) i ≡ length xs)
-      → cond (not b) (1 + place_in (xs ++ i ∷ []) i) 0 ≡ suc (length xs)
-  by_test true e next = cc
-  by_test false e next = let later = next e in omega (arith, later)
+place-last (x ∷ xs) i h = search (rules, place-last xs i)
 
 module _ (t : List Node) (root : ℕ) (u : List Node) (lower : NamesLower t)
     (made : IsMadeFrom t (root ∷ []) (completed_from t (root ∷ [])) u) where
@@ -439,19 +395,13 @@ module _ (t : List Node) (root : ℕ) (u : List Node) (lower : NamesLower t)
   -- the root is the last node
   root-last : place_in (completed_from t (root ∷ [])) root ≡ last u
   unfolding before-root
-  root-last =
-      let place : place_in (completed_from t (root ∷ [])) root ≡ length before-root =
-      ap (λ (js : List ℕ). place_in js root) order-is ∙ place-last before-root root (visited-above t lower root) in
-      let long : length (completed_from t (root ∷ [])) ≡ length before-root + 1 =
-      ap length order-is ∙ length-append before-root (root ∷ []) in
-      omega (arith, place, long, made.nodes.count)
+  root-last = search (rules, before-root, order-is, place-last, visited-above, length-append)
 
   root-made : IsMadeOf t root u (last u)
   root-made = subst (IsMadeOf t root u) root-last (made.each_root root (0, omega arith, refl))
 
   only : (i : ℕ) → Contains (root ∷ []) i → root ≡ i
-  only i (zero, l, e) = e
-  only i (suc k, l, e) = absurd (omega arith)
+  only i x1 = search rules
 
   pub one-nodes : Renumbers t (completed t root) u
   one-nodes = subst (λ (o : List ℕ). Renumbers t o u) walk-is made.nodes

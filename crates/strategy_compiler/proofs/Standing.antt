@@ -1,7 +1,7 @@
 -- What nodes reach: walks complete nothing else, and a table that grows keeps it. A node stands for the same trees in each table that
 -- begins with its table.
 use Rattle.std.proofs.Common.{◌≡◌, ◌⊎◌, inl, inr, ℕ, zero, suc, ◌<◌, Bool, true, false, cond, ◌||◌, ◌==◌, List, [], ◌∷◌, ◌++◌, length, refl}
-use Rattle.std.proofs.Common.{sym, subst, ◌∙◌, arith, Option, Some, None, fold, slice_get, Contains, ◌*◌, ◌≤◌}
+use Rattle.std.proofs.Common.{sym, subst, ◌∙◌, arith, Option, Some, None, fold, slice_get, Contains, ◌*◌, ◌≤◌, rules}
 use Rattle.std.specs.Option.{option_map_or, option_map}
 use Rattle.std.proofs.lemmas.Bool.Decides.{Decides-eqb}
 use Rattle.game_rules.specs.declared.Point.{Point}
@@ -39,8 +39,7 @@ module _ (t : List Node) where
   ]
 
   either : (a b : Bool) → (a || b) ≡ true → (a ≡ true) ⊎ (b ≡ true)
-  either true b h = inl refl
-  either false b h = inr h
+  either x0 b h = search rules
 
   within-reached : (f k : ℕ) (done : List ℕ) (i : ℕ) → is_in_list k (completed_within f t done i) ≡ true
       → (is_in_list k done ≡ true) ⊎ Reaches t i k
@@ -70,10 +69,7 @@ module _ (t : List Node) where
 
   -- one of the roots reaches each node that walks from them complete
   pub completed-reached : (roots : List ℕ) (k : ℕ) → is_in_list k (completed_from t roots) ≡ true → ReachedFrom t roots k
-  completed-reached roots k h = elim (fold-reached (completed_after t) k (λ d j. walk-reached k d j) roots [] h)
-      [ inl none ↦ absurd (nothing none) | inr r ↦ r ] where
-        nothing : is_in_list k [] ≡ true → ⊥
-        nothing e = cc
+  completed-reached roots k h = search (rules, fold-reached, walk-reached)
 
 -- ---- what a node reaches, however the table grows
 
@@ -98,8 +94,7 @@ growth_keeps-reach t more lower i k l = (reaches-shorter t more lower i k l, rea
 
 AtNode-from : (o p : Option Node) (P Q : Node → Type 0) → ((n : Node) → o ≡ Some n → p ≡ Some n) → ((n : Node) → P n → Q n) → AtNode o P
     → AtNode p Q
-AtNode-from None p P Q f g h = absurd h
-AtNode-from (Some n) p P Q f g h = subst (λ (o : Option Node). AtNode o Q) (sym (f n refl)) (g n h)
+AtNode-from x0 p x2 x3 f g h = search rules
 
 mutual
   unfolding StandsFor
@@ -135,17 +130,12 @@ tree_attack (Fork p bs) = p
 pub tree-attack : (t : List Node) (i : ℕ) (tree : Tree) → StandsFor t i tree
     → option_map (λ n. n.attack) (slice_get t i) ≡ Some (tree_attack tree)
 unfolding StandsFor tree_attack
-tree-attack t i (Leaf p) h = attack_at (slice_get t i) _ p (λ n k. k.0) h
-tree-attack t i (Fork p bs) h = attack_at (slice_get t i) _ p (λ n k. k.0) h
+tree-attack t i x2 h = search (rules, attack_at)
 
 pub at_fork : (t : List Node) (i : ℕ) (p : Point) (bs : Branches) → StandsFor t i (Fork p bs)
     → (n : Node) × (slice_get t i ≡ Some n) × StandsForAll t (answers_of n) bs
 unfolding StandsFor
-at_fork t i p bs h = by_node (slice_get t i) _ (λ n k. k.2) h where
-  by_node : (o : Option Node) (P : Node → Type 0) → ((n : Node) → P n → StandsForAll t (answers_of n) bs) → AtNode o P
-      → (n : Node) × (o ≡ Some n) × StandsForAll t (answers_of n) bs
-  by_node None P f h = absurd h
-  by_node (Some n) P f h = (n, refl, f n h)
+at_fork t i p bs h = search rules
 
 -- what is known of a node that stands for the plan of a win within n moves
 pub record IsWritten (rule : RuleKind) (t : List Node) (i n : ℕ) (b : Grid) : Type 0 where
@@ -175,8 +165,7 @@ pub fork_node : (t : List Node) (i : ℕ) (x : Point) (bs : Branches) → Stands
     → (n : Node) × (slice_get t i ≡ Some n)
     × ((n.attack ≡ x) × AnswersBriefly (answers_of n) (replies_of bs) × StandsForAll t (answers_of n) bs)
 unfolding StandsFor
-fork_node t i x bs h = AtNode-parts (slice_get t i)
-    (λ n. (n.attack ≡ x) × AnswersBriefly (answers_of n) (replies_of bs) × StandsForAll t (answers_of n) bs) h
+fork_node t i x bs h = search (rules, AtNode-parts)
 
 pub forks_not_winning : (t : List Node) (i : ℕ) (n : Node) → IsTable t → slice_get t i ≡ Some n → (bs : Branches)
     → AnswersBriefly (answers_of n) (replies_of bs) → StandsForAll t (answers_of n) bs → is_winning n.rest ≡ true → ⊥

@@ -1,17 +1,14 @@
 -- The start that is made of answers: it has them in brief, and says what they say alone.
-use Rattle.std.proofs.Common.{◌≡◌, inl, inr, ℕ, zero, suc, ◌<◌, Bool, true, false, ◌||◌, ◌==◌, List, [], ◌∷◌, ◌++◌, map, length, refl, sym}
-use Rattle.std.specs.Prelude.{IsSomeAnd}
+use Rattle.std.proofs.Common.{◌≡◌, ℕ, zero, suc, ◌<◌, Bool, true, false, ◌||◌, ◌==◌, List, [], ◌∷◌, ◌++◌, map, length, refl, sym, IsSomeAnd, rules, sum_by, option_map, ltb-true, lt-ltb}
 use Rattle.std.proofs.Common.{ap, subst, ◌∙◌, arith, ◌↔◌, Option, Some, None, IsSome, All, Contains, nat_lt, slice_index}
-use Rattle.std.specs.List.{list_all, AllByRecursion, sum_by}
-use Rattle.std.specs.Option.{option_map, option_or, option_map_or}
+use Rattle.std.specs.List.{list_all, AllByRecursion}
+use Rattle.std.specs.Option.{option_or}
 use Rattle.std.proofs.lemmas.Bool.{or_right}
 use Rattle.std.proofs.lemmas.Bool.Decides.{Decides-eqb}
 use Rattle.std.proofs.lemmas.List.Folds.{list_all-append}
 use Rattle.std.proofs.lemmas.List.Elements.{All-cons, All-nil, All-from_recursion, Contains-append_left, Contains-append_cases}
-use Rattle.game_rules.proofs.Common.{Grid, points_of, outcome, after, LosesOr, if_goes_on}
+use Rattle.game_rules.proofs.Common.{Grid, points_of, outcome, after, LosesOr}
 use Rattle.game_rules.specs.declared.RuleKind.{RuleKind}
-use Rattle.game_rules.specs.declared.Outcome.{Outcome}
-use Rattle.game_rules.specs.declared.Outcome.TheVariants.{GoesOn}
 use Rattle.game_rules.specs.declared.Point.{Point}
 use Rattle.game_rules.proofs.Boards.{and_left, and_right}
 use Rattle.strategy_graph.specs.declared.Node.{Node}
@@ -32,7 +29,6 @@ use Rattle.strategy_compiler.proofs.Walking.{visited-named, named-visited, all-c
 use Rattle.strategy_compiler.proofs.Places.{all_by, among-place, places-apart}
 use Rattle.strategy_compiler.proofs.Copying.{visits-renumbered}
 use Rattle.strategy_compiler.proofs.Briefs.{brief-named, brief-as_given, brief-branches, brief-not_winning, brief-rising, points-kept}
-use borrow.Author.Tests.{ltb-true, lt-ltb}
 
 -- ---- numbers in lists
 
@@ -59,8 +55,7 @@ answer-contained a q j e = in-list-contains (named a) j (answer-named (λ k. is_
 -- ---- answers in brief, and alone
 
 or_none : (o : Option ℕ) → option_or o None ≡ o
-or_none None = refl
-or_none (Some j) = refl
+or_none x0 = search rules
 
 module _ (answers : List Reply) (rising : is_rising answers ≡ true) where
   -- the nodes that the answers in brief name are those that answer
@@ -81,14 +76,10 @@ module _ (answers : List Reply) (rising : is_rising answers ≡ true) where
   brief-outside = given-at answers (brief-as_given answers rising)
 
   alone-inside : (j : ℕ) → Contains (map (λ r. r.next) answers ++ []) j → Contains (map (λ r. r.next) answers) j
-  alone-inside j c = elim (Contains-append_cases (map (λ r. r.next) answers) [] j c)
-      [ inl here ↦ here | inr none ↦ absurd (let inside = none.1 in omega (arith, inside)) ]
+  alone-inside j c = search (rules, Contains-append_cases)
 
   pub brief-deep : (d : ℕ → ℕ) → greatest (map d (named (brief_answers answers))) ≡ greatest (map d (named (answers_alone answers)))
-  brief-deep d =
-      greatest-same d (named (brief_answers answers)) (named (answers_alone answers))
-      (λ j c. Contains-append_left (map (λ r. r.next) answers) [] j (brief-inside j c))
-      (λ j c. brief-outside j (alone-inside j c))
+  brief-deep d = search (rules, greatest-same, Contains-append_left, brief-inside, brief-outside, alone-inside)
 
   -- they answer alike where there is an answer
   brief-answer : (q : Point) → IsSome (listed_node answers q) → answer (brief_answers answers) q ≡ answer (answers_alone answers) q
@@ -101,20 +92,11 @@ module _ (answers : List Reply) (rising : is_rising answers ≡ true) where
     met-alike : (N : ℕ → Grid → Type 0) (q : Point) → LosesOr (outcome rule b q)
         (IsSomeAnd (answer (brief_answers answers) q) (λ j. N j (after b q))) ≡ LosesOr (outcome rule b q)
         (IsSomeAnd (answer (answers_alone answers) q) (λ j. N j (after b q)))
-    met-alike N q = by_outcome (outcome rule b q) refl where
-      by_outcome : (o : Outcome) → outcome rule b q ≡ o → LosesOr o (IsSomeAnd (answer (brief_answers answers) q) (λ j. N j (after b q)))
-          ≡ LosesOr o (IsSomeAnd (answer (answers_alone answers) q) (λ j. N j (after b q)))
-      by_outcome GoesOn e = ap (λ (o : Option ℕ). IsSomeAnd o (λ j. N j (after b q))) (brief-answer q (all q e))
-      by_outcome _ e = refl
+    met-alike N q = search (rules, brief-answer)
 
     count-alike : (m : ℕ → Grid → ℕ) (q : Point) → arrivals_at rule (brief_answers answers) m b q ≡ arrivals_at rule (answers_alone answers)
         m b q
-    count-alike m q = by_outcome (outcome rule b q) refl where
-      by_outcome : (o : Outcome) → outcome rule b q ≡ o → if_goes_on o
-          (option_map_or (λ j. m j (after b q)) (answer (brief_answers answers) q) 0) ≡ if_goes_on o
-          (option_map_or (λ j. m j (after b q)) (answer (answers_alone answers) q) 0)
-      by_outcome GoesOn e = ap (λ (o : Option ℕ). option_map_or (λ j. m j (after b q)) o 0) (brief-answer q (all q e))
-      by_outcome _ e = refl
+    count-alike m q = search (rules, brief-answer)
 
     pub brief-accepted : (t : List Node) → AcceptedStart rule t (brief_answers answers) b ≡ AcceptedStart rule t (answers_alone answers) b
     brief-accepted t = λ i. (q : Point) → met-alike (Accepted rule t) q i
@@ -223,10 +205,7 @@ module _ (answers : List Reply) (rising : is_rising answers ≡ true) where
 
 pub brief-is : (answers : List Reply) (o : Option ℕ) (rs : List Reply) (rest : Rest) → o ≡ commonest_next answers
     → rs ≡ answers_beside o answers → rest ≡ rest_of o → brief_answers answers ≡ record { replies = rs; rest = rest }
-brief-is answers o rs rest e f g =
-    let replies : answers_beside (commonest_next answers) answers ≡ rs = ap (λ (p : Option ℕ). answers_beside p answers) (sym e) ∙ sym f in
-    let others : rest_of (commonest_next answers) ≡ rest = ap rest_of (sym e) ∙ sym g in
-    λ i. record { replies = replies i; rest = others i }
+brief-is answers o rs rest e f g = search rules
 
 pub brief-below : (answers : List Reply) (a : Answers) (k : ℕ) → brief_answers answers ≡ a → All (λ r. r.next < k) answers
     → names_below a k ≡ true

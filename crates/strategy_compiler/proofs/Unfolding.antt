@@ -1,7 +1,8 @@
 -- Nodes unfolded: copies are the same nodes, and in a table with no two equal nodes no two are the same. So such a table holds as
 -- many different nodes as it has.
-use Rattle.std.proofs.Common.{◌≡◌, ℕ, zero, suc, ◌<◌, ◌≤◌, ◌+◌, Bool, true, false, ◌||◌, ◌==◌, List, [], ◌∷◌, length, refl, sym, ap, subst}
-use Rattle.std.proofs.Common.{◌∙◌, arith, Option, Some, None, nat_lt, slice_get, map, All, Contains, ◌++◌, ◌⊎◌, inl, inr, length-append}
+use Rattle.std.proofs.Common.{rules, ◌≡◌, ℕ, zero, suc, ◌<◌, ◌≤◌, ◌+◌, Bool, true, false, ◌||◌, ◌==◌, List}
+use Rattle.std.proofs.Common.{[], ◌∷◌, length, refl, sym, ap, subst, ◌∙◌, arith, Option, Some, None, nat_lt, slice_get, map}
+use Rattle.std.proofs.Common.{All, Contains, ◌++◌, ◌⊎◌, inl, inr, length-append, ltb-true}
 use Rattle.std.specs.List.{list_all, list_any, range_with_len, AllByRecursion, IsDistinct}
 use Rattle.std.proofs.lemmas.Bool.{cases_lt}
 use Rattle.std.proofs.lemmas.Option.{same_Some}
@@ -9,32 +10,26 @@ use Rattle.std.proofs.lemmas.Bool.Decides.{Decides-eqb}
 use Rattle.std.proofs.lemmas.List.Folds.{list_all-append}
 use Rattle.std.proofs.lemmas.List.Elements.{All-from_recursion}
 use Rattle.std.proofs.lemmas.Map.Steps.{length-le_from_distinct_below}
-use borrow.Author.Tests.{ltb-true}
 use Rattle.game_rules.proofs.Boards.{and_left, and_right}
 use Rattle.strategy_graph.specs.declared.Node.{Node}
 use Rattle.strategy_graph.specs.declared.Reply.{Reply}
 use Rattle.strategy_graph.specs.declared.Rest.{Rest}
-use Rattle.strategy_graph.specs.declared.Rest.TheVariants.{Wins, To, Nothing}
 use Rattle.strategy_graph.proofs.Common.{Answers, NamesLower, answers_of, named, names_below, rest_nodes, renumbered_node, renumbered_reply}
-use Rattle.strategy_graph.proofs.Common.{renumbered_rest}
-use Rattle.strategy_graph.specs.Tables.{IsNode}
+use Rattle.strategy_graph.proofs.Common.{renumbered_rest, IsNode}
 use Rattle.strategy_graph.proofs.Naming.{slice_get-longer}
-use Rattle.strategy_graph.proofs.Filling.{IsTable-lower, names_below-more, last_node}
+use Rattle.strategy_graph.proofs.Filling.{IsTable-lower, names_below-more}
 use Rattle.strategy_graph.proofs.Copies.{Copies, renumbered-same}
 use Rattle.strategy_compiler.proofs.Common.{AreDifferent, IsCompiled}
-use Rattle.strategy_compiler.specs.Unfolded.{Unfolded, Plays, Answers as Answered, Goes, HoldMore, IsHeld, unfolded, unfolded_node}
-use Rattle.strategy_compiler.specs.Unfolded.{unfolded_nodes, unfolded_replies, unfolded_rest}
+use Rattle.strategy_compiler.specs.Unfolded.{Unfolded, HoldMore, IsHeld, unfolded, unfolded_node, unfolded_nodes, unfolded_replies}
+use Rattle.strategy_compiler.specs.Unfolded.{unfolded_rest}
 unfoldable use Rattle.strategy_compiler.specs.Unfolded.{unfolded_within}
 
 -- the replies that are listed, and the rest, pass where all that is named does
 listed-pass : (p : ℕ → Bool) (a : Answers) → list_all p (named a) ≡ true → list_all p (map (λ r. r.next) a.replies) ≡ true
-listed-pass p a h =
-    and_left _ (list_all p (rest_nodes a.rest))
-    (sym (list_all-append p (map (λ (r : Reply). r.next) a.replies) (rest_nodes a.rest)) ∙ h)
+listed-pass p a h = search (rules, and_left, list_all-append)
 
 rest-passes : (p : ℕ → Bool) (a : Answers) → list_all p (named a) ≡ true → list_all p (rest_nodes a.rest) ≡ true
-rest-passes p a h = and_right (list_all p (map (λ (r : Reply). r.next) a.replies)) _
-    (sym (list_all-append p (map (λ (r : Reply). r.next) a.replies) (rest_nodes a.rest)) ∙ h)
+rest-passes p a h = search (rules, and_right, list_all-append)
 
 -- ---- other numbers for the same nodes
 
@@ -42,22 +37,14 @@ module _ (f : ℕ → ℕ) (passes : ℕ → Bool) (at at' : ℕ → Unfolded) (
   replies-copied : (rs : List Reply) → list_all passes (map (λ r. r.next) rs) ≡ true
       → unfolded_replies at' (map (renumbered_reply f) rs) ≡ unfolded_replies at rs
   replies-copied [] h = refl
-  replies-copied (r ∷ rs) h =
-      let here = same r.next (and_left (passes r.next) _ h) in
-      let later = replies-copied rs (and_right (passes r.next) _ h) in
-      λ i. Answered r.at (here i) (later i)
+  replies-copied (r ∷ rs) h = search (rules, and_left, and_right, replies-copied rs (and_right (passes r.next) _ h))
 
   rest-copied : (r : Rest) → list_all passes (rest_nodes r) ≡ true → unfolded_rest at' (renumbered_rest f r) ≡ unfolded_rest at r
-  rest-copied (To j) h = ap Goes (same j (and_left (passes j) true h))
-  rest-copied Wins h = refl
-  rest-copied Nothing h = refl
+  rest-copied x0 h = search (rules, and_left)
 
   node-copied : (n : Node) → list_all passes (named (answers_of n)) ≡ true
       → unfolded_node at' (Some (renumbered_node f n)) ≡ unfolded_node at (Some n)
-  node-copied n all =
-      let replies = replies-copied n.replies (listed-pass passes (answers_of n) all) in
-      let rest = rest-copied n.rest (rest-passes passes (answers_of n) all) in
-      λ i. Plays n.attack (replies i) (rest i)
+  node-copied n all = search (rules, replies-copied, listed-pass, rest-copied, rest-passes)
 
 module _ (f : ℕ → ℕ) (passes : ℕ → Bool) (t u : List Node) (copies : Copies f passes t u) where
   within-copied : (k i : ℕ) → passes i ≡ true → unfolded_within k u (f i) ≡ unfolded_within k t i
@@ -163,15 +150,7 @@ module _ (at : ℕ → Unfolded) (p : ℕ → Bool) (one : (j k : ℕ) → p j �
 
   rests-apart : (r s : Rest) → list_all p (rest_nodes r) ≡ true → list_all p (rest_nodes s) ≡ true
       → unfolded_rest at r ≡ unfolded_rest at s → r ≡ s
-  rests-apart Wins Wins h k e = refl
-  rests-apart Wins (To j) h k e = cc
-  rests-apart Wins Nothing h k e = cc
-  rests-apart (To i) Wins h k e = cc
-  rests-apart (To i) (To j) h k e = let node : at i ≡ at j = cc in ap To (one i j (and_left (p i) true h) (and_left (p j) true k) node)
-  rests-apart (To i) Nothing h k e = cc
-  rests-apart Nothing Wins h k e = cc
-  rests-apart Nothing (To j) h k e = cc
-  rests-apart Nothing Nothing h k e = refl
+  rests-apart x0 x1 h k e = search (rules, and_left)
 
   nodes-apart : (n m : Node) → list_all p (named (answers_of n)) ≡ true → list_all p (named (answers_of m)) ≡ true
       → unfolded_node at (Some n) ≡ unfolded_node at (Some m) → n ≡ m
@@ -226,11 +205,7 @@ module _ (u : List Node) where
 
   below-at : (ws : List Unfolded) (xs : List ℕ) → AreAt u ws xs → (q : ℕ) → list_any (λ x. q == x) xs ≡ true → q < length u
   below-at _ _ NoneAt q h = cc
-  below-at _ _ (OneAt w ws x xs l e at) q h = by_test (q == x) refl h (below-at ws xs at q) where
-    by_test : (b : Bool) → (q == x) ≡ b → (b || list_any (λ x. q == x) xs) ≡ true → (list_any (λ x. q == x) xs ≡ true → q < length u)
-        → q < length u
-    by_test true same h next = let is : q ≡ x = (Decides-eqb q x).0 same in omega arith
-    by_test false same h next = next h
+  below-at _ _ (OneAt w ws x xs l e at) q h = search (rules, Decides-eqb, below-at ws xs at q)
 
   -- a number that is there is that of a node that is there
   other-at : (ws : List Unfolded) (xs : List ℕ) → AreAt u ws xs → (w : Unfolded) (x : ℕ) → unfolded u x ≡ w
@@ -272,23 +247,13 @@ module _ (at : ℕ → Unfolded) where
 
   nodes-at : (a n k : ℕ) (w : Unfolded) → slice_get (map at (range_with_len a n)) k ≡ Some w → (k < n) × (at (k + a) ≡ w)
   nodes-at a zero k w e = cc
-  nodes-at a (suc n) zero w e = let here : at a ≡ w = cc in (omega arith, ap at (zero-plus a) ∙ here) where
-    zero-plus : (a : ℕ) → 0 + a ≡ a
-    zero-plus a = omega arith
-  nodes-at a (suc n) (suc k) w e =
-      let later = nodes-at (a + 1) n k w e in
-      (let low = later.0 in omega arith, ap at (moved k a) ∙ later.1) where
-        moved : (k a : ℕ) → suc k + a ≡ k + (a + 1)
-        moved k a = omega arith
+  nodes-at a (suc n) zero w e = search rules
+  nodes-at a (suc n) (suc k) w e = search (rules, nodes-at (a + 1) n k w e)
 
   nodes-there : (a n k : ℕ) → k < n → slice_get (map at (range_with_len a n)) k ≡ Some (at (k + a))
   nodes-there a zero k l = absurd (omega arith)
-  nodes-there a (suc n) zero l = ap (λ (i : ℕ). Some (at i)) (zero-plus a) where
-    zero-plus : (a : ℕ) → a ≡ 0 + a
-    zero-plus a = omega arith
-  nodes-there a (suc n) (suc k) l = nodes-there (a + 1) n k (omega arith) ∙ ap (λ (i : ℕ). Some (at i)) (moved k a) where
-    moved : (k a : ℕ) → k + (a + 1) ≡ suc k + a
-    moved k a = omega arith
+  nodes-there a (suc n) zero l = search rules
+  nodes-there a (suc n) (suc k) l = search (rules, nodes-there (a + 1) n k (omega arith))
 
   nodes-all : (P : Unfolded → Type 0) (a n : ℕ) → ((k : ℕ) → k < a + n → P (at k)) → AllByRecursion P (map at (range_with_len a n))
   nodes-all P a zero all = tt
@@ -300,15 +265,10 @@ unfolded_nodes-count t = nodes-count (unfolded t) 0 (length t)
 
 pub unfolded_nodes-at : (t : List Node) (k : ℕ) (w : Unfolded) → slice_get (unfolded_nodes t) k ≡ Some w
     → (k < length t) × (unfolded t k ≡ w)
-unfolded_nodes-at t k w e =
-    let at = nodes-at (unfolded t) 0 (length t) k w e in (at.0, ap (unfolded t) (plus-zero k) ∙ at.1) where
-      plus-zero : (k : ℕ) → k ≡ k + 0
-      plus-zero k = omega arith
+unfolded_nodes-at t k w e = search (rules, nodes-at)
 
 pub unfolded_nodes-there : (t : List Node) (k : ℕ) → k < length t → slice_get (unfolded_nodes t) k ≡ Some (unfolded t k)
-unfolded_nodes-there t k l = nodes-there (unfolded t) 0 (length t) k l ∙ ap (λ (i : ℕ). Some (unfolded t i)) (plus-zero k) where
-  plus-zero : (k : ℕ) → k + 0 ≡ k
-  plus-zero k = omega arith
+unfolded_nodes-there t k l = search (rules, nodes-there)
 
 -- tables that have each node of a table with no two equal ones hold as many different nodes as it has
 pub held-more : (tables : List (List Node)) (most : ℕ) (u : List Node) → NamesLower u → AreDifferent u → most < length u
@@ -338,22 +298,10 @@ there-contains (m ∷ t) zero n e = (0, omega arith, same_Some m n e)
 there-contains (m ∷ t) (suc i) n e = let later = there-contains t i n e in (suc later.0, (let inside = later.1 in omega arith), later.2)
 
 different-push : (t : List Node) (n : Node) → AreDifferent t → (Contains t n → ⊥) → AreDifferent (t ++ n ∷ [])
-different-push t n ok new = record { different = λ i j m h k. both i j m (pushed-node t n i m h) (pushed-node t n j m k) } where
-  both : (i j : ℕ) (m : Node) → (slice_get t i ≡ Some m) ⊎ ((i ≡ length t) × (n ≡ m))
-      → (slice_get t j ≡ Some m) ⊎ ((j ≡ length t) × (n ≡ m)) → i ≡ j
-  both i j m (inl h) (inl k) = ok.different i j m h k
-  both i j m (inl h) (inr k) = absurd (new (there-contains t i n (h ∙ ap Some (sym k.1))))
-  both i j m (inr h) (inl k) = absurd (new (there-contains t j n (k ∙ ap Some (sym h.1))))
-  both i j m (inr h) (inr k) = h.0 ∙ sym k.0
+different-push t n ok new = search (rules, pushed-node, there-contains)
 
 lower-push : (t : List Node) (n : Node) → NamesLower t → names_below (answers_of n) (length t) ≡ true → NamesLower (t ++ n ∷ [])
-lower-push t n lower below = record {
-  lower = λ i m h. elim (pushed-node t n i m h) [
-    | inl e ↦ lower.lower i m e
-    | inr p ↦ subst (λ (j : ℕ). names_below (answers_of m) j ≡ true) (sym p.0)
-        (subst (λ (v : Node). names_below (answers_of v) (length t) ≡ true) p.1 below)
-  ];
-}
+lower-push t n lower below = search (rules, pushed-node)
 
 -- the nodes of a compiler and one that is new to it, all of them held by the tables, are so many different nodes
 pub held-one_more : (tables : List (List Node)) (most : ℕ) (t : List Node) (n : Node) → IsCompiled t → IsNode n (length t)

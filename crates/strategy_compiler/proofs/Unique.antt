@@ -1,10 +1,10 @@
 -- A tree has one table, and branches have one start: nodes that stand for a same tree in two tables are walked over alike, and are the
 -- same.
 use Rattle.std.proofs.Common.{◌≡◌, ℕ, zero, suc, ◌+◌, ◌<◌, ◌≤◌, Bool, true, false, cond, not, ◌&&◌, ◌||◌, ◌==◌, List, [], ◌∷◌, ◌++◌, filter}
-use Rattle.std.specs.Prelude.{IsSomeAnd}
+use Rattle.std.proofs.Common.{IsSomeAnd, rules, find}
 use Rattle.std.proofs.Common.{length, get_or, refl, sym, ap, subst, ◌∙◌, arith, Option, Some, None, nat_le, nat_eq, slice_get, fold}
 use Rattle.std.proofs.Common.{Contains}
-use Rattle.std.specs.List.{list_all, find, cons_option, range_with_len}
+use Rattle.std.specs.List.{list_all, cons_option, range_with_len}
 use Rattle.std.specs.Option.{option_map_or, option_eq}
 use Rattle.std.proofs.lemmas.Bool.Decides.{Decides-eqb}
 use Rattle.std.proofs.lemmas.Option.{same_Some}
@@ -89,10 +89,7 @@ answers-pairs R a b (q ∷ qs) h = by_answers (answer a q) (answer b q) h.0 (ans
 others-alike : (R : ℕ → ℕ → Type 0) → TellsApart R → (a b : Answers) (o p : Option ℕ) (qs : List Point) → OptionPair R o p
     → AnswerPairs R a b qs → filter (λ q. not (option_eq nat_eq (answer a q) o)) qs ≡ filter (λ q. not (option_eq nat_eq (answer b q) p)) qs
 others-alike R one a b o p [] g h = refl
-others-alike R one a b o p (q ∷ qs) g h =
-    let here = same-pairs R one (answer a q) o (answer b q) p h.0 g in
-    let later = others-alike R one a b o p qs g h.2 in
-    λ k. cond (not (here k)) (q ∷ later k) (later k)
+others-alike R one a b o p (q ∷ qs) g h = search (rules, same-pairs, others-alike R one a b o p qs g h.2)
 
 module _ (u v : List Node) (tu : IsTable u) (tv : IsTable v) where
   -- they stand for a same tree, and the first is below k
@@ -117,10 +114,7 @@ module _ (u v : List Node) (tu : IsTable u) (tv : IsTable v) where
 
   first-there : (R : ℕ → ℕ → Type 0) (a b : Answers) (q : Point) (qs : List Point) → AnswerPairs R a b (q ∷ qs)
       → commonest (answers_to a (q ∷ qs)) ≡ None → ⊥
-  first-there R a b q qs h = by_answer (answer a q) h.1 where
-    by_answer : (o : Option ℕ) → IsThere o → commonest (cons_option o (answers_to a qs)) ≡ None → ⊥
-    by_answer None t e = t
-    by_answer (Some x) t e = commonest-there x (answers_to a qs) e
+  first-there R a b q qs h = search (rules, commonest-there)
 
   module _ (i : ℕ) (n m : Node) (one : TellsApart (AlikeBelow i)) (up : is_rising n.replies ≡ true) (up' : is_rising m.replies ≡ true) where
     fork-pair : (q : Point) (qs : List Point) → n.attack ≡ m.attack → IsBrief (answers_of n) (q ∷ qs) → IsBrief (answers_of m) (q ∷ qs)
@@ -183,12 +177,7 @@ module _ (u v : List Node) (tu : IsTable u) (tv : IsTable v) where
 
   module _ (du : AreDifferent u) (dv : AreDifferent v) where
     one-less : (k i : ℕ) → i ≤ k → TellsApart (AlikeBelow k) → TellsApart (AlikeBelow i)
-    one-less k i l one = record {
-      apart = λ x x' y y' h h'. one.apart x x' y y' (h.0, below-more x i k h.1 l)
-          (h'.0, below-more x' i k h'.1 l);
-    } where
-      below-more : (x i k : ℕ) → x < i → i ≤ k → x < k
-      below-more x i k a b = omega arith
+    one-less k i l one = search rules
 
     below : (x i k : ℕ) → x < i → i < suc k → x < k
     below x i k a b = omega arith
@@ -235,12 +224,7 @@ module _ (u v : List Node) (tu : IsTable u) (tv : IsTable v) where
           du.different i i' n'.0 (n.1 ∙ ap Some equal) n'.1
 
       apart-more : (i == i') ≡ (j == j')
-      apart-more = by_left (i == i') refl (j == j') refl where
-        by_left : (b : Bool) → (i == i') ≡ b → (c : Bool) → (j == j') ≡ c → b ≡ c
-        by_left true e true f = refl
-        by_left true e false f = sym ((Decides-eqb j j').1 (to-right ((Decides-eqb i i').0 e))) ∙ f
-        by_left false e true f = sym e ∙ (Decides-eqb i i').1 (to-left ((Decides-eqb j j').0 f))
-        by_left false e false f = refl
+      apart-more = search (rules, Decides-eqb, to-right, to-left)
 
     one-more : (k : ℕ) → TellsApart (AlikeBelow k) → TellsApart (AlikeBelow (suc k))
     one-more k one = record { apart = λ i i' j j' h h'. apart-more k one i i' j j' h.0 h.1 h'.0 h'.1 }

@@ -2,10 +2,10 @@
 -- The walks that complete nodes, step by step.
 use Rattle.std.proofs.Common.{◌≡◌, ℕ, zero, suc, ◌<◌, Bool, true, false, cond, not, ◌&&◌, ◌||◌, ◌==◌, List, [], ◌∷◌, ◌++◌, map, refl, sym}
 use Rattle.std.proofs.Common.{ap, subst, ◌∙◌, arith, Option, Some, None, nat_lt, slice_get, fold, Contains, ◌≢◌, ◌+◌, ◌≤◌, reverse, length}
-use Rattle.std.proofs.Common.{take, get_or, ◌⊎◌, inl, inr, length-append}
+use Rattle.std.proofs.Common.{get_or, ◌⊎◌, inl, inr, length-append, rules}
 use Rattle.std.specs.List.{list_all, find}
 use Rattle.std.specs.Option.{option_map_or}
-use Rattle.std.proofs.lemmas.Bool.Decides.{Decides-eqb, nat_tests}
+use Rattle.std.proofs.lemmas.Bool.Decides.{Decides-eqb}
 use Rattle.std.proofs.lemmas.List.Folds.{list_any-append, list_all-append}
 use borrow.Author.Tests.{ltb-true, lt-ltb}
 use Rattle.std.proofs.lemmas.Option.{slice_get_within, slice_get_read, same_Some}
@@ -26,38 +26,22 @@ use Rattle.strategy_compiler.proofs.Common.{IsBetween}
 -- ---- numbers among others
 
 pub among-push : (k i : ℕ) (js : List ℕ) → is_in_list k (js ++ i ∷ []) ≡ (is_in_list k js || (i == k))
-among-push k i js = list_any-append (λ j. j == k) js (i ∷ []) ∙ ap (λ (b : Bool). is_in_list k js || b) (or_false (i == k)) where
-  or_false : (b : Bool) → (b || false) ≡ b
-  or_false true = refl
-  or_false false = refl
+among-push k i js = search (rules, list_any-append)
 
 pub among-last : (i : ℕ) (js : List ℕ) → is_in_list i (js ++ i ∷ []) ≡ true
-among-last i js = among-push i i js ∙ by_test (is_in_list i js) (i == i) ((Decides-eqb i i).1 refl) where
-  by_test : (a b : Bool) → b ≡ true → (a || b) ≡ true
-  by_test true b h = refl
-  by_test false b h = h
+among-last i js = search (rules, among-push, Decides-eqb)
 
 pub among-kept : (k i : ℕ) (js : List ℕ) → is_in_list k js ≡ true → is_in_list k (js ++ i ∷ []) ≡ true
 among-kept k i js h = among-push k i js ∙ ap (λ (b : Bool). b || (i == k)) h
 
 pub among-other : (k i : ℕ) (js : List ℕ) → i < k → is_in_list k (js ++ i ∷ []) ≡ is_in_list k js
-among-other k i js l = among-push k i js ∙ by_test (is_in_list k js) (i == k) (apart i k l) where
-  apart : (i k : ℕ) → i < k → (i == k) ≡ false
-  apart i k l = grind (arith, nat_tests)
-
-  by_test : (a b : Bool) → b ≡ false → (a || b) ≡ a
-  by_test true b h = refl
-  by_test false b h = h
+among-other k i js l = search (rules, among-push)
 
 -- ---- what node i visits is below it
 
 -- what holds of the nodes that the answers name holds of those that they visit
 pub visits-pass : (passes : ℕ → Bool) (a : Answers) → list_all passes (named a) ≡ true → list_all passes (visits a) ≡ true
-visits-pass passes a h =
-    list_all-append passes (rest_nodes a.rest) (map (λ r. r.next) a.replies)
-    ∙ and_comm (list_all passes (rest_nodes a.rest)) (list_all passes (map (λ r. r.next) a.replies))
-    ∙ sym (list_all-append passes (map (λ r. r.next) a.replies) (rest_nodes a.rest))
-    ∙ h
+visits-pass passes a h = search (rules, list_all-append, and_comm)
 
 pub visits-below : (a : Answers) (k : ℕ) → names_below a k ≡ true → list_all (λ j. nat_lt j k) (visits a) ≡ true
 visits-below a k h = visits-pass (λ j. nat_lt j k) a h
@@ -76,8 +60,7 @@ module _ (t : List Node) (lower : NamesLower t) where
       → list_all (λ j. nat_lt j k) js ≡ true → fold f done js ≡ fold g done js
   fold-same f g k same [] done h = refl
   fold-same f g k same (j ∷ js) done h =
-      fold-same f g k same js (f done j) (and_right (nat_lt j k) _ h)
-      ∙ ap (λ (d : List ℕ). fold g d js) (same done j (ltb-true _ _ (and_left (nat_lt j k) _ h)))
+      search (rules, and_right, ltb-true, and_left, fold-same f g k same js (f done j) (and_right (nat_lt j k) _ h))
 
   pub within-enough : (f g : ℕ) (i : ℕ) (done : List ℕ) → i < f → i < g → completed_within f t done i ≡ completed_within g t done i
   unfolding completed_within
@@ -125,10 +108,7 @@ module _ (t : List Node) (lower : NamesLower t) where
   walked-kept k done i h = within-kept (suc i) k done i h
 
   pub walked-itself : (done : List ℕ) (i : ℕ) → is_in_list i (completed_after t done i) ≡ true
-  walked-itself done i = by_test (is_in_list i done) refl where
-    by_test : (b : Bool) → is_in_list i done ≡ b → is_in_list i (completed_after t done i) ≡ true
-    by_test true e = walked-kept i done i e
-    by_test false e = ap (is_in_list i) (walked-step done i e) ∙ among-last i (fold (completed_after t) done (visits_at t i))
+  walked-itself done i = search (rules, walked-kept, walked-step, among-last)
 
   fold-above : (f : List ℕ → ℕ → List ℕ) (k i : ℕ)
       → ((done : List ℕ) (j : ℕ) → j < i → is_in_list k done ≡ false → is_in_list k (f done j) ≡ false) → (js done : List ℕ)
@@ -161,9 +141,7 @@ module _ (t : List Node) (lower : NamesLower t) where
   -- each of several nodes is completed once walks from them end
   pub walks-itself : (js done : List ℕ) (j : ℕ) → Contains js j → is_in_list j (fold (completed_after t) done js) ≡ true
   walks-itself [] done j (k, l, e) = absurd (omega arith)
-  walks-itself (x ∷ xs) done j (zero, l, e) =
-      fold-kept (completed_after t) j (λ d i h. walked-kept j d i h) xs (completed_after t done x)
-      (subst (λ (k : ℕ). is_in_list k (completed_after t done x) ≡ true) e (walked-itself done x))
+  walks-itself (x ∷ xs) done j (zero, l, e) = search (rules, fold-kept, walked-kept, walked-itself)
   walks-itself (x ∷ xs) done j (suc k, l, e) = walks-itself xs (completed_after t done x) j (k, omega arith, e)
 
   -- ---- a walk by the first node that is not completed
@@ -171,39 +149,17 @@ module _ (t : List Node) (lower : NamesLower t) where
   fold-first : (js done : List ℕ) (c : ℕ) → find (λ j. not (is_in_list j done)) js ≡ Some c
       → fold (completed_after t) done js ≡ fold (completed_after t) (completed_after t done c) js
   fold-first [] done c h = cc
-  fold-first (j ∷ js) done c h = by_test (is_in_list j done) refl h (fold-first js done c) where
-    by_test : (b : Bool) → is_in_list j done ≡ b → cond (not b) (Some j) (find (λ j. not (is_in_list j done)) js) ≡ Some c
-        → (find (λ j. not (is_in_list j done)) js ≡ Some c
-        → fold (completed_after t) done js ≡ fold (completed_after t) (completed_after t done c) js)
-        → fold (completed_after t) (completed_after t done j) js ≡ fold (completed_after t) (completed_after t (completed_after t done c) j)
-        js
-    by_test true e h next =
-        ap (λ (d : List ℕ). fold (completed_after t) d js) (walked-done done j e)
-        ∙ next h
-        ∙ ap (λ (d : List ℕ). fold (completed_after t) d js) (sym (walked-done (completed_after t done c) j (walked-kept j done c e)))
-    by_test false e h next =
-        let same : j ≡ c = cc in
-        subst (λ (k : ℕ). fold (completed_after t) (completed_after t done j) js ≡ fold (completed_after t)
-        (completed_after t (completed_after t done k) j) js) same
-        (ap (λ (d : List ℕ). fold (completed_after t) d js) (sym (walked-done (completed_after t done j) j (walked-itself done j))))
+  fold-first (j ∷ js) done c h = search (rules, walked-done, walked-kept, walked-itself, fold-first js done c)
 
   -- a walk from node i begins with a walk from the first node that it visits and that is not completed
   pub walked-first : (done : List ℕ) (i c : ℕ) → is_in_list i done ≡ false → c < i
       → find (λ j. not (is_in_list j done)) (visits_at t i) ≡ Some c
       → completed_after t (completed_after t done c) i ≡ completed_after t done i
-  walked-first done i c h l first =
-      walked-step (completed_after t done c) i (walked-above i done c l h)
-      ∙ ap (λ (js : List ℕ). js ++ i ∷ []) (sym (fold-first (visits_at t i) done c first))
-      ∙ sym (walked-step done i h)
+  walked-first done i c h l first = search (rules, walked-step, walked-above, fold-first)
 
   fold-all : (js done : List ℕ) → find (λ j. not (is_in_list j done)) js ≡ None → fold (completed_after t) done js ≡ done
   fold-all [] done h = refl
-  fold-all (j ∷ js) done h = by_test (is_in_list j done) refl h (fold-all js done) where
-    by_test : (b : Bool) → is_in_list j done ≡ b → cond (not b) (Some j) (find (λ j. not (is_in_list j done)) js) ≡ None
-        → (find (λ j. not (is_in_list j done)) js ≡ None → fold (completed_after t) done js ≡ done)
-        → fold (completed_after t) (completed_after t done j) js ≡ done
-    by_test true e h next = ap (λ (d : List ℕ). fold (completed_after t) d js) (walked-done done j e) ∙ next h
-    by_test false e h next = cc
+  fold-all (j ∷ js) done h = search (rules, walked-done, fold-all js done)
 
   -- where all that it visits are completed, it is completed next
   pub walked-last : (done : List ℕ) (i : ℕ) → is_in_list i done ≡ false → find (λ j. not (is_in_list j done)) (visits_at t i) ≡ None
@@ -215,28 +171,14 @@ module _ (t : List Node) (lower : NamesLower t) where
 -- ---- flags
 
 or_no : (b : Bool) → (b || false) ≡ b
-or_no true = refl
-or_no false = refl
+or_no x0 = search rules
 
 pub unset-set : (flags : List Bool) (i : ℕ) → i < length flags → get_or flags i false ≡ false → unset (set flags i true) + 1 ≡ unset flags
-unset-set flags i l h =
-    let both : unset (set flags i true) + cond (get_or flags i false) 0 1 ≡ unset flags + 0 =
-    sum_by-set (λ (b : Bool). cond b 0 1) flags i true false l in
-    let was : cond (get_or flags i false) 0 1 ≡ suc 0 = ap (λ (b : Bool). cond b 0 1) h in
-    omega (arith, both, was)
+unset-set flags i l h = search (rules, sum_by-set)
 
 pub Flags-push : (flags : List Bool) (order : List ℕ) (i : ℕ) → i < length flags → Flags flags order
     → Flags (set flags i true) (order ++ i ∷ [])
-Flags-push flags order i l h = record { flagged = λ j. by_test (i == j) j refl } where
-  by_test : (b : Bool) (j : ℕ) → (i == j) ≡ b → get_or (set flags i true) j false ≡ is_in_list j (order ++ i ∷ [])
-  by_test true j e =
-      let same : i ≡ j = (Decides-eqb i j).0 e in
-      subst (λ (k : ℕ). get_or (set flags i true) k false ≡ is_in_list k (order ++ i ∷ [])) same
-      (get_or-set_same flags i true false l ∙ sym (among-last i order))
-  by_test false j e =
-      let other : j ≢ i = λ (s : j ≡ i). cc (e, (Decides-eqb i j).1 (sym s)) in
-      get_or-set_other flags i j true false other ∙ h.flagged j
-      ∙ sym (among-push j i order ∙ ap (λ (b : Bool). is_in_list j order || b) e ∙ or_no (is_in_list j order))
+Flags-push flags order i l h = search (rules, Decides-eqb, get_or-set_same, among-last, get_or-set_other, among-push, or_no)
 
 -- the first of these that has no flag is the first that is not in the list
 pub first-flags : (flags : List Bool) (order : List ℕ) (js : List ℕ) → Flags flags order
@@ -257,19 +199,12 @@ front (x ∷ xs) = x
 way-push : (t : List Node) (order xs : List ℕ) (x : ℕ) → list_all (λ y. nat_lt x y) xs ≡ true → IsWay t order xs
     → IsWay t (order ++ x ∷ []) xs
 way-push t order [] x l h = tt
-way-push t order (y ∷ ys) x l h = (
-  h.0,
-  among-other y x order (ltb-true _ _ (and_left (nat_lt x y) _ l))
-      ∙ h.1,
-  h.2,
-  way-push t order ys x (and_right (nat_lt x y) _ l) h.3,
-)
+way-push t order (y ∷ ys) x l h =
+    search (rules, among-other, ltb-true, and_left, and_right, way-push t order ys x (and_right (nat_lt x y) _ l) h.3)
 
 all_above : (c x : ℕ) (xs : List ℕ) → c < x → list_all (λ y. nat_lt x y) xs ≡ true → list_all (λ y. nat_lt c y) xs ≡ true
 all_above c x [] l h = refl
-all_above c x (y ∷ ys) l h =
-    let above : x < y = ltb-true _ _ (and_left (nat_lt x y) _ h) in
-    rw (lt-ltb c y (omega arith)) (all_above c x ys l (and_right (nat_lt x y) _ h))
+all_above c x (y ∷ ys) l h = search (rules, ltb-true, and_left, lt-ltb, and_right, all_above c x ys l (and_right (nat_lt x y) _ h))
 
 -- ---- what a number finds
 
@@ -330,33 +265,13 @@ module _ (t : List Node) (order : List ℕ) (x : ℕ) (is_order : IsOrder t orde
   not_before k e = cc (among-at order k x e, new)
 
   order-push : IsOrder t (order ++ x ∷ [])
-  order-push = record {
-    within = λ k i e. elim (at-push order x i k e) [ inl h ↦ is_order.within k i h | inr h ↦ subst (λ (y : ℕ). y < length t) h.1 inside ];
-    once = λ k l i e f. both k l i (at-push order x i k e) (at-push order x i l f);
-    after_named = λ k i j n e f c. elim (at-push order x i k e) [
-      | inl h ↦ rw (take-append-le k order (x ∷ []) (le_of_lt k (length order) (slice_get_within order k i h)))
-          (is_order.after_named k i j n h f c)
-      | inr h ↦ subst (λ (m : ℕ). is_in_list j (take m (order ++ x ∷ [])) ≡ true) (sym h.0)
-          (rw (take-append_seam order (x ∷ [])) (named_before n j (subst (λ (y : ℕ). slice_get t y ≡ Some n) (sym h.1) f) c))
-    ];
-    short = room;
-  } where
-    both : (k l i : ℕ) → (slice_get order k ≡ Some i) ⊎ ((k ≡ length order) × (x ≡ i))
-        → (slice_get order l ≡ Some i) ⊎ ((l ≡ length order) × (x ≡ i)) → k ≡ l
-    both k l i (inl e) (inl f) = is_order.once k l i e f
-    both k l i (inl e) (inr f) = absurd (not_before k (e ∙ ap Some (sym f.1)))
-    both k l i (inr e) (inl f) = absurd (not_before l (f ∙ ap Some (sym e.1)))
-    both k l i (inr e) (inr f) = e.0 ∙ sym f.0
+  order-push = search (rules, at-push, take-append-le, le_of_lt, slice_get_within, take-append_seam, not_before)
 
 -- ---- the walk
 
 found-not : (p : ℕ → Bool) (js : List ℕ) (c : ℕ) → find (λ j. not (p j)) js ≡ Some c → p c ≡ false
 found-not p [] c h = cc
-found-not p (j ∷ js) c h = by_test (p j) refl h (found-not p js c) where
-  by_test : (b : Bool) → p j ≡ b → cond (not b) (Some j) (find (λ j. not (p j)) js) ≡ Some c
-      → (find (λ j. not (p j)) js ≡ Some c → p c ≡ false) → p c ≡ false
-  by_test true e h next = next h
-  by_test false e h next = let same : j ≡ c = cc in subst (λ (k : ℕ). p k ≡ false) same e
+found-not p (j ∷ js) c h = search (rules, found-not p js c)
 
 pub lt_trans : (a b c : ℕ) → a < b → b < c → a < c
 lt_trans a b c h k = omega arith
@@ -502,10 +417,7 @@ module _ (t : List Node) (whole : List ℕ) (flags : List Bool) (order path befo
 pub path-start : (t : List Node) (flags : List Bool) (order : List ℕ) (root : ℕ) (empty path : List ℕ) → IsBetween t order flags
     → root < length t → get_or flags root false ≡ false → empty ≡ [] → path ≡ empty ++ root ∷ []
     → IsWalk t (completed_after t order root) flags order (reverse path)
-path-start t flags order root empty path between l unset e p =
-    subst (IsWalk t (completed_after t order root) flags order)
-    (sym (way-last path empty root p ∙ ap (λ (xs : List ℕ). root ∷ reverse xs) e))
-    (walk-start t (completed_after t order root) flags order root between l (sym (between.flags_are.flagged root) ∙ unset) refl)
+path-start t flags order root empty path between l unset e p = search (rules, way-last, walk-start)
 
 -- a walk from a root that is completed
 pub path-none : (t : List Node) (flags : List Bool) (order : List ℕ) (root : ℕ) → NamesLower t → IsBetween t order flags
