@@ -55,7 +55,7 @@ finite-total [] = omega (arith, finite-le 0)
 finite-total (x ∷ xs) = omega (arith, finite-plus x (total xs), finite-total xs)
 
 pub finite-combined : (k kind : Kind) (ns : List Numbers) → finite (sought k (combined kind ns)) ≤ finite_sum (map (sought k) ns)
-finite-combined x0 x1 ns = search (rules, finite-least, finite-total)
+finite-combined k kind ns = search (rules, finite-least, finite-total)
 
 plus-grouped : (s y t : ℕ) → s + y + finite t < INFINITE → plus s (plus y t) ≡ plus (s + y) t
 plus-grouped s y t h = search (rules, cases_eq, plus-infinite_right, finite-below, plus-finite)
@@ -87,7 +87,7 @@ Pair a d = ((a ≡ 0) × (d ≡ INFINITE)) ⊎ (((a ≡ INFINITE) × (d ≡ 0)) 
 
 pair-swap : (a d : ℕ) → Pair a d → Pair d a
 unfolding Pair
-pair-swap a d x2 = search rules
+pair-swap a d h = search rules
 
 pub settled-pair : (p d : ℕ) → is_settled (record { proof = p; disproof = d }) ≡ true
     → ((p ≡ 0) × (d ≡ INFINITE)) ⊎ ((p ≡ INFINITE) × (d ≡ 0))
@@ -95,21 +95,21 @@ settled-pair p d h = grind (arith, nat_tests)
 
 AreNumbers-pair : (n : Numbers) → AreNumbers n → Pair n.proof n.disproof
 unfolding Pair
-AreNumbers-pair n x1 = search (rules, settled-pair)
+AreNumbers-pair n h = search (rules, settled-pair)
 
 sought-pair : (k : Kind) (n : Numbers) → AreNumbers n → Pair (sought k n) (sought (other_kind k) n)
-sought-pair x0 n h = search (rules, AreNumbers-pair, pair-swap)
+sought-pair k n h = search (rules, AreNumbers-pair, pair-swap)
 
 pair-settled : (p d : ℕ) → ((p ≡ 0) × (d ≡ INFINITE)) ⊎ ((p ≡ INFINITE) × (d ≡ 0)) → is_settled (record { proof = p; disproof = d }) ≡ true
 pair-settled p d h = grind (arith, nat_tests)
 
 pair-AreNumbers : (n : Numbers) → Pair n.proof n.disproof → AreNumbers n
 unfolding Pair
-pair-AreNumbers n x1 = search (rules, pair-settled)
+pair-AreNumbers n h = search (rules, pair-settled)
 
 pair-step : (a d p t : ℕ) → Pair a d → Pair p t → finite d + finite t < INFINITE → Pair (min a p) (plus d t)
 unfolding Pair
-pair-step a d p t x4 y h = grind (arith, plus-infinite_left, plus-infinite_right, plus-finite, finite-below)
+pair-step a d p t k y h = grind (arith, plus-infinite_left, plus-infinite_right, plus-finite, finite-below)
 
 lost-pair : Pair INFINITE 0
 unfolding Pair

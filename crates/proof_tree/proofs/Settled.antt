@@ -75,10 +75,10 @@ pub settled-one : (n : Numbers) → is_settled n ≡ true → (n ≡ settled_num
 settled-one n s = search (rules, or_cases, Decides-eqb, and_parts)
 
 pub settled-proved : (n : Numbers) → AreNumbers n → n.proof ≡ 0 → n ≡ settled_numbers true
-settled-proved n x1 none = search (rules, settled-one)
+settled-proved n h none = search (rules, settled-one)
 
 pub settled-disproved : (n : Numbers) → AreNumbers n → n.disproof ≡ 0 → n ≡ settled_numbers false
-settled-disproved n x1 none = search (rules, settled-one)
+settled-disproved n h none = search (rules, settled-one)
 
 -- the numbers of the k-th child
 -- settled numbers by their proof number
@@ -93,4 +93,4 @@ pub proved-child : (t : Tree) (i : ℕ) → IsTree t → i < length t.links → 
 proved-child t i ok inside some kind proved = grind (arith, least-zero, length-take, length-drop, child-number)
 
 pub settled-test : (p : Bool) → is_settled (settled_numbers p) ≡ true
-settled-test x0 = search rules
+settled-test p = search rules

@@ -60,7 +60,7 @@ abbrev pub IsFresh : Numbers → Type 0
 IsFresh n = (n ≡ record { proof = 1; disproof = 1 }) ⊎ (n ≡ settled_numbers true)
 
 fresh-low : (kind : Kind) (n : Numbers) → IsFresh n → finite (sought kind n) ≤ 1
-fresh-low x0 n x2 = search rules
+fresh-low kind n h = search rules
 
 -- the numbers that either player seeks add up to no more than there are children
 pub fresh-sum : (kind : Kind) (more : List Numbers) → All IsFresh more → finite_sum (map (sought kind) more) ≤ length more
@@ -68,7 +68,7 @@ fresh-sum kind [] h = omega arith
 fresh-sum kind (n ∷ more) h = search (rules, fresh-low, All-head, All-tail, fresh-sum kind more (All-tail IsFresh n more h))
 
 fresh-are : (n : Numbers) → IsFresh n → AreNumbers n
-fresh-are n x1 = search rules
+fresh-are n h = search rules
 
 pub fresh-numbers : (more : List Numbers) → All IsFresh more → All AreNumbers more
 fresh-numbers more h = All-weaker IsFresh AreNumbers fresh-are more h

@@ -33,16 +33,16 @@ least-place f (n ∷ ns) m e h =
     ]
 
 sought-combined : (k : Kind) (ns : List Numbers) → sought k (combined k ns) ≡ least (map (sought k) ns)
-sought-combined x0 ns = search rules
+sought-combined k ns = search rules
 
 sought-open : (k : Kind) (n : Numbers) → IsOpen n → (0 < sought k n) × (sought k n < INFINITE)
-sought-open x0 n o = search rules
+sought-open k n o = search rules
 
 not-settled : (k : Kind) (n : Numbers) → 0 < sought k n → sought k n < INFINITE → is_settled n ≡ true → ⊥
-not-settled x0 n a b s = search rules
+not-settled k n a b s = search rules
 
 open-again : (k : Kind) (n : Numbers) → AreNumbers n → 0 < sought k n → sought k n < INFINITE → IsOpen n
-open-again k n x2 a b = search (rules, not-settled)
+open-again k n h a b = search (rules, not-settled)
 
 -- the child that is chosen at an open node
 pub record IsChosen (t : Tree) (i : ℕ) : Type 0 where

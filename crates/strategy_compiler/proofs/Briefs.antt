@@ -36,7 +36,7 @@ use Rattle.indexmap.specs.IndexSet.{insert_key}
 
 put_by : (old : List Node) (n : Node) (new : List Node) (b : Bool) → list_any (node_ghosts.eq n) old ≡ b → new ≡ cond b old (old ++ n ∷ [])
     → PutsIn old n new
-put_by old n new x3 e h = search (rules, Contains-found, list_any-Contains)
+put_by old n new b e h = search (rules, Contains-found, list_any-Contains)
 
 pub PutsIn-insert_key : (old : List Node) (n : Node) (new : List Node) → new ≡ insert_key node_ghosts.eq old n → PutsIn old n new
 PutsIn-insert_key old n new h = put_by old n new (list_any (node_ghosts.eq n) old) refl h
@@ -68,10 +68,10 @@ found_passes p q [] j h e = cc
 found_passes p q (k ∷ ks) j h e = search (rules, and_right, and_left, found_passes p q ks j (and_right (p k) _ h))
 
 all-rest : (p : ℕ → Bool) (o : Option ℕ) → ((j : ℕ) → o ≡ Some j → p j ≡ true) → list_all p (rest_nodes (rest_of o)) ≡ true
-all-rest p x1 h = search rules
+all-rest p o h = search rules
 
 not_winning : (o : Option ℕ) → is_winning (rest_of o) ≡ false
-not_winning x0 = search rules
+not_winning o = search rules
 
 -- what holds of each node that answers holds of each that the answers in brief name
 pub brief-named : (p : ℕ → Bool) (rs : List Reply) → list_all p (map (λ r. r.next) rs) ≡ true → list_all p (named (brief_answers rs)) ≡ true
@@ -95,13 +95,13 @@ IsNode-answering attack rs k rising below = record {
 -- ---- the answer to each reply
 
 rest_node-of : (o : Option ℕ) → rest_node (rest_of o) ≡ o
-rest_node-of x0 = search rules
+rest_node-of o = search rules
 
 equal_option : (j : ℕ) (o : Option ℕ) → option_eq nat_eq (Some j) o ≡ true → o ≡ Some j
-equal_option j x1 h = search (rules, Decides-eqb)
+equal_option j o h = search (rules, Decides-eqb)
 
 answer_by : (o : Option ℕ) (j : ℕ) (b : Bool) → option_eq nat_eq (Some j) o ≡ b → option_or (cond (not b) (Some j) None) o ≡ Some j
-answer_by o j x2 h = search (rules, equal_option)
+answer_by o j b h = search (rules, equal_option)
 
 as_given : (a : Answers) (o : Option ℕ) (rs ss : List Reply) → a.replies ≡ answers_beside o rs → rest_node a.rest ≡ o
     → AllByRecursion (Kept (λ r. not (option_eq nat_eq (Some r.next) o)) rs) ss → AnsweredAsGiven a ss
@@ -189,7 +189,7 @@ names-only attack rs = search (rules, points-kept)
 -- ---- what a call answers
 
 IfOk-both : {T E : Type 0} (r : Result T E) (P Q : T → Type 0) (W : Type 0) → ((x : T) → P x → W → Q x) → IfOk r P → OnOk r W → IfOk r Q
-IfOk-both x0 x1 x2 x3 f h k = search rules
+IfOk-both r P Q W f h k = search rules
 
 module _ {E : Type 0} (old new : List Node) (r : Result ℕ E) (attack : Point) where
   pub answered-stands : (rs : List Reply) (n : Node) → n ≡ answering_node attack rs → is_rising rs ≡ true
@@ -265,7 +265,7 @@ module _ (f : ℕ → ℕ) (js : List ℕ) (best : Option ℕ) (most j : ℕ) (s
   best-greater h = search (rules, none_above, find-push_none, le-leb, greatest-push)
 
   keep_by : (o : Option ℕ) → best ≡ o → 0 < most → first_with f most (js ++ j ∷ []) ≡ best
-  keep_by x0 e l = search (rules, find-push_some)
+  keep_by o e l = search (rules, find-push_some)
 
   -- with one that is no greater, and not 0
   pub best-kept : f j ≤ most → 1 ≤ f j → IsBestSoFar f (js ++ j ∷ []) best most
@@ -336,7 +336,7 @@ module _ (answers : List Reply) (i : ℕ) (d : Reply) (best : Option ℕ) (most 
       (omega arith) low))
 
 pub equal_best : (o : Option ℕ) (j : ℕ) → option_eq nat_eq o (Some j) ≡ true → o ≡ Some j
-equal_best x0 j h = search (rules, Decides-eqb)
+equal_best o j h = search (rules, Decides-eqb)
 
 -- an answer that is the best already
 pub commonest-again : (answers : List Reply) (i : ℕ) (d : Reply) (best : Option ℕ) (most : ℕ)

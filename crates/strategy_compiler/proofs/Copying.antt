@@ -70,7 +70,7 @@ module _ (f : ℕ → ℕ) (passes : ℕ → Bool) (one : IsOneToOne f passes) w
     -- whether an answer is that of the rest
     same-renumbered : (o r : Option ℕ) → ((j : ℕ) → r ≡ Some j → passes j ≡ true)
         → option_eq nat_eq (option_map f o) (option_map f r) ≡ option_eq nat_eq o r
-    same-renumbered x0 x1 g = search rules
+    same-renumbered o r g = search rules
 
     beside-renumbered : (q : Point) → not (option_eq nat_eq (answer (renumbered_answers f a) q) (rest_node (renumbered_rest f a.rest)))
         ≡ not (option_eq nat_eq (answer a q) (rest_node a.rest))
@@ -157,7 +157,7 @@ module _ (f : ℕ → ℕ) (passes : ℕ → Bool) (one : IsOneToOne f passes) w
 
     answered-copied : (o : Option ℕ) (P Q : ℕ → Type 0) → ((j : ℕ) → o ≡ Some j → P j → Q (f j)) → IsSomeAnd o P
         → IsSomeAnd (option_map f o) Q
-    answered-copied x0 x1 x2 g h = search rules
+    answered-copied o P Q g h = search rules
 
     -- they stand for the same trees
     mutual

@@ -65,7 +65,7 @@ alone-deep t answers = ap (λ (js : List ℕ). greatest (map (depth t) js)) (app
 
 reach-cases : (t : List Node) (i k : ℕ) → Reaches t i k
     → (i ≡ k) ⊎ ((j : ℕ) × (n : Node) × (slice_get t i ≡ Some n) × Contains (named (answers_of n)) j × Reaches t j k)
-reach-cases t x1 x2 x3 = search rules
+reach-cases t i k h = search rules
 
 -- a node whose names stay on the board does so too
 pub stays-by : (b : Grid) (t : List Node) (i : ℕ) (n : Node) → slice_get t i ≡ Some n → NamesOnBoard b n
@@ -109,7 +109,7 @@ module _ (P : ℕ → Type 0) (a : Answers) where
 
   rest-named : (r : Rest) (js : List ℕ) → rest_node r ≡ commonest js → ((j : ℕ) → commonest js ≡ Some j → P j)
       → AllByRecursion P (rest_nodes r)
-  rest-named x0 js e h = search rules
+  rest-named r js e h = search rules
 
   -- what holds of each answer to one of these replies holds of each node that is named
   pub briefly-named : (qs : List Point) → is_rising a.replies ≡ true → AnswersBriefly a qs

@@ -401,7 +401,7 @@ module _ (t : List Node) (root : ℕ) (u : List Node) (lower : NamesLower t)
   root-made = subst (IsMadeOf t root u) root-last (made.each_root root (0, omega arith, refl))
 
   only : (i : ℕ) → Contains (root ∷ []) i → root ≡ i
-  only i x1 = search rules
+  only i h = search rules
 
   pub one-nodes : Renumbers t (completed t root) u
   one-nodes = subst (λ (o : List ℕ). Renumbers t o u) walk-is made.nodes

@@ -39,7 +39,7 @@ module _ (t : List Node) where
   ]
 
   either : (a b : Bool) → (a || b) ≡ true → (a ≡ true) ⊎ (b ≡ true)
-  either x0 b h = search rules
+  either a b h = search rules
 
   within-reached : (f k : ℕ) (done : List ℕ) (i : ℕ) → is_in_list k (completed_within f t done i) ≡ true
       → (is_in_list k done ≡ true) ⊎ Reaches t i k
@@ -94,7 +94,7 @@ growth_keeps-reach t more lower i k l = (reaches-shorter t more lower i k l, rea
 
 AtNode-from : (o p : Option Node) (P Q : Node → Type 0) → ((n : Node) → o ≡ Some n → p ≡ Some n) → ((n : Node) → P n → Q n) → AtNode o P
     → AtNode p Q
-AtNode-from x0 p x2 x3 f g h = search rules
+AtNode-from o p P Q f g h = search rules
 
 mutual
   unfolding StandsFor
@@ -130,7 +130,7 @@ tree_attack (Fork p bs) = p
 pub tree-attack : (t : List Node) (i : ℕ) (tree : Tree) → StandsFor t i tree
     → option_map (λ n. n.attack) (slice_get t i) ≡ Some (tree_attack tree)
 unfolding StandsFor tree_attack
-tree-attack t i x2 h = search (rules, attack_at)
+tree-attack t i tree h = search (rules, attack_at)
 
 pub at_fork : (t : List Node) (i : ℕ) (p : Point) (bs : Branches) → StandsFor t i (Fork p bs)
     → (n : Node) × (slice_get t i ≡ Some n) × StandsForAll t (answers_of n) bs

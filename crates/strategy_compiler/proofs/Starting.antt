@@ -55,7 +55,7 @@ answer-contained a q j e = in-list-contains (named a) j (answer-named (λ k. is_
 -- ---- answers in brief, and alone
 
 or_none : (o : Option ℕ) → option_or o None ≡ o
-or_none x0 = search rules
+or_none o = search rules
 
 module _ (answers : List Reply) (rising : is_rising answers ≡ true) where
   -- the nodes that the answers in brief name are those that answer

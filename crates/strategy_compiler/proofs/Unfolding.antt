@@ -40,7 +40,7 @@ module _ (f : ℕ → ℕ) (passes : ℕ → Bool) (at at' : ℕ → Unfolded) (
   replies-copied (r ∷ rs) h = search (rules, and_left, and_right, replies-copied rs (and_right (passes r.next) _ h))
 
   rest-copied : (r : Rest) → list_all passes (rest_nodes r) ≡ true → unfolded_rest at' (renumbered_rest f r) ≡ unfolded_rest at r
-  rest-copied x0 h = search (rules, and_left)
+  rest-copied r h = search (rules, and_left)
 
   node-copied : (n : Node) → list_all passes (named (answers_of n)) ≡ true
       → unfolded_node at' (Some (renumbered_node f n)) ≡ unfolded_node at (Some n)
@@ -150,7 +150,7 @@ module _ (at : ℕ → Unfolded) (p : ℕ → Bool) (one : (j k : ℕ) → p j �
 
   rests-apart : (r s : Rest) → list_all p (rest_nodes r) ≡ true → list_all p (rest_nodes s) ≡ true
       → unfolded_rest at r ≡ unfolded_rest at s → r ≡ s
-  rests-apart x0 x1 h k e = search (rules, and_left)
+  rests-apart r s h k e = search (rules, and_left)
 
   nodes-apart : (n m : Node) → list_all p (named (answers_of n)) ≡ true → list_all p (named (answers_of m)) ≡ true
       → unfolded_node at (Some n) ≡ unfolded_node at (Some m) → n ≡ m

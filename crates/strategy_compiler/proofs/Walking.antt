@@ -171,7 +171,7 @@ module _ (t : List Node) (lower : NamesLower t) where
 -- ---- flags
 
 or_no : (b : Bool) → (b || false) ≡ b
-or_no x0 = search rules
+or_no b = search rules
 
 pub unset-set : (flags : List Bool) (i : ℕ) → i < length flags → get_or flags i false ≡ false → unset (set flags i true) + 1 ≡ unset flags
 unset-set flags i l h = search (rules, sum_by-set)
