@@ -1,10 +1,10 @@
 -- What the shapes of a point tell of Black's foul there, where Black has fouls.
 use Rattle.std.proofs.Common.{ℕ, zero, suc, ◌+◌, ◌*◌, Bool, cond, ◌≡◌, ◌%◌, true, false, arith, ◌/◌, ◌<◌, sym, ap, ◌∙◌, ◌^◌, ◌≤◌, not, List}
-use Rattle.std.proofs.Common.{refl, nat_eq, nat_le, bit_and}
+use Rattle.std.proofs.Common.{refl, nat_eq, nat_le}
 use Rattle.std.specs.Int.{bit_at}
 use Rattle.std.specs.List.{sum_by, range_with_len, list_any, count_by}
 use Rattle.std.specs.Prelude.{Some, None, map}
-use Rattle.std.proofs.lemmas.Nat.Bits.{bit_at_lowest, bit_at-suc, bit_at-zero, shr_and_one}
+use Rattle.std.proofs.lemmas.Nat.Bits.{bit_at_lowest, bit_at-suc}
 use Rattle.std.proofs.lemmas.Bool.Decides.{nat_tests}
 use Rattle.game_rules.proofs.Common.{Grid, IsBoard, is_empty, holds, put, axes, along, run_of, fours_of, is_line_three_at, has_fouls}
 use Rattle.game_rules.proofs.Common.{first_foul, is_three, stone_foul, black_foul}
@@ -12,7 +12,7 @@ use Rattle.game_rules.specs.declared.RuleKind.{RuleKind}
 use Rattle.game_rules.specs.declared.Axis.{Axis}
 use Rattle.game_rules.specs.declared.Point.{Point}
 use Rattle.game_rules.specs.declared.Side.TheVariants.{Black}
-use Rattle.game_rules.specs.declared.Foul.TheVariants.{Overline, DoubleFour, DoubleThree}
+use Rattle.game_rules.specs.declared.Foul.TheVariants.{Overline, DoubleFour}
 use Rattle.game_rules.specs.declared.Axis.TheVariants.{Row, Column, Down, Up}
 use Rattle.game_rules.proofs.Boards.{is_empty-on, holds-put_same}
 use Rattle.game_rules.proofs.Positions.{IsBoard-put}
@@ -23,7 +23,7 @@ use Rattle.row_shapes.specs.LineCodes.{line_code}
 use Rattle.row_shapes.specs.LineShapes.{shape_of, shape_at, three_bits, IsShape}
 use Rattle.row_shapes.proofs.CodeDigits.{reach_five, told_shape}
 use Rattle.foul_judge.specs.ShortCut.{has_line_three}
-use Rattle.foul_judge.proofs.ThreePlaces.{foul-step, no_three, not_free}
+use Rattle.foul_judge.proofs.ThreePlaces.{foul-step}
 use Rattle.foul_judge.proofs.MayFoul.{no_two_threes, line_by_bits}
 
 -- the number whose bits from a on a test tells, shifted down
@@ -109,20 +109,6 @@ module _ (rule : RuleKind) (b : Grid) (d : Axis) (p : Point) where
   pub three_bits-some : not (nat_eq (three_bits rule b Black d p) 0) ≡ has_line_three rule b d p
   three_bits-some = line_by_bits rule b p d (three_bits rule b Black d p) (rw three_bits-is (halved-low three_at)) three_bit
 
-  -- where there is none, the axis is no three
-  pub no_bits : IsBoard b → holds b Black p ≡ true → three_bits rule b Black d p ≡ 0 → is_three rule b d p (black_foul rule b) ≡ false
-  no_bits ok mine none = no_three rule b d p ok mine
-      (λ i low. not_free rule b d p (along d p i 5)
-      (clear (three_at i) (sym (three_bit i low) ∙ ap (λ n. bit_at n i) none ∙ bit_at-zero i))) where
-        clear : (r : Bool) → ◌≡◌ {A = ℕ} (cond r 1 0) 0 → r ≡ false
-        clear true h = absurd (omega arith)
-        clear false h = refl
-
--- a bit that is set says yes
-pub bit_sets : (n i : ℕ) (r : Bool) → bit_at n i ≡ cond r 1 0 → bit_and (n / 2 ^ i) 1 ≡ 1 → r ≡ true
-bit_sets n i true e h = refl
-bit_sets n i false e h = absurd (let one : ◌≡◌ {A = ℕ} 1 0 = sym h ∙ shr_and_one n i ∙ e in omega arith)
-
 module _ (rule : RuleKind) (b : Grid) (p : Point) (ok : IsBoard b) (empty : is_empty b p ≡ true) (fouls : has_fouls rule Black ≡ true) where
   abbrev next : Grid
   next = put b Black p
@@ -156,9 +142,6 @@ module _ (rule : RuleKind) (b : Grid) (p : Point) (ok : IsBoard b) (empty : is_e
   two = nat_le 2 (count_by (λ d. is_three rule next d p (black_foul rule next)) axes)
 
   module _ (shapes : List Shape) (are : shapes ≡ map told axes) where
-    pub threes_told : map (λ (shape : Shape). shape.three) shapes ≡ map (λ d. three_bits rule next Black d p) axes
-    threes_told = rw (are, three_told Row, three_told Column, three_told Down, three_told Up) refl
-
     fives : list_any (λ (shape : Shape). shape.five) shapes ≡ list_any (λ d. nat_eq (run_of next Black d p) 5) axes
     fives = rw (are, five_told Row, five_told Column, five_told Down, five_told Up) refl
 
@@ -191,9 +174,6 @@ module _ (rule : RuleKind) (b : Grid) (p : Point) (ok : IsBoard b) (empty : is_e
         → three ≡ two → black_foul rule b p ≡ first_foul five over four three
     foul_by five over four three e f g h = foul_is ∙ rw (← e, ← f, ← g, ← h) refl
 
-    pub by_five : (five : Bool) → five ≡ list_any (λ (shape : Shape). shape.five) shapes → five ≡ true → black_foul rule b p ≡ None
-    by_five five e is = foul_by five _ _ _ e refl refl refl ∙ rw is refl
-
     pub by_over : (five over : Bool) → five ≡ list_any (λ (shape : Shape). shape.five) shapes
         → over ≡ list_any (λ (shape : Shape). shape.over) shapes → five ≡ false → over ≡ true → black_foul rule b p ≡ Some Overline
     by_over five over e f not_five is = foul_by five over _ _ e f refl refl ∙ rw (not_five, is) refl
@@ -208,12 +188,6 @@ module _ (rule : RuleKind) (b : Grid) (p : Point) (ok : IsBoard b) (empty : is_e
         → over ≡ list_any (λ (shape : Shape). shape.over) shapes → n ≡ sum_by (λ (shape : Shape). shape.fours) shapes → five ≡ false
         → over ≡ false → 2 ≤ n → black_foul rule b p ≡ Some DoubleFour
     by_fours five over n e f g not_five not_over low = foul_by five over true _ e f (enough n _ g low) refl ∙ rw (not_five, not_over) refl
-
-    pub by_threes : (five over : Bool) (n : ℕ) (three : Bool) → five ≡ list_any (λ (shape : Shape). shape.five) shapes
-        → over ≡ list_any (λ (shape : Shape). shape.over) shapes → n ≡ sum_by (λ (shape : Shape). shape.fours) shapes → three ≡ two
-        → five ≡ false → over ≡ false → n < 2 → three ≡ true → black_foul rule b p ≡ Some DoubleThree
-    by_threes five over n three e f g h not_five not_over low is =
-        foul_by five over false three e f (few n _ g low) h ∙ rw (not_five, not_over, is) refl
 
     pub by_none : (five over : Bool) (n : ℕ) (three : Bool) → five ≡ list_any (λ (shape : Shape). shape.five) shapes
         → over ≡ list_any (λ (shape : Shape). shape.over) shapes → n ≡ sum_by (λ (shape : Shape). shape.fours) shapes → three ≡ two

@@ -1,14 +1,14 @@
 -- The codes of lines.
 use Rattle.std.proofs.Common.{◌≡◌, ℕ, zero, suc, ◌+◌, ◌-◌, ◌*◌, ◌^◌, ◌≤◌, ◌<◌, Bool, true, false, cond, refl, sym, ap, ◌∙◌, arith, nat_lt}
-use Rattle.std.proofs.Common.{drop, ◌⊎◌, inl, inr, List, [], ◌∷◌, ◌≢◌, ◌&&◌}
+use Rattle.std.proofs.Common.{drop, ◌⊎◌, inl, inr, [], ◌∷◌, ◌≢◌, ◌&&◌}
 use Rattle.std.specs.Prelude.{Option, Some, None, map}
-use Rattle.game_rules.proofs.Common.{Grid, is_on, along, IsBoard, is_empty, put, has_fouls, row_wins, run_of, wins_on, fours_of}
+use Rattle.game_rules.proofs.Common.{Grid, is_on, along, IsBoard, is_empty, put, has_fouls, row_wins, run_of, wins_on}
 use Rattle.game_rules.specs.declared.Side.{Side}
 use Rattle.game_rules.specs.declared.Point.{Point}
 use Rattle.game_rules.specs.declared.RuleKind.{RuleKind}
 use Rattle.game_rules.specs.declared.Axis.{Axis}
 use Rattle.game_rules.specs.declared.RuleKind.TheVariants.{Freestyle, Exact, Renju}
-use Rattle.game_rules.specs.declared.Side.TheVariants.{Black, White}
+use Rattle.game_rules.specs.declared.Side.TheVariants.{Black}
 use Rattle.stone_board.specs.Steps.{kept_on}
 use Rattle.row_shapes.specs.LineCodes.{digit_at, from_digits, places_beside, line_code}
 use Rattle.row_shapes.specs.Rule.{reach_of}
@@ -126,13 +126,6 @@ reach_five Freestyle f = cc
 reach_five Exact f = cc
 reach_five Renju f = refl
 
--- a shape reaches four neighbours or five
-pub reach_cases : (rule : RuleKind) (s : Side) → (reach_of rule s ≡ 4) ⊎ (reach_of rule s ≡ 5)
-reach_cases Freestyle s = inl refl
-reach_cases Exact s = inr refl
-reach_cases Renju Black = inr refl
-reach_cases Renju White = inl refl
-
 -- a number of digits below 3 is below the power of their number
 digits_low : (f : ℕ → ℕ) → ((i : ℕ) → f i < 3) → (r : ℕ) → (r ≡ 4) ⊎ (r ≡ 5) → from_digits (map f (places_beside r)) < 3 ^ (2 * r)
 digits_low f h r (inl four) = rw four (omega (arith, h 0, h 1, h 2, h 3, h 5, h 6, h 7, h 8))
@@ -141,47 +134,6 @@ digits_low f h r (inr five) = rw five (omega (arith, h 0, h 1, h 2, h 3, h 4, h 
 pub code_low : (b : Grid) (s : Side) (d : Axis) (q : Point) (r : ℕ) → (r ≡ 4) ⊎ (r ≡ 5) → line_code r b s d q < 3 ^ (2 * r)
 unfolding line_code
 code_low b s d q r reach = digits_low (λ i. digit_at b s (along d q i r)) (λ i. digit_low b s (along d q i r)) r reach
-
-pub code_bound : (rule : RuleKind) (b : Grid) (s : Side) (d : Axis) (p : Point)
-    → line_code (reach_of rule s) b s d p < 3 ^ (2 * reach_of rule s)
-code_bound rule b s d p = code_low b s d p (reach_of rule s) (reach_cases rule s)
-
-pub from_digits-sum : (f g e : ℕ → ℕ) → ((i : ℕ) → g i ≡ f i + e i) → (xs : List ℕ)
-    → from_digits (map g xs) ≡ from_digits (map f xs) + from_digits (map e xs)
-from_digits-sum f g e h [] = refl
-from_digits-sum f g e h (x ∷ xs) = let here = h x in let rest = from_digits-sum f g e h xs in omega arith
-
--- the same digits make the same number, whatever stands in the middle
-pub digits_same : (f g : ℕ → ℕ) (r : ℕ) → (r ≡ 4) ⊎ (r ≡ 5) → ((i : ℕ) → i ≤ 2 * r → i ≢ r → g i ≡ f i)
-    → from_digits (map g (places_beside r)) ≡ from_digits (map f (places_beside r))
-digits_same f g r (inl four) h =
-    let same : (i : ℕ) → i ≤ 8 → i ≢ 4 → g i ≡ f i = λ i low other. h i (omega arith) (λ e. other (e ∙ four)) in
-    rw (
-      four,
-      same 0 (omega arith) (λ e. absurd (omega arith)),
-      same 1 (omega arith) (λ e. absurd (omega arith)),
-      same 2 (omega arith) (λ e. absurd (omega arith)),
-      same 3 (omega arith) (λ e. absurd (omega arith)),
-      same 5 (omega arith) (λ e. absurd (omega arith)),
-      same 6 (omega arith) (λ e. absurd (omega arith)),
-      same 7 (omega arith) (λ e. absurd (omega arith)),
-      same 8 (omega arith) (λ e. absurd (omega arith)),
-    ) refl
-digits_same f g r (inr five) h =
-    let same : (i : ℕ) → i ≤ 10 → i ≢ 5 → g i ≡ f i = λ i low other. h i (omega arith) (λ e. other (e ∙ five)) in
-    rw (
-      five,
-      same 0 (omega arith) (λ e. absurd (omega arith)),
-      same 1 (omega arith) (λ e. absurd (omega arith)),
-      same 2 (omega arith) (λ e. absurd (omega arith)),
-      same 3 (omega arith) (λ e. absurd (omega arith)),
-      same 4 (omega arith) (λ e. absurd (omega arith)),
-      same 6 (omega arith) (λ e. absurd (omega arith)),
-      same 7 (omega arith) (λ e. absurd (omega arith)),
-      same 8 (omega arith) (λ e. absurd (omega arith)),
-      same 9 (omega arith) (λ e. absurd (omega arith)),
-      same 10 (omega arith) (λ e. absurd (omega arith)),
-    ) refl
 
 -- the shape that the code tells is the one that a stone makes
 pub told_shape : (rule : RuleKind) (b : Grid) (s : Side) (d : Axis) (p : Point) → IsBoard b → is_empty b p ≡ true
@@ -194,9 +146,3 @@ pub told_five : (rule : RuleKind) (b : Grid) (s : Side) (d : Axis) (p : Point) �
 unfolding shape_at
 told_five rule b s d p ok empty = (told_shape rule b s d p ok empty).five
     ∙ sym (ap (λ r. r && row_wins rule s (run_of (put b s p) s d p)) empty)
-
--- and its fours are those of the stone
-pub told_fours : (rule : RuleKind) (b : Grid) (s : Side) (d : Axis) (p : Point) → IsBoard b → is_empty b p ≡ true
-    → (shape_of (reach_of rule s) (line_code (reach_of rule s) b s d p)).fours ≡ fours_of rule (put b s p) s d p
-unfolding shape_at
-told_fours rule b s d p ok empty = (told_shape rule b s d p ok empty).fours

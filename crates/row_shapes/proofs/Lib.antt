@@ -24,7 +24,6 @@ mod HalfFours
 mod HalfShapes
 mod HalfCodes
 mod HalfTables
-pub mod FourEnds
 -- windows of lines
 mod RowBits
 mod WindowLaws
