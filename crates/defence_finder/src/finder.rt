@@ -26,6 +26,7 @@ use std::alloc::{AllocError, Global};
 use stone_board::{Point, Points};
 use strategy_compiler::{Compiler, SearchError};
 use strategy_graph::{Replies, Reply};
+use threat_moves::fives;
 
 /// Which moves hold against continuous fours.
 #[derive(Debug, Drop)]
@@ -111,7 +112,7 @@ pub fn defences<R: Rule, V: Seen<R>>(
     ensures same { V.position view.new ≡ V.position view.old }
 {
     let attacker = view.side().other();
-    let fives = view.five_points(alloc, attacker)?;
+    let fives = fives::<R, V>(alloc, view, attacker)?;
     let question = Question {
         depth,
         budget,

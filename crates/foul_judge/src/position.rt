@@ -14,9 +14,9 @@ use crate::Seen;
 use crate::outcome::{mover, outcome_at};
 use game_rules::{Outcome, RuleKind};
 use row_shapes::{FivePoints, Rule, five_at, under_rule};
-use std::alloc::{AllocError, Global};
+use std::alloc::AllocError;
 use std::marker::{Model, PhantomData};
-use stone_board::{Axis, Board, Point, Points, Side};
+use stone_board::{Axis, Board, Point, Side};
 use thiserror::Error;
 
 /// Why a board is no lawful position.
@@ -135,10 +135,6 @@ impl<R: Rule> Seen<R> for Position<R> {
 
     fn five(&self, side: Side, p: Point) -> bool {
         five_at::<R>(&self.board, side, p)
-    }
-
-    fn five_points(&self, alloc: Global, side: Side) -> Result<Points, AllocError> {
-        row_shapes::five_points::<R>(alloc, &self.board, side)
     }
 
     fn has_five(&self, side: Side) -> bool {

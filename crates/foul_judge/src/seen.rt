@@ -4,7 +4,7 @@
 //! beforehand, can take the place of the plain one.
 #![tactic(auto)]
 
-ghost use Rattle.std.specs.Prelude.{◌≡◌, false, IfOk, IsTrue};
+ghost use Rattle.std.specs.Prelude.{◌≡◌, false, IsTrue};
 ghost use Rattle.game_rules.specs.Grid.{Grid, is_empty, holds, lift as lift_lem};
 ghost use Rattle.game_rules.specs.Shapes.{five as five_lem};
 ghost use Rattle.game_rules.specs.Games.{five_points as five_points_lem, has_five as has_five_lem};
@@ -13,11 +13,10 @@ ghost use Rattle.row_shapes.specs.FivePoints.{in_short};
 
 use game_rules::Outcome;
 use row_shapes::{FivePoints, Rule};
-use std::alloc::{AllocError, Global};
-use stone_board::{Board, Point, Points, Side};
+use stone_board::{Board, Point, Side};
 
-/// A lawful position under a rule, however it is kept. Its meaning is the board of the position. No call takes memory but
-/// for the list of `five_points`.
+/// A lawful position under a rule, however it is kept. Its meaning is the board of the position. No call takes memory: none is
+/// given an allocator, or can tell that memory ran out.
 pub trait Seen<R: Rule> {
     ghost position: { Self → Grid };
 
@@ -54,10 +53,6 @@ pub trait Seen<R: Rule> {
     fn five(&self, side: Side, p: Point) -> bool
         requires empty { IsTrue (is_empty (position self.now) p) }
         ensures five { result ≡ five_lem R.KIND (position self.now) side p };
-
-    /// All five points of the side, in reading order. `Err` says that memory ran out.
-    fn five_points(&self, alloc: Global, side: Side) -> Result<Points, AllocError>
-        ensures fives { IfOk result (λ points. points ≡ five_points_lem R.KIND (position self.now) side) };
 
     /// Whether the side has a five point.
     fn has_five(&self, side: Side) -> bool

@@ -19,8 +19,9 @@ use crate::fives::is_five;
 use foul_judge::{Outcome, Seen};
 use row_shapes::{FivePoints, Rule};
 use std::alloc::{AllocError, Global};
-use stone_board::{Board, Point};
+use stone_board::{Board, Point, Points};
 use strategy_compiler::{Compiler, WrittenWin};
+use threat_moves::fives;
 
 /// Two five points of one side.
 #[derive(Clone, Copy)]
@@ -206,7 +207,7 @@ fn left_by<R: Rule, V: Seen<R>>(
 {
     let attacker = view.side();
     view.play(start);
-    let points = view.five_points(alloc, attacker);
+    let points = fives::<R, V>(alloc, view, attacker);
     view.undo(start);
     match points?.as_slice() {
         [first, second, ..] => Ok(Some((
@@ -233,7 +234,7 @@ fn compile_double(
     ensures ends { IfOk result (λ d. d.ends ≡ ends) }
     ensures writes { Writes compiler.old compiler.new 3 result }
 {
-    let points = board.all_points(alloc)?;
+    let points = Points::all_of(alloc, board)?;
     let win = compiler.double(alloc, start, ends.first, ends.second, points.as_slice())?;
     Ok(DoubleThreat {
         start,

@@ -27,7 +27,7 @@ use row_shapes::Rule;
 use std::alloc::{AllocError, Global};
 use stone_board::Point;
 use strategy_compiler::{Compiler, SearchError, WrittenWin};
-use threat_moves::{Threat, Threats};
+use threat_moves::{Threat, Threats, fives};
 
 /// What the proof of a line finds.
 #[derive(Clone, Copy, Debug, PartialEq, Eq)]
@@ -216,7 +216,7 @@ fn block<R: Rule, V: Seen<R>>(alloc: Global, view: &V) -> Result<Option<Point>, 
     ensures block { IfOk result (λ block. block ≡ block_of R.KIND (V.position view.now)) }
 {
     let defender = view.side().other();
-    let points = view.five_points(alloc, defender)?;
+    let points = fives::<R, V>(alloc, view, defender)?;
     match points.as_slice() {
         [] => Ok(None),
         [first, ..] => Ok(Some(*first)),

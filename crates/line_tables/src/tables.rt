@@ -19,7 +19,7 @@ use row_shapes::{FivePoints, Rule, Shape, is_five_point};
 use smallvec::SmallVec;
 use std::alloc::{AllocError, Global};
 use std::marker::Model;
-use stone_board::{Axis, Board, Point, Points, Side};
+use stone_board::{Axis, Board, Point, Side};
 
 /// A lawful position under a rule, with the shapes of the lines of both sides.
 #[derive(Drop)]
@@ -143,10 +143,6 @@ impl<R: Rule> Seen<R> for LineTables<R> {
 
     fn five(&self, side: Side, p: Point) -> bool {
         self.position.five(side, p)
-    }
-
-    fn five_points(&self, alloc: Global, side: Side) -> Result<Points, AllocError> {
-        self.position.five_points(alloc, side)
     }
 
     fn has_five(&self, side: Side) -> bool {

@@ -17,6 +17,7 @@ use proof_tree::ProofTree;
 use row_shapes::Rule;
 use strategy_compiler::{Compiler, SearchError};
 use threat_game::{compile_five, compile_last, last_move};
+use threat_moves::fives;
 
 impl Search {
     /// Settles the root where its attacker has a five point, or one move alone.
@@ -34,7 +35,7 @@ impl Search {
         tree.len();
         compiler.len();
         let attacker = view.side();
-        let fives = view.five_points(self.alloc, attacker)?;
+        let fives = fives::<R, V>(self.alloc, view, attacker)?;
         match fives.as_slice() {
             [five, ..] => {
                 let win = compile_five(compiler, *five)?;

@@ -198,18 +198,6 @@ impl Board {
         ReadingOrder::new(self.width, self.height)
     }
 
-    /// The list of them. `Err` says that memory ran out.
-    pub fn all_points(&self, alloc: Global) -> Result<Vec<Point>, AllocError>
-        ensures points { IfOk result (λ points. points.items ≡ points_of self.now) }
-        ensures board { IsBoard self.now }
-    {
-        let mut points = Vec::new(alloc);
-        for q in self.points() {
-            points.push(q)?;
-        }
-        Ok(points)
-    }
-
     /// The first empty point at or after `p` in reading order, going on at the first point of the board. `None` says
     /// that the board is full.
     pub fn first_empty_from(&self, p: Point) -> Option<Point>

@@ -3,8 +3,10 @@
 //! They grow by one point at a time, and tell by their type that memory may run out.
 #![tactic(auto)]
 
-ghost use Rattle.std.specs.Prelude.{◌≡◌, ◌<◌, [], ◌∷◌, ◌++◌, length, slice_get, Some, OnOk, OnErr};
+ghost use Rattle.std.specs.Prelude.{◌≡◌, ◌<◌, [], ◌∷◌, ◌++◌, length, slice_get, Some, IfOk, OnOk, OnErr};
+ghost use Rattle.game_rules.specs.Grid.{IsBoard, points_of};
 
+use crate::Board;
 use game_rules::Point;
 use std::alloc::{AllocError, Global};
 use std::marker::Model;
@@ -32,6 +34,18 @@ impl Points {
         Points {
             items: Vec::new(alloc),
         }
+    }
+
+    /// All points of a board, in reading order. `Err` says that memory ran out.
+    pub fn all_of(alloc: Global, board: &Board) -> Result<Self, AllocError>
+        ensures all { IfOk result (λ points. points ≡ points_of board.now) }
+        ensures board { IsBoard board.now }
+    {
+        let mut points = Points::new(alloc);
+        for p in board.points() {
+            points.push(p)?;
+        }
+        Ok(points)
     }
 
     /// How many points are in the list.

@@ -79,6 +79,14 @@ impl Compiler {
         self.nodes.len() as u32
     }
 
+    /// All nodes, each at its number: no two are equal, and each names lower ones alone.
+    pub fn nodes(&self) -> &[Node]
+        ensures nodes { result.now ≡ self.now }
+        ensures compiled { IsCompiled self.now }
+    {
+        self.nodes.as_slice()
+    }
+
     /// Puts the winning node with this attack in, and answers its number: that of the node that is there already, or that of
     /// the new one, which is the last. It wins wherever the attack wins at once. After an `Err` the nodes are as they were:
     ///

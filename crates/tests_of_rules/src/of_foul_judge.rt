@@ -223,9 +223,6 @@ fn five_points_in_short(position: &Position<Renju>) -> (bool, bool, FivePoints) 
 fn a_position_tells_its_five_points(rt: HostRuntime) {
     let position = position_of::<Renju>(rt.alloc(), "5,7 6,7 7,7 8,7", CORNERS);
     let position = position.expect(&rt, "a position");
-    let points = position.five_points(rt.alloc(), Side::Black);
-    let points = points.expect(&rt, "points");
-    same(&rt, points.as_slice(), [at(4, 7), at(9, 7)].as_slice());
     let told = five_points_in_short(&position);
     same(&rt, told, (true, false, FivePoints::Several));
 }
@@ -243,4 +240,32 @@ fn a_move_makes_its_five_point(rt: HostRuntime) {
     let position = position_of::<Renju>(rt.alloc(), "5,7 6,7 7,7", "0,0 14,0 0,14");
     let told = made_by(&position.expect(&rt, "a position"), at(9, 7));
     same(&rt, told, Some(FivePoints::One(at(8, 7))));
+}
+
+/// Each reason that a board gives no position, and its words.
+const WORDS: [(PositionError, &str); 3] = [
+    (
+        PositionError::Uneven { black: 3, white: 1 },
+        "3 black stones and 1 white ones leave no side to move",
+    ),
+    (
+        PositionError::AlreadyWon {
+            at: Point { x: 4, y: 2 },
+        },
+        "a side has won already, by a run through Point { x: 4, y: 2 }",
+    ),
+    (PositionError::BoardFull, "no point is empty"),
+];
+
+/// Whether the reason is told by these words.
+fn is_told(alloc: Global, error: PositionError, words: &str) -> Option<bool> {
+    let text = format!(in alloc; "{error}").ok()?;
+    Some(text.as_str() == words)
+}
+
+#[test]
+fn a_refused_board_has_its_words(rt: HostRuntime) {
+    for (error, words) in WORDS {
+        same(&rt, is_told(rt.alloc(), error, words), Some(true));
+    }
 }

@@ -21,7 +21,7 @@ use foul_judge::Seen;
 use game_rules::RuleKind;
 use row_shapes::Rule;
 use std::alloc::{AllocError, Global};
-use stone_board::{Board, Point, Side};
+use stone_board::{Board, Point, Points, Side};
 use strategy_compiler::{Compiler, SearchError, WrittenWin};
 use threat_moves::{is_new_double_point, stays_free};
 
@@ -234,7 +234,7 @@ pub fn compile_standing(
         → IsDoubleWin rule b double → 2 ≤ moves → IsThreatWin rule moves b compiler.new win) }
     ensures writes { Writes compiler.old compiler.new 3 result }
 {
-    let points = board.all_points(alloc)?;
+    let points = Points::all_of(alloc, board)?;
     compiler.double(
         alloc,
         double.at,

@@ -17,6 +17,7 @@ use foul_judge::Seen;
 use row_shapes::Rule;
 use std::alloc::{AllocError, Global};
 use stone_board::{Board, Point, Points};
+use threat_moves::fives;
 
 /// Whether there is no win within two moves after the reply `q`, which goes on and leaves the attacker no five point.
 /// The view is as before, also where memory ran out, and so is the board, a copy of its own.
@@ -115,7 +116,7 @@ fn has_escape<R: Rule, V: Seen<R>>(
     ensures same_board { board.new ≡ board.old }
 {
     let attacker = view.side().other();
-    let fives = view.five_points(alloc, attacker)?;
+    let fives = fives::<R, V>(alloc, view, attacker)?;
     for q in view.board().points() {
         if escapes_by::<R, V>(view, board, &fives, q) {
             return Ok(true);

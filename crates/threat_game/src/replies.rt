@@ -34,6 +34,7 @@ use row_shapes::{FivePoints, Rule};
 use std::alloc::{AllocError, Global};
 use stone_board::{Board, Point, Points, Side};
 use strategy_compiler::{Compiler, SearchError, WrittenWin};
+use threat_moves::fives;
 
 /// What is known at once of a position of the attacker.
 #[derive(Clone, Copy, Debug, PartialEq, Eq)]
@@ -107,7 +108,7 @@ pub fn judge_replies<R: Rule, V: Seen<R>>(
     ensures same_board { board.new ≡ board.old }
 {
     let attacker = view.side().other();
-    let fives = view.five_points(alloc, attacker)?;
+    let fives = fives::<R, V>(alloc, view, attacker)?;
     let doubles = doubles_for::<R>(alloc, board, attacker, fives.len())?;
     match each_reply::<R, V>(alloc, view, board, moves, &fives, doubles.as_slice())? {
         None => Ok(None),

@@ -8,6 +8,7 @@ ghost use Rattle.std.specs.Prelude.{◌≡◌, IfOk, IsTrue};
 ghost use Rattle.threat_moves.specs.FourMoves.{is_four_move};
 ghost use Rattle.threat_moves.specs.Blocks.{by_block as by_block_lem, fate as fate_lem, block_answer};
 
+use crate::fives;
 use foul_judge::{Outcome, Seen};
 use row_shapes::Rule;
 use std::alloc::{AllocError, Global};
@@ -52,7 +53,7 @@ fn fate<R: Rule, V: Seen<R>>(alloc: Global, view: &mut V) -> Result<BlockAnswer,
     if view.has_five(defender) {
         return Ok(BlockAnswer::Lost);
     }
-    let points = view.five_points(alloc, defender.other())?;
+    let points = fives::<R, V>(alloc, view, defender.other())?;
     match points.as_slice() {
         [] => Ok(BlockAnswer::Lost),
         [block] => {

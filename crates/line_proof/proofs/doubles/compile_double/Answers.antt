@@ -6,10 +6,10 @@ use Rattle.line_proof.proofs.doubles.compile_double.Goals as goal
 pub double-requires : goal.double-requires
 double-requires c = record {
   rising = λ answers at. points-rising c.args.board.now answers
-      (at ∙ c.as_slice.ensures.value ∙ c.in_ok-points.ensures.points);
+      (at ∙ c.as_slice.ensures.items ∙ c.in_ok-points.ensures.all);
 }
 
 pub returns-clause-double : goal.returns-clause-double
 returns-clause-double c =
     double-is c.args.board.now c.double.new.self c.as_slice.result.now _ c.in_ok-win.win
-    (c.as_slice.ensures.value ∙ c.in_ok-points.ensures.points) refl c.in_ok-win.ensures.moves c.in_ok-win.ensures.win
+    (c.as_slice.ensures.items ∙ c.in_ok-points.ensures.all) refl c.in_ok-win.ensures.moves c.in_ok-win.ensures.win

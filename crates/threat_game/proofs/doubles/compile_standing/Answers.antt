@@ -12,7 +12,7 @@ use Rattle.threat_game.proofs.doubles.compile_standing.Goals as goal
 pub double-requires : goal.double-requires
 double-requires c = record {
   rising = λ answers at. points-rising c.args.board.now answers
-      (at ∙ c.as_slice.ensures.value ∙ c.in_ok-points.ensures.points);
+      (at ∙ c.as_slice.ensures.items ∙ c.in_ok-points.ensures.all);
 }
 
 pub returns-clause-win : goal.returns-clause-win
@@ -25,6 +25,6 @@ returns-clause-win c =
     → IsDoubleWin rule b c.args.double → 2 ≤ moves → IsThreatWin rule moves b c.double.new.self win)
     (λ win h rule b moves lawful points wins l. threat-win rule c.double.new.self win 2 moves b
     (h rule b (subst (IsDoubleThreat rule b c.args.double.at c.args.double.first c.args.double.second)
-    (points ∙ sym (c.as_slice.ensures.value ∙ c.in_ok-points.ensures.points)) (double-everywhere rule b c.args.double lawful wins))) l
+    (points ∙ sym (c.as_slice.ensures.items ∙ c.in_ok-points.ensures.all)) (double-everywhere rule b c.args.double lawful wins))) l
     (double-threats rule b c.args.double lawful wins moves l))
     c.double.ensures.win
