@@ -1,12 +1,11 @@
 -- A board and what a turn makes of it: points, places, stones in a row, runs, five points.
-use Rattle.std.proofs.Common.{◌≡◌, inl, inr, ℕ, ◌+◌, Bool, true, false, ◌&&◌, cond, refl, sym, ap, subst, ◌∙◌, arith, List}
-use Rattle.std.specs.Prelude.{Option, Some, None}
+use Rattle.std.proofs.Common.{◌≡◌, inl, inr, ℕ, ◌+◌, Bool, true, false, ◌&&◌, cond, refl, sym, ap, subst, ◌∙◌, arith}
+use Rattle.std.proofs.Common.{List, Option, Some, None}
 use Rattle.std.specs.Cmp.{both_ways}
 use Rattle.std.specs.List.{list_any}
 use Rattle.std.proofs.lemmas.Bool.{both_ways as both_values}
-use Rattle.game_rules.specs.Grid.{Grid, IsBoard, is_empty, cell_at, holds, put, axes}
-use Rattle.game_rules.specs.Shapes.{stone_at, stones_ahead, stones_behind, run_of, row_wins, wins_on, wins_at, five}
-use Rattle.game_rules.specs.Ways.{go, opposite, stones_towards}
+use Rattle.game_rules.proofs.Common.{Grid, IsBoard, is_empty, cell_at, holds, put, axes, stone_at, stones_ahead, stones_behind, run_of}
+use Rattle.game_rules.proofs.Common.{row_wins, wins_on, wins_at, five, go, opposite, stones_towards}
 use Rattle.game_rules.specs.declared.Cell.{Cell}
 use Rattle.game_rules.specs.declared.Side.{Side}
 use Rattle.game_rules.specs.declared.Axis.{Axis}

@@ -1,17 +1,14 @@
 -- The image of a table as a file has it: it is one again, and has a text.
 use Rattle.std.proofs.Common.{◌≡◌, ℕ, true, ap, ◌∙◌, List, [], ◌∷◌, length}
 use Rattle.std.proofs.lemmas.List.{length-map}
-use Rattle.game_rules.specs.Grid.{Grid}
-use Rattle.strategy_graph.specs.Tables.{names_below, TableOnBoard}
-use Rattle.strategy_graph.specs.Roots.{RootOnBoard}
+use Rattle.game_rules.proofs.Common.{Grid}
+use Rattle.strategy_graph.proofs.Common.{names_below, TableOnBoard, RootOnBoard}
 use Rattle.strategy_graph.specs.declared.Node.{Node}
 use Rattle.strategy_graph.specs.declared.roots.Root.{Root}
 use Rattle.strategy_graph.specs.declared.roots.Root.TheVariants.{Attack, Defend}
-use Rattle.position_files.specs.Tables.{RootFits, IsTextOfTable}
+use Rattle.position_files.proofs.Common.{RootFits, IsTextOfTable}
 use Rattle.position_files.specs.declared.TableFile.{TableFile}
-use Rattle.board_symmetry.specs.Points.{fits, board_image}
-use Rattle.board_symmetry.specs.Images.{table_image, root_image}
-use Rattle.board_symmetry.specs.Laws.{KeepsRoot, IsRoot}
+use Rattle.board_symmetry.proofs.Common.{fits, board_image, table_image, root_image, KeepsRoot, IsRoot}
 use Rattle.board_symmetry.specs.declared.symmetry.Symmetry.{Symmetry}
 use Rattle.board_symmetry.proofs.Eight.{turn_of}
 use Rattle.board_symmetry.proofs.ImageLaws.{keeps_root}

@@ -1,12 +1,11 @@
 -- An image that is filled point by point: what stands where while some points are left.
-use Rattle.std.proofs.Common.{◌≡◌, ℕ, ◌+◌, ◌*◌, ◌<◌, Bool, true, false, ◌&&◌, ◌||◌, refl, sym, ap, subst, ◌∙◌, arith, List, [], ◌∷◌, nat_lt}
-use Rattle.std.proofs.Common.{replicate}
+use Rattle.std.proofs.Common.{◌≡◌, ℕ, ◌+◌, ◌*◌, ◌<◌, Bool, true, false, ◌&&◌, ◌||◌, refl, sym, ap, subst}
+use Rattle.std.proofs.Common.{◌∙◌, arith, List, [], ◌∷◌, nat_lt, replicate}
 use Rattle.std.specs.List.{list_any, list_all}
 use Rattle.std.proofs.lemmas.Bool.{both_ways}
 use Rattle.std.proofs.lemmas.List.{length-replicate, get_or-replicate}
 use Rattle.std.proofs.lemmas.Nat.{mul-add-lt}
-use Rattle.game_rules.specs.Grid.{Grid, IsBoard, is_on, is_empty, is_empty_cell, cell_at, put, points_of}
-use Rattle.game_rules.specs.Shapes.{is_same_point}
+use Rattle.game_rules.proofs.Common.{Grid, IsBoard, is_on, is_empty, is_empty_cell, cell_at, put, points_of, is_same_point}
 use Rattle.game_rules.specs.declared.Cell.{Cell}
 use Rattle.game_rules.specs.declared.Cell.TheVariants.{Empty, Black as BlackStone, White as WhiteStone}
 use Rattle.game_rules.specs.declared.Side.TheVariants.{Black, White}
@@ -16,7 +15,7 @@ use Rattle.game_rules.proofs.Places.{points_on, Rising, rising-first, rows-risin
 use Rattle.game_rules.proofs.Points.{points-found, is_same_point-itself, is_same_point-same, is_same_point-apart}
 use Rattle.game_rules.proofs.Positions.{IsBoard-put}
 use Rattle.game_rules.proofs.PointLists.{other_first}
-use Rattle.board_symmetry.specs.Points.{fits, inverse, point_image, empty_board, board_image, with_cell}
+use Rattle.board_symmetry.proofs.Common.{fits, inverse, point_image, empty_board, board_image, with_cell}
 use Rattle.board_symmetry.specs.declared.symmetry.Symmetry.{Symmetry}
 use Rattle.board_symmetry.specs.declared.symmetry.Symmetry.TheVariants.{Identity, Half, FlipX, FlipY, Quarter, ThreeQuarter, Diagonal}
 use Rattle.board_symmetry.specs.declared.symmetry.Symmetry.TheVariants.{AntiDiagonal}

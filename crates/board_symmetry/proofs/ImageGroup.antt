@@ -1,19 +1,16 @@
 -- Images of images, and images taken back.
-use Rattle.std.proofs.Common.{◌≡◌, ℕ, suc, true, refl, sym, ap, ◌∙◌, List, [], ◌∷◌}
-use Rattle.std.specs.Prelude.{Some, slice_get}
+use Rattle.std.proofs.Common.{◌≡◌, ℕ, suc, true, refl, sym, ap, ◌∙◌, List, [], ◌∷◌, Some, slice_get}
 use Rattle.std.specs.List.{AllByRecursion}
-use Rattle.game_rules.specs.Grid.{Grid, IsBoard, cell_at, points_within}
+use Rattle.game_rules.proofs.Common.{Grid, IsBoard, cell_at, points_within}
 use Rattle.game_rules.specs.declared.Point.{Point}
 use Rattle.game_rules.proofs.Places.{points_on}
-use Rattle.strategy_graph.specs.Roots.{RootOnBoard}
-use Rattle.strategy_graph.specs.Tables.{listed_node, is_rising, RepliesOn, TableOnBoard}
+use Rattle.strategy_graph.proofs.Common.{RootOnBoard, listed_node, is_rising, RepliesOn, TableOnBoard}
 use Rattle.strategy_graph.specs.declared.Reply.{Reply}
 use Rattle.strategy_graph.specs.declared.Node.{Node}
 use Rattle.strategy_graph.specs.declared.roots.Root.{Root}
 use Rattle.strategy_graph.specs.declared.roots.Root.TheVariants.{Attack, Defend}
-use Rattle.board_symmetry.specs.Points.{fits, inverse, point_image, board_image, empty_board}
-use Rattle.board_symmetry.specs.Images.{replies_image, root_image, table_image}
-use Rattle.board_symmetry.specs.Laws.{IsRoot, Together, TakesBack}
+use Rattle.board_symmetry.proofs.Common.{fits, inverse, point_image, board_image, empty_board, replies_image, root_image, table_image}
+use Rattle.board_symmetry.proofs.Common.{IsRoot, Together, TakesBack}
 use Rattle.board_symmetry.specs.declared.symmetry.Symmetry.{Symmetry}
 use Rattle.board_symmetry.specs.declared.symmetry.Symmetry.TheVariants.{Identity, Half, FlipX, FlipY, Quarter, ThreeQuarter, Diagonal}
 use Rattle.board_symmetry.specs.declared.symmetry.Symmetry.TheVariants.{AntiDiagonal}

@@ -1,5 +1,7 @@
 -- The laws of symmetries. What is declared by `pub mod` the layers above may cite; the rest serves this crate alone.
 
+-- the words of the crate, in one place
+mod Common
 -- sums in another order; the cells of a board as a list
 mod Sums
 mod Listed

@@ -1,15 +1,12 @@
 -- A board and what a turn makes of it: sums and tests over all points, numbers of stones, threes, fouls, outcomes.
-use Rattle.std.proofs.Common.{◌≡◌, ℕ, zero, suc, ◌+◌, Bool, true, false, ◌&&◌, ◌||◌, nat_eq, nat_le, cond, refl, sym, ap, ◌∙◌, List, []}
-use Rattle.std.proofs.Common.{◌∷◌, map}
-use Rattle.std.specs.Prelude.{Option, None, is_none}
+use Rattle.std.proofs.Common.{◌≡◌, ℕ, zero, suc, ◌+◌, Bool, true, false, ◌&&◌, ◌||◌, nat_eq, nat_le, cond, refl, sym}
+use Rattle.std.proofs.Common.{ap, ◌∙◌, List, [], ◌∷◌, map, Option, None, is_none, sum_by, count_by}
 use Rattle.std.specs.Cmp.{both_ways}
-use Rattle.std.specs.List.{list_any, list_all, sum_by, count_by}
+use Rattle.std.specs.List.{list_any, list_all}
 use Rattle.std.proofs.lemmas.List.Sums.{sum_by-cons}
-use Rattle.game_rules.specs.Grid.{is_empty, is_empty_cell, is_stone_of, cell_at, put, axes, points_within, stones_of, empties_of}
-use Rattle.game_rules.specs.Shapes.{run_of, five, fours_of, is_three_point}
-use Rattle.game_rules.proofs.Common.{first_foul, outcome_by}
-use Rattle.game_rules.specs.Play.{is_three, stone_foul, black_foul_within, black_foul, has_fouls, foul_of, mover, outcome}
-use Rattle.game_rules.specs.Play.{after}
+use Rattle.game_rules.proofs.Common.{is_empty, is_empty_cell, is_stone_of, cell_at, put, axes, points_within, stones_of, empties_of, run_of}
+use Rattle.game_rules.proofs.Common.{five, fours_of, is_three_point, first_foul, outcome_by, is_three, stone_foul, black_foul_within}
+use Rattle.game_rules.proofs.Common.{black_foul, has_fouls, foul_of, mover, outcome, after}
 use Rattle.game_rules.specs.declared.Cell.{Cell}
 use Rattle.game_rules.specs.declared.Side.{Side}
 use Rattle.game_rules.specs.declared.Side.TheVariants.{Black, White}
@@ -21,7 +18,7 @@ use Rattle.game_rules.proofs.Boards.{and_left, and_right}
 use Rattle.game_rules.proofs.Points.{points-found}
 use Rattle.game_rules.proofs.Places.{points_on}
 use Rattle.game_rules.proofs.PointLists.{any-filter}
-use Rattle.board_symmetry.specs.Points.{empty_board}
+use Rattle.board_symmetry.proofs.Common.{empty_board}
 use Rattle.board_symmetry.proofs.Sums.{sum_by-map}
 use Rattle.board_symmetry.proofs.Turns.{Turn, within}
 use Rattle.board_symmetry.proofs.Alike.{grid, Turned, empty-same, run-same, five-same, put-turned}

@@ -1,10 +1,7 @@
 -- A board and what a turn makes of it: lawful positions.
 use Rattle.std.proofs.Common.{◌≡◌, ◌↔◌, ◌⊎◌, ℕ, ◌+◌, ◌<◌, true, false, sym, ap, subst, ◌∙◌, List}
 use Rattle.std.proofs.lemmas.Bool.{both_ways, false_from_ne_true}
-use Rattle.game_rules.specs.Grid.{holds}
-use Rattle.game_rules.specs.Shapes.{run_of, row_wins}
-use Rattle.game_rules.proofs.Common.{NamesMover}
-use Rattle.game_rules.specs.Play.{IsPosition, IsUnwon}
+use Rattle.game_rules.proofs.Common.{holds, run_of, row_wins, NamesMover, IsPosition, IsUnwon}
 use Rattle.game_rules.specs.declared.Cell.{Cell}
 use Rattle.game_rules.specs.declared.Side.{Side}
 use Rattle.game_rules.specs.declared.Side.TheVariants.{Black, White}

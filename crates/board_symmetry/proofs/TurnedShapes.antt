@@ -1,16 +1,12 @@
 -- A board and what a turn makes of it: fours, straight fours, three points.
-use Rattle.std.proofs.Common.{◌≡◌, inl, inr, ℕ, zero, suc, ◌+◌, ◌-◌, ◌≤◌, Bool, true, false, ◌&&◌, not, nat_eq, refl, sym, ap, subst, ◌∙◌}
-use Rattle.std.proofs.Common.{arith, List}
-use Rattle.std.specs.Prelude.{Some}
+use Rattle.std.proofs.Common.{◌≡◌, inl, inr, ℕ, zero, suc, ◌+◌, ◌-◌, ◌≤◌, Bool, true, false, ◌&&◌, not, nat_eq}
+use Rattle.std.proofs.Common.{refl, sym, ap, subst, ◌∙◌, arith, List, Some}
 use Rattle.std.specs.Cmp.{both_ways}
 use Rattle.std.specs.List.{list_any, range_with_len}
 use Rattle.std.proofs.lemmas.Bool.{or_left, or_right, or_cases}
-use Rattle.game_rules.specs.Grid.{Grid, is_empty, put, along}
-use Rattle.game_rules.specs.Fours.{count_fours}
-use Rattle.game_rules.proofs.Common.{place_stone, place_wins}
-use Rattle.game_rules.specs.Shapes.{stone_at, stones_ahead, stones_behind, run_of, wins_at, five, fours_of}
-use Rattle.game_rules.specs.Shapes.{is_straight, is_at, is_in_run, gives_straight, is_three_point}
-use Rattle.game_rules.specs.Ways.{go, opposite, stones_towards, run_end}
+use Rattle.game_rules.proofs.Common.{Grid, is_empty, put, along, count_fours, place_stone, place_wins, stone_at, stones_ahead}
+use Rattle.game_rules.proofs.Common.{stones_behind, run_of, wins_at, five, fours_of, is_straight, is_at, is_in_run, gives_straight}
+use Rattle.game_rules.proofs.Common.{is_three_point, go, opposite, stones_towards, run_end}
 use Rattle.game_rules.specs.declared.Cell.{Cell}
 use Rattle.game_rules.specs.declared.Side.{Side}
 use Rattle.game_rules.specs.declared.Axis.{Axis}

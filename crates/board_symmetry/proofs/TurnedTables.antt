@@ -1,12 +1,10 @@
 -- A table whose points a turn took to other points says of the board that the turn made what the table says of the board.
-use Rattle.std.proofs.Common.{◌≡◌, ◌↔◌, ℕ, zero, suc, max, true, cond, refl, sym, ap, subst, ◌∙◌, List, [], ◌∷◌, map, false}
-use Rattle.std.specs.Prelude.{Option, Some, None, slice_get, IsSomeAnd}
-use Rattle.std.specs.Option.{option_and_then, option_map, option_or, option_map_or}
+use Rattle.std.proofs.Common.{◌≡◌, ◌↔◌, ℕ, zero, suc, max, true, cond, refl, sym, ap, subst, ◌∙◌, List, [], ◌∷◌}
+use Rattle.std.proofs.Common.{map, false, Option, Some, None, slice_get, IsSomeAnd, option_and_then, option_map}
+use Rattle.std.specs.Option.{option_or, option_map_or}
 use Rattle.std.specs.List.{list_all}
 use Rattle.std.proofs.lemmas.Option.{slice_get-map}
-use Rattle.game_rules.specs.Grid.{Grid}
-use Rattle.game_rules.specs.Play.{outcome, after}
-use Rattle.game_rules.specs.Games.{WinsOr, if_goes_on}
+use Rattle.game_rules.proofs.Common.{Grid, outcome, after, WinsOr, if_goes_on}
 use Rattle.game_rules.specs.declared.Cell.{Cell}
 use Rattle.game_rules.specs.declared.Outcome.{Outcome}
 use Rattle.game_rules.specs.declared.Point.{Point}
@@ -14,18 +12,15 @@ use Rattle.game_rules.specs.declared.RuleKind.{RuleKind}
 use Rattle.game_rules.proofs.Boards.{and_left, and_right}
 use Rattle.game_rules.proofs.Tests.{all_get}
 use Rattle.game_rules.proofs.Games.{WinsOr-map}
-use Rattle.strategy_graph.proofs.Common.{rest_nodes, node_depth}
-use Rattle.strategy_graph.specs.Tables.{Answers, answers_of, answer, answer_at, rest_node, named, is_winning, NamesOnBoard, TableOnBoard}
-use Rattle.strategy_graph.specs.Tables.{IsTable, greatest, depth_within, depth, start_depth, is_rising, RepliesOn}
-use Rattle.strategy_graph.specs.Acceptance.{Meets, AcceptedNode, AcceptedWithin, Accepted, AcceptedStart}
-use Rattle.strategy_graph.specs.Arrivals.{arrivals_at, arrivals_after, arrivals_behind, arrivals_within, arrivals}
-use Rattle.strategy_graph.specs.Arrivals.{start_arrivals}
-use Rattle.strategy_graph.specs.Games.{End, NoMove, Open, after_attack, after_reply, if_node, one_later, end_at, game}
+use Rattle.strategy_graph.proofs.Common.{rest_nodes, node_depth, Answers, answers_of, answer, answer_at, rest_node, named, is_winning}
+use Rattle.strategy_graph.proofs.Common.{NamesOnBoard, TableOnBoard, IsTable, greatest, depth_within, depth, start_depth, is_rising}
+use Rattle.strategy_graph.proofs.Common.{RepliesOn, Meets, AcceptedNode, AcceptedWithin, Accepted, AcceptedStart, arrivals_at}
+use Rattle.strategy_graph.proofs.Common.{arrivals_after, arrivals_behind, arrivals_within, arrivals, start_arrivals, End, NoMove, Open}
+use Rattle.strategy_graph.proofs.Common.{after_attack, after_reply, if_node, one_later, end_at, game}
 use Rattle.strategy_graph.specs.declared.Node.{Node}
 use Rattle.strategy_graph.proofs.Answering.{IsSomeAnd-map}
 use Rattle.strategy_graph.proofs.Naming.{greatest-parts}
-use Rattle.board_symmetry.specs.Points.{empty_board}
-use Rattle.board_symmetry.specs.RootGames.{start_game}
+use Rattle.board_symmetry.proofs.Common.{empty_board, start_game}
 use Rattle.board_symmetry.proofs.Turns.{Turn, within}
 use Rattle.board_symmetry.proofs.Alike.{grid, Turned}
 use Rattle.board_symmetry.proofs.TurnedOutcomes.{points-sum, outcome-same, after-turned}

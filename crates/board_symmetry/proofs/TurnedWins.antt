@@ -1,12 +1,9 @@
 -- A board and what a turn makes of it: won games.
-use Rattle.std.proofs.Common.{◌≡◌, ◌↔◌, ℕ, zero, suc, Bool, true, false, ◌&&◌, ◌||◌, not, nat_le, cond, refl, sym, ap, subst, ◌∙◌, List}
-use Rattle.std.proofs.Common.{length}
-use Rattle.std.specs.Prelude.{IsTrue, is_none}
+use Rattle.std.proofs.Common.{◌≡◌, ◌↔◌, ℕ, zero, suc, Bool, true, false, ◌&&◌, ◌||◌, not, nat_le, cond, refl, sym, ap}
+use Rattle.std.proofs.Common.{subst, ◌∙◌, List, length, IsTrue, is_none}
 use Rattle.std.proofs.lemmas.List.Sums.{length-filter}
-use Rattle.game_rules.specs.Grid.{Grid, is_on, points_within}
-use Rattle.game_rules.specs.Shapes.{five}
-use Rattle.game_rules.specs.Play.{mover, outcome, after}
-use Rattle.game_rules.specs.Games.{WinsOr, LosesOr, WinsUnder, WinsWithin, WinsAfter, has_five, five_points, is_double_point, has_threat}
+use Rattle.game_rules.proofs.Common.{Grid, is_on, points_within, five, mover, outcome, after, WinsOr, LosesOr, WinsUnder, WinsWithin}
+use Rattle.game_rules.proofs.Common.{WinsAfter, has_five, five_points, is_double_point, has_threat}
 use Rattle.game_rules.specs.declared.Cell.{Cell}
 use Rattle.game_rules.specs.declared.Side.{Side}
 use Rattle.game_rules.specs.declared.Outcome.{Outcome}

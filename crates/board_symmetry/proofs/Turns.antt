@@ -1,11 +1,10 @@
 -- Turns of a board: maps of its points onto themselves that carry lines to lines. The eight symmetries are turns, and what holds
 -- of a board holds of what a turn makes of it.
-use Rattle.std.proofs.Common.{◌≡◌, ℕ, ◌-◌, ◌<◌, Bool, true, false, ◌&&◌, ◌||◌, cond, refl, sym, ap, ◌∙◌, arith}
-use Rattle.std.specs.Prelude.{Some, nat_lt}
-use Rattle.std.specs.List.{sum_by, list_any, range_with_len}
+use Rattle.std.proofs.Common.{◌≡◌, ℕ, ◌-◌, ◌<◌, Bool, true, false, ◌&&◌, ◌||◌, cond, refl, sym, ap, ◌∙◌}
+use Rattle.std.proofs.Common.{arith, Some, nat_lt, sum_by}
+use Rattle.std.specs.List.{list_any, range_with_len}
 use Rattle.std.proofs.lemmas.Bool.{lt-ltb}
-use Rattle.game_rules.specs.Grid.{axes, points_within}
-use Rattle.game_rules.specs.Ways.{go, opposite}
+use Rattle.game_rules.proofs.Common.{axes, points_within, go, opposite}
 use Rattle.game_rules.specs.declared.Axis.{Axis}
 use Rattle.game_rules.specs.declared.Axis.TheVariants.{Row, Column, Down, Up}
 use Rattle.game_rules.specs.declared.Point.{Point}
@@ -13,7 +12,7 @@ use Rattle.game_rules.specs.declared.Way.{Way}
 use Rattle.game_rules.specs.declared.Way.TheVariants.{Ahead, Behind}
 use Rattle.game_rules.proofs.Boards.{on_x, on_y}
 use Rattle.game_rules.proofs.Lines.{OnLine, along-OnLine, OnLine-along}
-use Rattle.board_symmetry.specs.Points.{empty_board}
+use Rattle.board_symmetry.proofs.Common.{empty_board}
 use Rattle.board_symmetry.proofs.Sums.{reversed, exchanged, points_sum, row_sum}
 
 -- whether the point is on a board of this width and height

@@ -1,14 +1,11 @@
 -- The board of a batch, whose stones are put one by one, and the side to move on it.
-use Rattle.std.specs.Prelude.{Option, Some, None, ◌==◌, All, AllPairs, IsSome}
-use Rattle.std.specs.List.{count_by}
-use Rattle.std.proofs.Common.{◌≡◌, ℕ, zero, suc, ◌+◌, ◌≤◌, ◌<◌, Bool, true, false, cond, refl, sym, ap, ◌∙◌, arith, List, [], ◌∷◌, length}
-use Rattle.std.proofs.Common.{get_or, take, IfSome, MatchOption, inl, inr, not}
+use Rattle.std.proofs.Common.{Option, Some, None, ◌==◌, All, AllPairs, IsSome, count_by, ◌≡◌, ℕ, zero, suc, ◌+◌, ◌≤◌}
+use Rattle.std.proofs.Common.{◌<◌, Bool, true, false, cond, refl, sym, ap, ◌∙◌, arith, List, [], ◌∷◌, length, get_or, take}
+use Rattle.std.proofs.Common.{IfSome, MatchOption, inl, inr, not}
 use Rattle.std.proofs.lemmas.List.Sums.{fold_more, sum_by-cons}
 use Rattle.std.proofs.lemmas.Bool.Decides.{nat_tests}
-use Rattle.game_rules.specs.Grid.{Grid, is_on, is_empty, put, IsBoard, is_stone_of, stone_of, stones_of}
-use Rattle.game_rules.specs.Shapes.{is_same_point}
-use Rattle.game_rules.proofs.Common.{NamesMover}
-use Rattle.game_rules.specs.Play.{other, mover}
+use Rattle.game_rules.proofs.Common.{Grid, is_on, is_empty, put, IsBoard, is_stone_of, stone_of, stones_of, is_same_point, NamesMover}
+use Rattle.game_rules.proofs.Common.{other, mover}
 use Rattle.game_rules.specs.declared.Side.{Side}
 use Rattle.game_rules.specs.declared.Point.{Point}
 use Rattle.game_rules.specs.declared.Side.TheVariants.{Black, White}
@@ -17,9 +14,7 @@ use Rattle.game_rules.proofs.Points.{is_same_point-apart}
 use Rattle.game_rules.proofs.Positions.{IsBoard-put, stones_of-put}
 use Rattle.game_rules.proofs.Cells.{own_stone, other_stone}
 use Rattle.brain_session.specs.declared.batch.BatchStone.{BatchStone}
-use Rattle.brain_session.specs.States.{Batch, empty_board}
-use Rattle.brain_session.specs.Batches.{side_of, with_batch_stones, colour_by, colour_in}
-use Rattle.brain_session.specs.Running.{StonesFit}
+use Rattle.brain_session.proofs.Common.{Batch, empty_board, side_of, with_batch_stones, colour_by, colour_in, StonesFit}
 use Rattle.brain_session.proofs.SessionBoards.{empty-empty, no-stones}
 
 -- an item of a list is the same whatever stands for those past its end

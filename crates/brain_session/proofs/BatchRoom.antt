@@ -1,7 +1,7 @@
 -- A batch has room for a stone on each free point: its stones stand on different points of a board, which has few.
-use Rattle.std.proofs.Common.{◌≡◌, ℕ, ◌<◌, ◌≤◌, ◌*◌, ◌++◌, Bool, true, false, not, refl, sym, ap, subst, ◌∙◌, arith, List, [], ◌∷◌}
-use Rattle.std.proofs.Common.{map, length, get_or, length-append}
-use Rattle.std.specs.Prelude.{Option, Some, None, IfSome, IsSome, is_some, if◌then◌else◌}
+use Rattle.std.proofs.Common.{◌≡◌, ℕ, ◌<◌, ◌≤◌, ◌*◌, ◌++◌, Bool, true, false, not, refl, sym, ap, subst}
+use Rattle.std.proofs.Common.{◌∙◌, arith, List, [], ◌∷◌, map, length, get_or, length-append, Option, Some, None, IfSome, IsSome}
+use Rattle.std.proofs.Common.{is_some, if◌then◌else◌}
 use Rattle.std.specs.List.{list_any, IsDistinct}
 use Rattle.std.specs.Cmp.{IsEquivalence}
 use Rattle.std.proofs.lemmas.List.{get_or-map, length-map}
@@ -11,20 +11,15 @@ use Rattle.std.proofs.lemmas.Map.Made.{length-le_from_is_member}
 use Rattle.std.proofs.Math.Nat.{mul-le-mul_left}
 use Rattle.game_rules.specs.declared.TheConstants.{MAX_SIDE}
 use Rattle.game_rules.specs.declared.RuleKind.{RuleKind}
-use Rattle.game_rules.specs.Grid.{Grid, is_on, points_of}
-use Rattle.game_rules.specs.Play.{IsPosition}
-use Rattle.game_rules.specs.Shapes.{is_same_point}
+use Rattle.game_rules.proofs.Common.{Grid, is_on, points_of, IsPosition, is_same_point}
 use Rattle.game_rules.specs.declared.Point.{Point}
 use Rattle.game_rules.proofs.Places.{points_length}
 use Rattle.game_rules.proofs.Points.{is_same_point-itself, is_same_point-same, points-found}
 use Rattle.strategy_checker.specs.HeldRoots.{HeldTable}
 use Rattle.brain_session.specs.declared.TheConstants.{MAX_POINTS}
 use Rattle.brain_session.specs.declared.batch.BatchStone.{BatchStone}
-use Rattle.brain_session.specs.States.{Batch, Place, NoBoard, Fresh, InGame, State}
-use Rattle.brain_session.specs.Batches.{has_stone_at}
-use Rattle.brain_session.specs.Steps.{board_in}
-use Rattle.brain_session.specs.Running.{IsPlayed, IsPlace, IsBrain, StonesFit}
-use Rattle.brain_session.specs.Kept.{IsPointOn}
+use Rattle.brain_session.proofs.Common.{Batch, Place, NoBoard, Fresh, InGame, State, has_stone_at, board_in, IsPlayed, IsPlace, IsBrain}
+use Rattle.brain_session.proofs.Common.{StonesFit, IsPointOn}
 use Rattle.brain_session.proofs.SessionGames.{start-lawful}
 use Rattle.brain_session.proofs.Takings.{stone_fits, told-on}
 

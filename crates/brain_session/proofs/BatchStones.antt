@@ -1,27 +1,24 @@
 -- The stones of a batch that makes a board.
-use Rattle.std.proofs.Common.{not, List, map, ℕ, ◌<◌, [], ◌∷◌, ◌≤◌, arith, ◌++◌, ◌≡◌, refl, ap, ◌∙◌, Bool, false, ◌||◌, true, inl, inr, sym}
-use Rattle.std.proofs.Common.{subst, cond, ◌&&◌, ◌+◌, ◌*◌, ◌/◌, ◌%◌, length}
-use Rattle.std.specs.List.{filter, list_any}
-use Rattle.std.specs.Prelude.{slice_index_or}
+use Rattle.std.proofs.Common.{not, List, map, ℕ, ◌<◌, [], ◌∷◌, ◌≤◌, arith, ◌++◌, ◌≡◌, refl, ap, ◌∙◌, Bool}
+use Rattle.std.proofs.Common.{false, ◌||◌, true, inl, inr, sym, subst, cond, ◌&&◌, ◌+◌, ◌*◌, ◌/◌, ◌%◌, length}
+use Rattle.std.proofs.Common.{filter, slice_index_or}
+use Rattle.std.specs.List.{list_any}
 use Rattle.std.proofs.Math.Nat.{div-lt_iff_lt-mul}
 use Rattle.std.proofs.lemmas.Bool.{lt-ltb, or_right}
 use Rattle.std.proofs.lemmas.List.{ext_get_or}
-use Rattle.game_rules.specs.Grid.{Grid, holds, is_empty, is_on, is_empty_cell, is_stone_of, stone_of, cell_at, put, IsBoard, points_of}
-use Rattle.game_rules.specs.Play.{mover, other}
+use Rattle.game_rules.proofs.Common.{Grid, holds, is_empty, is_on, is_empty_cell, is_stone_of, stone_of, cell_at, put, IsBoard, points_of}
+use Rattle.game_rules.proofs.Common.{mover, other, is_same_point}
 use Rattle.game_rules.specs.declared.Point.{Point}
 use Rattle.game_rules.specs.declared.RuleKind.{RuleKind}
 use Rattle.game_rules.specs.declared.RuleKind.TheVariants.{Freestyle, Exact, Renju}
 use Rattle.game_rules.proofs.Places.{place, earlier-differs, listed_on}
-use Rattle.game_rules.specs.Shapes.{is_same_point}
 use Rattle.game_rules.proofs.Boards.{same_or_apart, cell_at-put_other, cell_at-put_same, and_right, is_empty-cell}
 use Rattle.game_rules.proofs.Points.{apart-is_same_point, is_same_point-itself, points-found}
 use Rattle.game_rules.proofs.Cells.{stone-there, Makes, IsLike, on-like, same-length, makes-empty}
 use Rattle.game_rules.specs.declared.Cell.TheVariants.{Empty}
 use Rattle.game_rules.proofs.Positions.{IsBoard-put}
 use Rattle.brain_session.specs.declared.batch.BatchStone.{BatchStone}
-use Rattle.brain_session.specs.Batches.{has_stone_at, side_of, with_batch_stones}
-use Rattle.brain_session.specs.ChosenMoves.{same_rule}
-use Rattle.brain_session.specs.States.{empty_board}
+use Rattle.brain_session.proofs.Common.{has_stone_at, side_of, with_batch_stones, same_rule, empty_board}
 use Rattle.brain_session.proofs.SessionBoards.{empty-board, empty-empty}
 
 -- the stone on a point, where the brain is the side to move

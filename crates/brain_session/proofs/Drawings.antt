@@ -1,12 +1,9 @@
 -- The drawing of a session has the board of the brain, line by line.
-use Rattle.std.proofs.Common.{◌≡◌, ◌≢◌, ℕ, ◌≤◌, Bool, true, false, cond, ◌&&◌, ◌||◌, not, ◌==◌, List, [], ◌∷◌, ◌++◌, refl, sym, ap, subst}
-use Rattle.std.proofs.Common.{◌∙◌, arith}
-use Rattle.std.specs.Prelude.{Option, Some, None, IfSome, fold, unwrap_or, is_none}
-use Rattle.std.specs.Option.{option_map, option_and_then}
+use Rattle.std.proofs.Common.{◌≡◌, ◌≢◌, ℕ, ◌≤◌, Bool, true, false, cond, ◌&&◌, ◌||◌, not, ◌==◌, List, []}
+use Rattle.std.proofs.Common.{◌∷◌, ◌++◌, refl, sym, ap, subst, ◌∙◌, arith, Option, Some, None, IfSome, fold, unwrap_or}
+use Rattle.std.proofs.Common.{is_none, option_map, option_and_then}
 use Rattle.std.proofs.lemmas.Option.{same_Some}
-use Rattle.game_rules.specs.Grid.{Grid, IsBoard, is_on}
-use Rattle.game_rules.specs.Shapes.{is_same_point}
-use Rattle.game_rules.specs.Play.{mover, outcome}
+use Rattle.game_rules.proofs.Common.{Grid, IsBoard, is_on, is_same_point, mover, outcome}
 use Rattle.game_rules.specs.declared.RuleKind.{RuleKind}
 use Rattle.game_rules.specs.declared.Side.{Side}
 use Rattle.game_rules.specs.declared.Side.TheVariants.{Black, White}
@@ -21,31 +18,20 @@ use Rattle.gomocup_text.specs.declared.Answer.{Answer}
 use Rattle.gomocup_text.specs.declared.Answer.TheVariants.{Ok as SaysOk, Move, Error, Unknown as SaysUnknown}
 use Rattle.gomocup_text.specs.declared.ErrorText.{ErrorText}
 use Rattle.gomocup_text.specs.declared.ErrorText.TheVariants.{UnsupportedSize, NoBoard as NoBoardText, NotReading, UnsupportedRule}
-use Rattle.gomocup_text.specs.declared.ErrorText.TheVariants.{BadBoard}
-use Rattle.gomocup_text.specs.declared.ErrorText.TheVariants.{BadArguments, GameStarted, GameOver, WrongTurn, BadMove, GameLost}
-use Rattle.gomocup_text.specs.declared.ErrorText.TheVariants.{OpponentFoul}
-use Rattle.gomocup_text.specs.declared.ErrorText.TheVariants.{GameDrawn}
+use Rattle.gomocup_text.specs.declared.ErrorText.TheVariants.{BadBoard, BadArguments, GameStarted, GameOver, WrongTurn, BadMove, GameLost}
+use Rattle.gomocup_text.specs.declared.ErrorText.TheVariants.{OpponentFoul, GameDrawn}
 use Rattle.brain_session.specs.declared.Reaction.{Reaction}
 use Rattle.brain_session.specs.declared.Reaction.TheVariants.{Silent, Says, Ends}
 use Rattle.brain_session.specs.declared.batch.BatchStone.{BatchStone}
-use Rattle.brain_session.specs.States.{Game, board_after, board_of, empty_board, new_brain, new_game, point_at, Place, NoBoard, Fresh}
-use Rattle.brain_session.specs.States.{InGame}
-use Rattle.brain_session.specs.States.{Batch, State}
-use Rattle.brain_session.specs.Batches.{new_batch, spoiled, has_stone_at, colour_in, with_batch_stones, lawful_game, game_from}
-use Rattle.brain_session.specs.ChosenMoves.{chosen}
-use Rattle.brain_session.specs.Kept.{without_last}
-use Rattle.brain_session.specs.Steps.{Row, Reacts, Chooses, fails, unread, reading, placed, rule_of, if_supported, is_side, start_row}
-use Rattle.brain_session.specs.Steps.{restart_row}
-use Rattle.brain_session.specs.Steps.{board_row, board_in, stone_row, batch_row, done_row, begin_row, same_side, with_move, end_row}
-use Rattle.brain_session.specs.Steps.{move_row}
-use Rattle.brain_session.specs.Steps.{turn_row, is_bare, place_before, last_row, takeback_row, if_not_reading, row_of, with_choice, step_by}
-use Rattle.brain_session.specs.Steps.{brain_step}
-use Rattle.brain_session.specs.Sessions.{state_after}
-use Rattle.brain_session.specs.Serving.{HasNoEnd}
-use Rattle.brain_session.specs.Drawings.{Exchange, Sheet, Drawing, SessionsAreDrawn, answer_in, exchanges, blank, set_up, wiped, sent_anew}
-use Rattle.brain_session.specs.Drawings.{sent_board, set_out, with_answer, with_reply, taken_back, with_moves, drawn_after, drawn}
-use Rattle.brain_session.specs.Drawings.{drawn_board}
-use Rattle.brain_session.specs.Drawings.{board_now}
+use Rattle.brain_session.proofs.Common.{Game, board_after, board_of, empty_board, new_brain, new_game, point_at, Place, NoBoard, Fresh}
+use Rattle.brain_session.proofs.Common.{InGame, Batch, State, new_batch, spoiled, has_stone_at, colour_in, with_batch_stones, lawful_game}
+use Rattle.brain_session.proofs.Common.{game_from, chosen, without_last, Row, Reacts, Chooses, fails, unread, reading, placed, rule_of}
+use Rattle.brain_session.proofs.Common.{if_supported, is_side, start_row, restart_row, board_row, board_in, stone_row, batch_row, done_row}
+use Rattle.brain_session.proofs.Common.{begin_row, same_side, with_move, end_row, move_row, turn_row, is_bare, place_before, last_row}
+use Rattle.brain_session.proofs.Common.{takeback_row, if_not_reading, row_of, with_choice, step_by, brain_step, state_after, HasNoEnd}
+use Rattle.brain_session.proofs.Common.{Exchange, Sheet, Drawing, SessionsAreDrawn, answer_in, exchanges, blank, set_up, wiped, sent_anew}
+use Rattle.brain_session.proofs.Common.{sent_board, set_out, with_answer, with_reply, taken_back, with_moves, drawn_after, drawn}
+use Rattle.brain_session.proofs.Common.{drawn_board, board_now}
 use Rattle.brain_session.proofs.SessionBoards.{bare-board}
 use Rattle.brain_session.proofs.SessionLaws.{first_goes_on, later_go_on, only_end_ends, state_goes_on}
 use Rattle.brain_session.proofs.LawfulStates.{BatchFits, LawfulPlace, LawfulState, next-lawful, went_from}

@@ -1,10 +1,8 @@
 -- A game in which something is followed, a held node or a win of the brain's own: what each later command does to it.
-use Rattle.std.proofs.Common.{◌≡◌, ℕ, suc, ◌<◌, arith, Bool, true, false, cond, List, [], ◌∷◌, refl, sym, ap, subst, ◌∙◌, not}
-use Rattle.std.specs.Prelude.{Option, Some, None, is_some}
-use Rattle.game_rules.specs.Grid.{Grid, is_empty}
+use Rattle.std.proofs.Common.{◌≡◌, ℕ, suc, ◌<◌, arith, Bool, true, false, cond, List, [], ◌∷◌, refl, sym, ap, subst}
+use Rattle.std.proofs.Common.{◌∙◌, not, Option, Some, None, is_some}
+use Rattle.game_rules.proofs.Common.{Grid, is_empty, is_foul, outcome, after, IsPosition, mover, other, goes_on, WinsOr, LosesOr}
 use Rattle.game_rules.proofs.Outcomes.{moved}
-use Rattle.game_rules.specs.Play.{is_foul, outcome, after, IsPosition, mover, other, goes_on}
-use Rattle.game_rules.specs.Games.{WinsOr, LosesOr}
 use Rattle.game_rules.specs.declared.RuleKind.{RuleKind}
 use Rattle.game_rules.specs.declared.Foul.{Foul}
 use Rattle.game_rules.specs.declared.Outcome.{Outcome}
@@ -13,7 +11,7 @@ use Rattle.game_rules.specs.declared.Point.{Point}
 use Rattle.game_rules.specs.declared.Side.{Side}
 use Rattle.game_rules.specs.declared.Side.TheVariants.{Black, White}
 use Rattle.game_rules.proofs.Positions.{mover-then}
-use Rattle.strategy_graph.specs.Games.{End, Won, Open, one_later}
+use Rattle.strategy_graph.proofs.Common.{End, Won, Open, one_later}
 use Rattle.strategy_checker.specs.HeldRoots.{HeldTable}
 use Rattle.gomocup_text.specs.declared.Answer.{Answer}
 use Rattle.gomocup_text.specs.declared.Answer.TheVariants.{Move, Error}
@@ -22,13 +20,10 @@ use Rattle.gomocup_text.specs.declared.ErrorText.TheVariants.{OpponentFoul, Unsu
 use Rattle.gomocup_text.specs.declared.Command.{Command}
 use Rattle.gomocup_text.specs.declared.Command.TheVariants.{Start, RectStart, Turn, Board, Restart, Takeback, Rule, End as EndCommand}
 use Rattle.brain_session.specs.declared.Reaction.TheVariants.{Says}
-use Rattle.brain_session.specs.States.{Game, board_of, point_at, InGame, State}
-use Rattle.brain_session.specs.ChosenMoves.{Choice, chosen}
-use Rattle.brain_session.specs.Steps.{Row, Chooses, fails, rule_of, if_supported, same_side, with_move, end_row, move_row, row_of}
-use Rattle.brain_session.specs.Steps.{with_choice, step_by}
-use Rattle.brain_session.specs.HeldGames.{ends_with_foul, IsWonWithin, is_no_reply, then_replies, replies, then_answers_to}
-use Rattle.brain_session.specs.HeldGames.{answers_to_replies, turns}
-use Rattle.brain_session.specs.Sessions.{answers_from, then_answers}
+use Rattle.brain_session.proofs.Common.{Game, board_of, point_at, InGame, State, Choice, chosen, Row, Chooses, fails, rule_of, if_supported}
+use Rattle.brain_session.proofs.Common.{same_side, with_move, end_row, move_row, row_of, with_choice, step_by, ends_with_foul, IsWonWithin}
+use Rattle.brain_session.proofs.Common.{is_no_reply, then_replies, replies, then_answers_to, answers_to_replies, turns, answers_from}
+use Rattle.brain_session.proofs.Common.{then_answers}
 use Rattle.brain_session.proofs.SessionLaws.{answers-none}
 
 -- the state in which this game goes on, with this wish and no batch

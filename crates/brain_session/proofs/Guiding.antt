@@ -1,31 +1,26 @@
 -- What the brain follows goes on: from the board where a node's attack is to be played to that after it, and to those after each
 -- reply.
-use Rattle.std.proofs.Common.{◌≡◌, ℕ, ◌-◌, true, List, sym, ap, subst, ◌∙◌}
-use Rattle.std.specs.Prelude.{Option, Some, None, MatchOption, slice_get, IsSomeAnd}
-use Rattle.std.specs.Option.{option_map}
-use Rattle.game_rules.specs.Grid.{Grid, is_empty}
-use Rattle.game_rules.specs.Play.{IsPosition, outcome, after}
-use Rattle.game_rules.specs.Games.{WinsByFours, has_five, wins_by_fours}
+use Rattle.std.proofs.Common.{◌≡◌, ℕ, ◌-◌, true, List, sym, ap, subst, ◌∙◌, Option, Some, None, MatchOption, slice_get}
+use Rattle.std.proofs.Common.{IsSomeAnd, option_map}
+use Rattle.game_rules.proofs.Common.{Grid, is_empty, IsPosition, outcome, after, WinsByFours, has_five, wins_by_fours}
 use Rattle.game_rules.specs.declared.RuleKind.{RuleKind}
 use Rattle.game_rules.specs.declared.Outcome.TheVariants.{GoesOn}
 use Rattle.game_rules.specs.declared.Point.{Point}
 use Rattle.game_rules.proofs.Games.{LosesOr-map, test-WinsUnder, WinsUnder-test}
 use Rattle.game_rules.proofs.Outcomes.{going}
 use Rattle.strategy_graph.specs.declared.Node.{Node}
-use Rattle.strategy_graph.specs.Tables.{answer_at, IsTable}
-use Rattle.strategy_graph.specs.Acceptance.{Accepted}
+use Rattle.strategy_graph.proofs.Common.{answer_at, IsTable, Accepted}
 use Rattle.strategy_graph.proofs.Answering.{IsSomeAnd-map}
 use Rattle.strategy_graph.proofs.Following.{accepted-in_table, accepted-replies, attack_empty}
-use Rattle.strategy_compiler.specs.Trees.{StandsFor}
+use Rattle.strategy_compiler.proofs.Common.{StandsFor}
 use Rattle.strategy_checker.specs.HeldRoots.{HeldTable}
 use Rattle.four_search.specs.declared.fewest.FourTable.{FourTable}
 use Rattle.four_search.specs.Plans.{four_plan}
 use Rattle.four_search.proofs.Written.{plan-attacks, plan-replies, PlanAt}
 use Rattle.brain_session.specs.declared.guide.Guide.{Guide}
 use Rattle.brain_session.specs.declared.guide.Guide.TheVariants.{HeldNode as HeldGuide, OwnWin as OwnGuide}
-use Rattle.brain_session.specs.Running.{FollowsAt}
-use Rattle.brain_session.specs.ChosenMoves.{move_by}
-use Rattle.brain_session.specs.Kept.{GuidesAt, OwnStandsAt, NodeStandsAt, StandsAt, GoesOnAfter, followed_of, nodes_of}
+use Rattle.brain_session.proofs.Common.{FollowsAt, move_by, GuidesAt, OwnStandsAt, NodeStandsAt, StandsAt, GoesOnAfter, followed_of}
+use Rattle.brain_session.proofs.Common.{nodes_of}
 
 -- ---- the move
 

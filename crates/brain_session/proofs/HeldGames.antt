@@ -1,30 +1,22 @@
 -- Held games go well: from the command that begins one, the answers to the replies are the attacks of the table.
-use Rattle.std.proofs.Common.{◌≡◌, ℕ, suc, List, ◌∷◌, get_or, length, refl, sym, ap, subst, ◌∙◌}
-use Rattle.std.specs.Prelude.{Some, None, slice_get}
+use Rattle.std.proofs.Common.{◌≡◌, ℕ, suc, List, ◌∷◌, get_or, length, refl, sym, ap, subst, ◌∙◌, Some, None, slice_get}
 use Rattle.std.proofs.lemmas.List.Elements.{All-contains}
-use Rattle.game_rules.specs.Grid.{Grid}
-use Rattle.game_rules.specs.Play.{outcome}
+use Rattle.game_rules.proofs.Common.{Grid, outcome}
 use Rattle.game_rules.specs.declared.RuleKind.{RuleKind}
 use Rattle.game_rules.proofs.Outcomes.{tight}
 use Rattle.strategy_graph.specs.declared.Node.{Node}
 use Rattle.strategy_graph.specs.declared.roots.Root.{Root}
 use Rattle.strategy_graph.specs.declared.roots.Root.TheVariants.{Attack, Defend}
-use Rattle.strategy_graph.specs.Tables.{depth_within, depth}
-use Rattle.strategy_graph.specs.Acceptance.{Accepted}
-use Rattle.strategy_graph.specs.Roots.{AcceptedRoot}
-use Rattle.strategy_graph.specs.Games.{game}
+use Rattle.strategy_graph.proofs.Common.{depth_within, depth, Accepted, AcceptedRoot, game}
 use Rattle.strategy_graph.proofs.Fuel.{accepted_node}
 use Rattle.strategy_checker.specs.HeldRoots.{HeldTable, IsHeldRoot, IsHeld}
 use Rattle.gomocup_text.specs.declared.Command.{Command}
 use Rattle.gomocup_text.specs.declared.Answer.TheVariants.{Move}
 use Rattle.brain_session.specs.declared.Reaction.TheVariants.{Says}
-use Rattle.brain_session.specs.States.{Game, board_of, State, new_brain}
-use Rattle.brain_session.specs.ChosenMoves.{Choice, chosen, chosen_anew, by_followed, first_node}
-use Rattle.brain_session.specs.Steps.{Step, step_by, with_choice, brain_step}
-use Rattle.brain_session.specs.Sessions.{state_after}
-use Rattle.brain_session.specs.HeldGames.{BeginsHeldGame, IsLedTo, HeldGameGoesWell, HeldGamesGoWell, HeldGamesAreLed}
-use Rattle.brain_session.specs.HeldGames.{SessionsGoWell, IsTight, StartsAreTight, replies, answers_to_replies, game_answers, IsWonWithin}
-use Rattle.brain_session.specs.Running.{GoesOnAlong}
+use Rattle.brain_session.proofs.Common.{Game, board_of, State, new_brain, Choice, chosen, chosen_anew, by_followed, first_node, Step}
+use Rattle.brain_session.proofs.Common.{step_by, with_choice, brain_step, state_after, BeginsHeldGame, IsLedTo, HeldGameGoesWell}
+use Rattle.brain_session.proofs.Common.{HeldGamesGoWell, HeldGamesAreLed, SessionsGoWell, IsTight, StartsAreTight, replies}
+use Rattle.brain_session.proofs.Common.{answers_to_replies, game_answers, IsWonWithin, GoesOnAlong}
 use Rattle.brain_session.proofs.HeldNodes.{first-led, root-accepted, root-no_deeper}
 use Rattle.brain_session.proofs.HeldSteps.{GoesBy, by_node, StandsIn, held-go_well}
 use Rattle.brain_session.proofs.SessionGames.{along-lawful}

@@ -1,11 +1,9 @@
 -- The node to which a held root leads in a game, and that to which the first leads that leads to one.
-use Rattle.std.proofs.Common.{◌≡◌, ℕ, zero, suc, ◌+◌, ◌≤◌, ◌<◌, Bool, true, false, cond, refl, sym, ap, subst, ◌∙◌, arith, List, [], ◌∷◌}
-use Rattle.std.proofs.Common.{length, drop}
-use Rattle.std.specs.Prelude.{Option, Some, None, slice_get, Contains, IsSomeAnd}
-use Rattle.std.specs.Option.{option_and_then, option_or}
-use Rattle.game_rules.specs.Grid.{Grid}
-use Rattle.game_rules.specs.Play.{after}
-use Rattle.game_rules.specs.Games.{LosesOr}
+use Rattle.std.proofs.Common.{◌≡◌, ℕ, zero, suc, ◌+◌, ◌≤◌, ◌<◌, Bool, true, false, cond, refl, sym, ap, subst}
+use Rattle.std.proofs.Common.{◌∙◌, arith, List, [], ◌∷◌, length, drop, Option, Some, None, slice_get, Contains, IsSomeAnd}
+use Rattle.std.proofs.Common.{option_and_then}
+use Rattle.std.specs.Option.{option_or}
+use Rattle.game_rules.proofs.Common.{Grid, after, LosesOr}
 use Rattle.game_rules.specs.declared.RuleKind.{RuleKind}
 use Rattle.game_rules.specs.declared.RuleKind.TheVariants.{Freestyle, Exact, Renju}
 use Rattle.game_rules.specs.declared.Outcome.{Outcome}
@@ -13,15 +11,12 @@ use Rattle.game_rules.specs.declared.Point.{Point}
 use Rattle.strategy_graph.specs.declared.Node.{Node}
 use Rattle.strategy_graph.specs.declared.roots.Root.{Root}
 use Rattle.strategy_graph.specs.declared.roots.Root.TheVariants.{Attack, Defend}
-use Rattle.strategy_graph.specs.Tables.{Answers, answer, depth, start_depth}
-use Rattle.strategy_graph.specs.Roots.{AcceptedRoot, root_depth}
-use Rattle.strategy_graph.specs.Acceptance.{Accepted, AcceptedStart}
+use Rattle.strategy_graph.proofs.Common.{Answers, answer, depth, start_depth, AcceptedRoot, root_depth, Accepted, AcceptedStart}
 use Rattle.strategy_graph.proofs.Following.{accepted-in_table, answer-no_deeper}
 use Rattle.strategy_checker.specs.declared.held.HeldRoot.{HeldRoot}
 use Rattle.strategy_checker.specs.HeldRoots.{HeldTable, IsHeld, IsHeldRoot}
-use Rattle.brain_session.specs.States.{Game, board_after, board_of}
-use Rattle.brain_session.specs.Running.{GoesOnAlong}
-use Rattle.brain_session.specs.ChosenMoves.{same_rule, same_board, start_answer, node_at, root_node, first_node}
+use Rattle.brain_session.proofs.Common.{Game, board_after, board_of, GoesOnAlong, same_rule, same_board, start_answer, node_at, root_node}
+use Rattle.brain_session.proofs.Common.{first_node}
 use Rattle.brain_session.proofs.PlayedMoves.{same_board-is}
 
 -- the node to which the root leads, if there is one, in the game g

@@ -1,19 +1,17 @@
 -- Each legal reply that is sent to a brain in a held game is answered.
-use Rattle.std.proofs.Common.{◌≡◌, ℕ, true, List, ◌∷◌, sym, ap, subst, ◌∙◌}
-use Rattle.std.specs.Prelude.{Some, is_some}
-use Rattle.game_rules.specs.Play.{outcome}
+use Rattle.std.proofs.Common.{◌≡◌, ℕ, true, List, ◌∷◌, sym, ap, subst, ◌∙◌, Some, is_some}
+use Rattle.game_rules.proofs.Common.{outcome}
 use Rattle.game_rules.specs.declared.RuleKind.{RuleKind}
 use Rattle.game_rules.specs.declared.Side.TheVariants.{White}
 use Rattle.game_rules.specs.declared.Outcome.{Outcome}
 use Rattle.game_rules.specs.declared.Outcome.TheVariants.{GoesOn}
 use Rattle.game_rules.specs.declared.Point.{Point}
-use Rattle.strategy_graph.specs.Games.{attacks}
+use Rattle.strategy_graph.proofs.Common.{attacks}
 use Rattle.strategy_checker.specs.HeldRoots.{HeldTable, IsHeld}
 use Rattle.gomocup_text.specs.declared.Command.{Command}
-use Rattle.brain_session.specs.States.{Game, board_of, empty_board, new_game, State, new_brain}
-use Rattle.brain_session.specs.Steps.{Row, Reacts, Chooses, rule_of, move_row, row_of, Step, brain_step}
-use Rattle.brain_session.specs.Sessions.{then_answers, answers_from, state_after}
-use Rattle.brain_session.specs.HeldGames.{BeginsHeldGame, AreReplies, turns, game_answers, LegalRepliesAreAnswered}
+use Rattle.brain_session.proofs.Common.{Game, board_of, empty_board, new_game, State, new_brain, Row, Reacts, Chooses, rule_of, move_row}
+use Rattle.brain_session.proofs.Common.{row_of, Step, brain_step, then_answers, answers_from, state_after, BeginsHeldGame, AreReplies}
+use Rattle.brain_session.proofs.Common.{turns, game_answers, LegalRepliesAreAnswered}
 use Rattle.brain_session.proofs.HeldSteps.{held-answered}
 use Rattle.brain_session.proofs.RowCases.{row-cases}
 use Rattle.brain_session.proofs.LawfulStates.{LawfulState, session-lawful, new-lawful}

@@ -1,10 +1,7 @@
 -- A game in which a held node is followed: how it goes on by one reply, over plain values, and what each later command does to it.
-use Rattle.std.specs.Prelude.{Some, slice_get, is_some, IsSomeAnd}
-use Rattle.std.proofs.Common.{◌≡◌, ℕ, suc, ◌≤◌, ◌<◌, Bool, true, false, cond, List, [], ◌∷◌, ◌++◌, map, length, refl, sym, ap, ◌∙◌, arith, not}
-use Rattle.std.proofs.Common.{subst}
-use Rattle.game_rules.specs.Grid.{Grid}
-use Rattle.game_rules.specs.Play.{outcome, after, IsPosition, mover, other, goes_on}
-use Rattle.game_rules.specs.Games.{WinsOr, LosesOr}
+use Rattle.std.proofs.Common.{Some, slice_get, is_some, IsSomeAnd, ◌≡◌, ℕ, suc, ◌≤◌, ◌<◌, Bool, true, false, cond, List}
+use Rattle.std.proofs.Common.{[], ◌∷◌, ◌++◌, map, length, refl, sym, ap, ◌∙◌, arith, not, subst}
+use Rattle.game_rules.proofs.Common.{Grid, outcome, after, IsPosition, mover, other, goes_on, WinsOr, LosesOr}
 use Rattle.game_rules.specs.declared.RuleKind.{RuleKind}
 use Rattle.game_rules.specs.declared.Foul.{Foul}
 use Rattle.game_rules.specs.declared.Outcome.{Outcome}
@@ -15,9 +12,8 @@ use Rattle.game_rules.proofs.Games.{WinsOr-map}
 use Rattle.game_rules.proofs.Boards.{other-other}
 use Rattle.strategy_graph.specs.declared.Rest.{Rest}
 use Rattle.strategy_graph.specs.declared.Node.{Node}
-use Rattle.strategy_graph.specs.Tables.{answers_of, answer, is_winning, depth_within}
-use Rattle.strategy_graph.specs.Acceptance.{Meets, AcceptedWithin}
-use Rattle.strategy_graph.specs.Games.{NoMove, Open, after_attack, game, attacks}
+use Rattle.strategy_graph.proofs.Common.{answers_of, answer, is_winning, depth_within, Meets, AcceptedWithin, NoMove, Open, after_attack}
+use Rattle.strategy_graph.proofs.Common.{game, attacks}
 use Rattle.strategy_graph.proofs.Answering.{IsSomeAnd-elim}
 use Rattle.strategy_graph.proofs.Fuel.{depth_some, deeper, accepted_node}
 use Rattle.strategy_graph.proofs.Endings.{attacks-open, first_at}
@@ -27,11 +23,9 @@ use Rattle.gomocup_text.specs.declared.Answer.TheVariants.{Move, Error}
 use Rattle.gomocup_text.specs.declared.ErrorText.TheVariants.{OpponentFoul}
 use Rattle.gomocup_text.specs.declared.Command.{Command}
 use Rattle.gomocup_text.specs.declared.Command.TheVariants.{Turn}
-use Rattle.brain_session.specs.ChosenMoves.{Choice, chosen}
-use Rattle.brain_session.specs.HeldGames.{AreReplies, ends_with_foul, game_answers, IsWonWithin, replies, answers_to_replies, turns}
-use Rattle.brain_session.specs.Sessions.{answers_from}
-use Rattle.brain_session.specs.States.{HeldNode, Game, board_of}
-use Rattle.brain_session.specs.Steps.{rule_of, if_supported, with_move, move_row, row_of, with_choice}
+use Rattle.brain_session.proofs.Common.{Choice, chosen, AreReplies, ends_with_foul, game_answers, IsWonWithin, replies, answers_to_replies}
+use Rattle.brain_session.proofs.Common.{turns, answers_from, HeldNode, Game, board_of, rule_of, if_supported, with_move, move_row, row_of}
+use Rattle.brain_session.proofs.Common.{with_choice}
 use Rattle.brain_session.proofs.FollowedGames.{foul-later, won-later, state_in, IsNextTo, IsFollowed, all-answered, all-go_well, turn_going}
 
 -- the answers to the attack a and to these replies are those of the game from node i at b, which is won within d or open

@@ -1,9 +1,7 @@
 -- Whoever answers by an accepted table wins within its depth, whatever legal replies come.
-use Rattle.std.proofs.Common.{◌≡◌, ℕ, suc, ◌≤◌, true, false, List, [], ◌∷◌, get_or, length, refl, sym, subst, arith, ◌⊎◌, inl, inr}
-use Rattle.std.specs.Prelude.{Some, slice_get, IsSomeAnd}
-use Rattle.game_rules.specs.Grid.{Grid, is_empty}
-use Rattle.game_rules.specs.Play.{outcome, after, is_foul}
-use Rattle.game_rules.specs.Games.{WinsOr, LosesOr}
+use Rattle.std.proofs.Common.{◌≡◌, ℕ, suc, ◌≤◌, true, false, List, [], ◌∷◌, get_or, length, refl, sym, subst, arith}
+use Rattle.std.proofs.Common.{◌⊎◌, inl, inr, Some, slice_get, IsSomeAnd}
+use Rattle.game_rules.proofs.Common.{Grid, is_empty, outcome, after, is_foul, WinsOr, LosesOr}
 use Rattle.game_rules.proofs.Games.{WinsOr-map}
 use Rattle.game_rules.specs.declared.RuleKind.{RuleKind}
 use Rattle.game_rules.specs.declared.Foul.{Foul}
@@ -14,13 +12,11 @@ use Rattle.game_rules.proofs.Outcomes.{moved}
 use Rattle.strategy_graph.specs.declared.Node.{Node}
 use Rattle.strategy_graph.specs.declared.roots.Root.{Root}
 use Rattle.strategy_graph.specs.declared.roots.Root.TheVariants.{Attack, Defend}
-use Rattle.strategy_graph.specs.Tables.{Answers, answers_of, answer, is_winning, depth_within, depth, start_depth}
-use Rattle.strategy_graph.specs.Acceptance.{Meets, AcceptedWithin, Accepted}
-use Rattle.strategy_graph.specs.Roots.{AcceptedRoot}
-use Rattle.strategy_graph.specs.Games.{End, Won, Open, game, attacks}
+use Rattle.strategy_graph.proofs.Common.{Answers, answers_of, answer, is_winning, depth_within, depth, start_depth, Meets, AcceptedWithin}
+use Rattle.strategy_graph.proofs.Common.{Accepted, AcceptedRoot, End, Won, Open, game, attacks}
 use Rattle.strategy_graph.proofs.Answering.{answer-greatest, IsSomeAnd-elim}
 use Rattle.strategy_graph.proofs.Fuel.{depth_some, deeper, accepted_node}
-use Rattle.brain_session.specs.HeldGames.{IsWonWithin, AreReplies, WinsGames, AnswersAndWins, RootWinsGames, WhoeverHoldsWins}
+use Rattle.brain_session.proofs.Common.{IsWonWithin, AreReplies, WinsGames, AnswersAndWins, RootWinsGames, WhoeverHoldsWins}
 use Rattle.brain_session.proofs.HeldSteps.{by_none, by_foul, attacks-first, attacks-foul, attacks-next, won_next}
 
 won_more : (d e n : ℕ) (end : End) → d ≤ e → IsWonWithin d n end → IsWonWithin e n end

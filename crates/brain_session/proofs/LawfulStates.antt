@@ -1,11 +1,8 @@
 -- What is true of the brain's state whatever it was told, as far as held games need it: the moves of a game that is not ended
 -- went on from a lawful position, and those of an ended one did so up to the last.
 use Rattle.std.proofs.Common.{◌≡◌, ℕ, Bool, true, false, cond, not, List, [], ◌∷◌, refl, sym, ap, subst, ◌∙◌, IfSome}
-use Rattle.std.specs.Prelude.{◌≢◌, nat_le, Option, Some, None, is_none}
-use Rattle.std.specs.Option.{option_and_then}
-use borrow.Author.Tests.{leb-true}
-use Rattle.game_rules.specs.Grid.{Grid, IsBoard, is_on, put}
-use Rattle.game_rules.specs.Play.{IsPosition, outcome, mover, other, goes_on}
+use Rattle.std.proofs.Common.{◌≢◌, nat_le, Option, Some, None, is_none, option_and_then, leb-true}
+use Rattle.game_rules.proofs.Common.{Grid, IsBoard, is_on, put, IsPosition, outcome, mover, other, goes_on}
 use Rattle.game_rules.specs.declared.TheConstants.{MIN_SIDE}
 use Rattle.game_rules.specs.declared.RuleKind.{RuleKind}
 use Rattle.game_rules.specs.declared.Side.{Side}
@@ -23,13 +20,10 @@ use Rattle.gomocup_text.specs.declared.Command.{Command}
 use Rattle.brain_session.specs.declared.Reaction.{Reaction}
 use Rattle.brain_session.specs.declared.Reaction.TheVariants.{Silent, Says, Ends}
 use Rattle.brain_session.specs.declared.batch.BatchStone.{BatchStone}
-use Rattle.brain_session.specs.States.{Game, board_of, empty_board, new_game, Place, NoBoard, Fresh, InGame, Batch, State, new_brain}
-use Rattle.brain_session.specs.Batches.{side_of, colour_in, with_batch_stones, lawful_game, game_from}
-use Rattle.brain_session.specs.ChosenMoves.{Choice, chosen}
-use Rattle.brain_session.specs.Steps.{Row, Reacts, Chooses, placed, is_side, board_in, same_side, with_move, move_row, is_bare}
-use Rattle.brain_session.specs.Steps.{place_before, row_of, with_choice, step_by, brain_step}
-use Rattle.brain_session.specs.Sessions.{then_state, state_after}
-use Rattle.brain_session.specs.Running.{GoesOnAlong, StonesFit}
+use Rattle.brain_session.proofs.Common.{Game, board_of, empty_board, new_game, Place, NoBoard, Fresh, InGame, Batch, State, new_brain}
+use Rattle.brain_session.proofs.Common.{side_of, colour_in, with_batch_stones, lawful_game, game_from, Choice, chosen, Row, Reacts, Chooses}
+use Rattle.brain_session.proofs.Common.{placed, is_side, board_in, same_side, with_move, move_row, is_bare, place_before, row_of}
+use Rattle.brain_session.proofs.Common.{with_choice, step_by, brain_step, then_state, state_after, GoesOnAlong, StonesFit}
 use Rattle.brain_session.proofs.SessionGames.{along-lawful, start-lawful}
 use Rattle.brain_session.proofs.SessionBoards.{empty-mover, empty-lawful, board-sized, empty-board}
 use Rattle.brain_session.proofs.BatchGames.{batch-mover}

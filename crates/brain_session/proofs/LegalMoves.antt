@@ -1,10 +1,7 @@
 -- A plain move is at an empty point, where the position is lawful.
-use Rattle.std.proofs.Common.{◌≡◌, ◌<◌, Bool, true, ◌&&◌, not, refl}
-use Rattle.std.specs.Prelude.{Option, Some, None}
-use Rattle.std.specs.List.{filter}
-use Rattle.game_rules.specs.Grid.{Grid, IsBoard, is_empty, is_empty_cell, cell_at, points_of, empties_of}
-use Rattle.game_rules.specs.Shapes.{five}
-use Rattle.game_rules.specs.Play.{IsPosition, outcome, mover, other, is_foul}
+use Rattle.std.proofs.Common.{◌≡◌, ◌<◌, Bool, true, ◌&&◌, not, refl, Option, Some, None, filter}
+use Rattle.game_rules.proofs.Common.{Grid, IsBoard, is_empty, is_empty_cell, cell_at, points_of, empties_of, five, IsPosition, outcome}
+use Rattle.game_rules.proofs.Common.{mover, other, is_foul}
 use Rattle.game_rules.specs.declared.RuleKind.{RuleKind}
 use Rattle.game_rules.specs.declared.Point.{Point}
 use Rattle.game_rules.proofs.Boards.{and_left}
@@ -12,7 +9,7 @@ use Rattle.game_rules.proofs.Fives.{five-empty}
 use Rattle.game_rules.proofs.Points.{points-found, filter-passes}
 use Rattle.game_rules.proofs.Places.{find-in, find-passes, find-some}
 use Rattle.game_rules.proofs.ReadingOrder.{some_empty}
-use Rattle.brain_session.specs.ChosenMoves.{or_else, five_to_make, five_to_block, next_to_middle, least_empty, plain_move}
+use Rattle.brain_session.proofs.Common.{or_else, five_to_make, five_to_block, next_to_middle, least_empty, plain_move}
 
 -- ---- some point is empty
 

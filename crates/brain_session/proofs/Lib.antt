@@ -1,5 +1,7 @@
 -- The laws of the brain. What is declared by `pub mod` the layers above may cite; the rest serves this crate alone.
 
+-- the words of the crate, in one place
+mod Common
 -- the point next to the middle
 mod PlainMoves
 -- a board with the moves on it; whether two boards are one

@@ -1,16 +1,15 @@
 -- A held game begins where a reader of the lines sees the position of a root, and is won.
-use Rattle.std.proofs.Common.{◌≡◌, ℕ, List, [], ◌∷◌, ◌++◌, refl, sym, ap, subst, ◌∙◌, arith}
-use Rattle.std.specs.Prelude.{Option, Some, None, All, Contains}
-use Rattle.std.specs.Option.{option_map, option_and_then}
+use Rattle.std.proofs.Common.{◌≡◌, ℕ, List, [], ◌∷◌, ◌++◌, refl, sym, ap, subst, ◌∙◌, arith, Option, Some, None}
+use Rattle.std.proofs.Common.{All, Contains, option_map, option_and_then}
 use Rattle.std.proofs.lemmas.Option.{same_Some}
 use Rattle.std.proofs.lemmas.List.Elements.{All-contains, Contains-append_right}
-use Rattle.game_rules.specs.Grid.{Grid}
+use Rattle.game_rules.proofs.Common.{Grid}
 use Rattle.game_rules.specs.declared.RuleKind.{RuleKind}
 use Rattle.game_rules.specs.declared.Side.TheVariants.{Black}
 use Rattle.game_rules.specs.declared.Point.{Point}
 use Rattle.strategy_graph.specs.declared.roots.Root.{Root}
 use Rattle.strategy_graph.specs.declared.roots.Root.TheVariants.{Attack, Defend}
-use Rattle.strategy_graph.specs.Games.{attacks}
+use Rattle.strategy_graph.proofs.Common.{attacks}
 use Rattle.strategy_checker.specs.declared.held.HeldRoot.{HeldRoot}
 use Rattle.strategy_checker.specs.HeldRoots.{HeldTable}
 use Rattle.gomocup_text.specs.declared.Command.{Command}
@@ -21,19 +20,12 @@ use Rattle.gomocup_text.specs.declared.ErrorText.TheVariants.{BadBoard, Unsuppor
 use Rattle.brain_session.specs.declared.Reaction.{Reaction}
 use Rattle.brain_session.specs.declared.Reaction.TheVariants.{Silent, Says, Ends}
 use Rattle.brain_session.specs.declared.batch.BatchStone.{BatchStone}
-use Rattle.brain_session.specs.States.{Followed, Game, board_after, board_of, empty_board, new_brain, new_game, Place, NoBoard, Fresh}
-use Rattle.brain_session.specs.States.{InGame, Batch, State}
-use Rattle.brain_session.specs.Batches.{game_from}
-use Rattle.brain_session.specs.ChosenMoves.{Choice, by_followed, by_following, followed_after, last_move}
-use Rattle.brain_session.specs.Steps.{Row, Chooses, rule_of, if_supported, board_in, unread, batch_row, done_row, begin_row, if_not_reading}
-use Rattle.brain_session.specs.Steps.{row_of}
-use Rattle.brain_session.specs.Steps.{step_by, brain_step}
-use Rattle.brain_session.specs.Sessions.{answer_texts, answers_from, session_text, state_after, then_answers}
-use Rattle.brain_session.specs.HeldGames.{AreReplies, RootWinsGames, game_answers}
-use Rattle.brain_session.specs.TurnLines.{turn_lines}
-use Rattle.brain_session.specs.RootGames.{HasComeTo, IsNodeOf, IsThere}
-use Rattle.brain_session.specs.Drawings.{Drawing, Sheet, drawn_board, sent_board}
-use Rattle.brain_session.specs.LineGames.{BeginsByLines, HeldLinesWin, begun_at, drawing_of}
+use Rattle.brain_session.proofs.Common.{Followed, Game, board_after, board_of, empty_board, new_brain, new_game, Place, NoBoard, Fresh}
+use Rattle.brain_session.proofs.Common.{InGame, Batch, State, game_from, Choice, by_followed, by_following, followed_after, last_move, Row}
+use Rattle.brain_session.proofs.Common.{Chooses, rule_of, if_supported, board_in, unread, batch_row, done_row, begin_row, if_not_reading}
+use Rattle.brain_session.proofs.Common.{row_of, step_by, brain_step, answer_texts, answers_from, session_text, state_after, then_answers}
+use Rattle.brain_session.proofs.Common.{AreReplies, RootWinsGames, game_answers, turn_lines, HasComeTo, IsNodeOf, IsThere, Drawing, Sheet}
+use Rattle.brain_session.proofs.Common.{drawn_board, sent_board, BeginsByLines, HeldLinesWin, begun_at, drawing_of}
 use Rattle.brain_session.proofs.SessionLaws.{answers-append, answers-one}
 use Rattle.brain_session.proofs.LawfulStates.{LawfulState, session-lawful, new-lawful}
 use Rattle.brain_session.proofs.Drawings.{AreSent, IsDrawn, batch-sent, drawn-session, sheet_of}

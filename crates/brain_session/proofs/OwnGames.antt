@@ -1,15 +1,12 @@
 -- Games by a win of the brain's own go well: from the command that begins one, the answers to the replies are the chosen moves of the
 -- win; and they are the attacks of the table of the win.
-use Rattle.std.proofs.Common.{◌≡◌, ℕ, zero, suc, ◌+◌, ◌-◌, ◌≤◌, ◌<◌, Bool, true, false, cond, ◌&&◌, List, [], ◌∷◌, length, refl, sym, ap}
-use Rattle.std.proofs.Common.{subst, ◌∙◌, arith, nat_le}
-use Rattle.std.specs.Prelude.{Option, Some, None, slice_get, map, ◌++◌, IsSomeAnd}
-use Rattle.std.specs.List.{find, range_with_len}
-use Rattle.std.specs.Option.{option_map, option_and_then}
+use Rattle.std.proofs.Common.{◌≡◌, ℕ, zero, suc, ◌+◌, ◌-◌, ◌≤◌, ◌<◌, Bool, true, false, cond, ◌&&◌, List, []}
+use Rattle.std.proofs.Common.{◌∷◌, length, refl, sym, ap, subst, ◌∙◌, arith, nat_le, Option, Some, None, slice_get, map}
+use Rattle.std.proofs.Common.{◌++◌, IsSomeAnd, find, option_map, option_and_then}
+use Rattle.std.specs.List.{range_with_len}
 use Rattle.std.proofs.lemmas.Option.{same_Some}
-use Rattle.game_rules.specs.Grid.{Grid, points_of}
-use Rattle.game_rules.specs.Shapes.{five}
-use Rattle.game_rules.specs.Play.{IsPosition, outcome, after, mover, other}
-use Rattle.game_rules.specs.Games.{WinsOr, LosesOr, has_five, starts_win, wins_by_fours, four_move}
+use Rattle.game_rules.proofs.Common.{Grid, points_of, five, IsPosition, outcome, after, mover, other, WinsOr, LosesOr, has_five, starts_win}
+use Rattle.game_rules.proofs.Common.{wins_by_fours, four_move}
 use Rattle.game_rules.specs.declared.RuleKind.{RuleKind}
 use Rattle.game_rules.specs.declared.Foul.{Foul}
 use Rattle.game_rules.specs.declared.Outcome.{Outcome}
@@ -22,13 +19,10 @@ use Rattle.game_rules.proofs.Places.{find-passes}
 use Rattle.game_rules.proofs.Positions.{IsPosition-after, mover-then}
 use Rattle.strategy_checker.specs.HeldRoots.{HeldTable}
 use Rattle.strategy_graph.specs.declared.Node.{Node}
-use Rattle.strategy_graph.specs.Tables.{answers_of, answer, answer_at, is_winning, IsTable}
-use Rattle.strategy_graph.specs.Acceptance.{Accepted}
-use Rattle.strategy_graph.specs.Games.{End, NoMove, Open, after_attack, after_reply, if_node, one_later, points_on, points_from, game}
-use Rattle.strategy_graph.specs.Games.{attacks}
+use Rattle.strategy_graph.proofs.Common.{answers_of, answer, answer_at, is_winning, IsTable, Accepted, End, NoMove, Open, after_attack}
+use Rattle.strategy_graph.proofs.Common.{after_reply, if_node, one_later, points_on, points_from, game, attacks}
 use Rattle.strategy_graph.proofs.Answering.{IsSomeAnd-elim}
-use Rattle.strategy_compiler.specs.Trees.{StandsFor}
-use Rattle.strategy_compiler.specs.Walks.{IsTableOf, last}
+use Rattle.strategy_compiler.proofs.Common.{StandsFor, IsTableOf, last}
 use Rattle.four_search.specs.Plans.{four_plan}
 use Rattle.four_search.specs.FourGame.{four_cost, least_moves}
 use Rattle.four_search.proofs.Written.{four_move-some, plan-attacks, PlanAt, plan-replies, plan-written}
@@ -38,14 +32,11 @@ use Rattle.gomocup_text.specs.declared.Answer.TheVariants.{Move, Error}
 use Rattle.gomocup_text.specs.declared.ErrorText.TheVariants.{OpponentFoul}
 use Rattle.brain_session.specs.declared.TheConstants.{OWN_MOVES, OWN_POSITIONS}
 use Rattle.brain_session.specs.declared.Reaction.TheVariants.{Says}
-use Rattle.brain_session.specs.States.{Followed, OwnWin, Game, board_of, State, new_brain}
-use Rattle.brain_session.specs.ChosenMoves.{Choice, or_else, followed_after, by_following, last_move, chosen, chosen_anew}
-use Rattle.brain_session.specs.ChosenMoves.{by_followed, first_node, own_win}
-use Rattle.brain_session.specs.Steps.{Step, step_by, with_choice, brain_step}
-use Rattle.brain_session.specs.Sessions.{state_after}
-use Rattle.brain_session.specs.HeldGames.{AreReplies, IsWonWithin, replies, answers_to_replies, answers_by, turns}
-use Rattle.brain_session.specs.OwnGames.{BeginsOwnGame, PlaysWin, win_game, win_attacks, win_answers, OwnGameGoesWell, OwnGamesGoWell}
-use Rattle.brain_session.specs.OwnGames.{OwnRepliesAreAnswered}
+use Rattle.brain_session.proofs.Common.{Followed, OwnWin, Game, board_of, State, new_brain, Choice, or_else, followed_after, by_following}
+use Rattle.brain_session.proofs.Common.{last_move, chosen, chosen_anew, by_followed, first_node, own_win, Step, step_by, with_choice}
+use Rattle.brain_session.proofs.Common.{brain_step, state_after, AreReplies, IsWonWithin, replies, answers_to_replies, answers_by, turns}
+use Rattle.brain_session.proofs.Common.{BeginsOwnGame, PlaysWin, win_game, win_attacks, win_answers, OwnGameGoesWell, OwnGamesGoWell}
+use Rattle.brain_session.proofs.Common.{OwnRepliesAreAnswered}
 use Rattle.brain_session.proofs.OwnWins.{own_win-wins}
 use Rattle.brain_session.proofs.SessionGames.{along-lawful, chosen-followed}
 use Rattle.brain_session.proofs.Choosing.{chosen-own}

@@ -1,12 +1,10 @@
 -- The win that the brain finds itself, by what the search of it answers.
-use Rattle.std.proofs.Common.{◌≡◌, ℕ, ◌≤◌, ◌<◌, true, false, sym, subst, ◌∙◌}
-use Rattle.std.specs.Prelude.{Some, None}
-use Rattle.game_rules.specs.Grid.{Grid}
-use Rattle.game_rules.specs.Games.{wins_by_fours}
+use Rattle.std.proofs.Common.{◌≡◌, ℕ, ◌≤◌, ◌<◌, true, false, sym, subst, ◌∙◌, Some, None}
+use Rattle.game_rules.proofs.Common.{Grid, wins_by_fours}
 use Rattle.game_rules.specs.declared.RuleKind.{RuleKind}
 use Rattle.game_rules.proofs.Games.{wins-some}
 use Rattle.strategy_graph.proofs.Following.{accepted-in_table}
-use Rattle.strategy_compiler.specs.Trees.{StandsFor}
+use Rattle.strategy_compiler.proofs.Common.{StandsFor}
 use Rattle.four_search.specs.declared.fewest.FourTable.{FourTable}
 use Rattle.four_search.specs.declared.fewest.FewestWin.{FewestWin}
 use Rattle.four_search.specs.declared.fewest.FewestWin.TheVariants.{Win, None as NoWin, Spent}
@@ -16,8 +14,7 @@ use Rattle.four_search.specs.Plans.{four_plan}
 use Rattle.four_search.proofs.Written.{least-none}
 use Rattle.four_search.proofs.Costs.{within, above, wins_by}
 use Rattle.brain_session.specs.declared.TheConstants.{OWN_MOVES, OWN_POSITIONS}
-use Rattle.brain_session.specs.ChosenMoves.{own_win}
-use Rattle.brain_session.specs.Kept.{IsFound, IsOwnTable, OwnStandsAt}
+use Rattle.brain_session.proofs.Common.{own_win, IsFound, IsOwnTable, OwnStandsAt}
 
 -- there is no such win within the moves
 pub own_win-none : (rule : RuleKind) (b : Grid) → wins_by_fours rule OWN_MOVES b ≡ false → four_cost rule OWN_MOVES b ≤ OWN_POSITIONS

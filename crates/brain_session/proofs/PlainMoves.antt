@@ -1,19 +1,14 @@
 -- The points of plain moves, where the points of the board come one by one.
-use Rattle.std.proofs.Common.{◌≡◌, ℕ, ◌≤◌, Bool, true, false, cond, ◌&&◌, not, nat_le, nat_lt, refl, sym, ap, ◌∙◌, List, [], ◌∷◌, le-leb}
-use Rattle.std.proofs.Common.{ltb-true, ltb-false}
-use Rattle.std.proofs.lemmas.Bool.{lt-leb, false_from_ne_true}
-use Rattle.std.proofs.lemmas.Bool.{and_left as no_left, and_right as no_right}
-use Rattle.game_rules.specs.Grid.{Grid, is_empty, points_of}
-use Rattle.game_rules.specs.Shapes.{five}
-use Rattle.game_rules.specs.Play.{mover, other, outcome, is_foul}
+use Rattle.std.proofs.Common.{◌≡◌, ℕ, ◌≤◌, Bool, true, false, cond, ◌&&◌, not, nat_le, nat_lt, refl, sym, ap, ◌∙◌}
+use Rattle.std.proofs.Common.{List, [], ◌∷◌, le-leb, ltb-true, ltb-false, Option, Some, None, find, filter}
+use Rattle.std.proofs.lemmas.Bool.{lt-leb, false_from_ne_true, and_left as no_left, and_right as no_right}
+use Rattle.game_rules.proofs.Common.{Grid, is_empty, points_of, five, mover, other, outcome, is_foul}
 use Rattle.game_rules.specs.declared.RuleKind.{RuleKind}
 use Rattle.game_rules.specs.declared.Side.{Side}
-use Rattle.brain_session.specs.ChosenMoves.{five_to_block, next_to_middle, off_middle}
-use Rattle.std.specs.Prelude.{Option, Some, None}
-use Rattle.std.specs.List.{find, filter, list_all}
+use Rattle.brain_session.proofs.Common.{five_to_block, next_to_middle, off_middle, is_nearer}
+use Rattle.std.specs.List.{list_all}
 use Rattle.game_rules.specs.declared.Point.{Point}
 use Rattle.game_rules.proofs.PointLists.{none_nearer, first_nearest, none_nearer-than, first_nearest-cons}
-use Rattle.brain_session.specs.Nearer.{is_nearer}
 
 -- the nearest of these points and of the best before them: the first of those to which none is nearer
 abbrev pub nearest_of : (Point → ℕ) → Option Point → List Point → Option Point

@@ -1,12 +1,10 @@
 -- A board and the moves that were made on it: a move more, the last move taken back, and all stones taken off.
-use Rattle.std.proofs.Common.{◌≡◌, ℕ, ◌+◌, ◌*◌, ◌<◌, ◌≤◌, Bool, true, refl, sym, ap, subst, ◌∙◌, arith, List, [], ◌∷◌, ◌++◌, length}
-use Rattle.std.proofs.Common.{reverse, Decides, eqb-true, eq-eqb}
-use Rattle.std.specs.Prelude.{Some}
+use Rattle.std.proofs.Common.{◌≡◌, ℕ, ◌+◌, ◌*◌, ◌<◌, ◌≤◌, Bool, true, refl, sym, ap, subst, ◌∙◌, arith}
+use Rattle.std.proofs.Common.{List, [], ◌∷◌, ◌++◌, length, reverse, Decides, eqb-true, eq-eqb, Some}
 use Rattle.std.proofs.lemmas.Bool.Decides.{same_from_decides}
 use Rattle.std.proofs.lemmas.List.Sums.{count_by-le-length}
 use lib.Pointwise.{pointwise, pointwise_decides}
-use Rattle.game_rules.specs.Grid.{Grid, IsBoard, is_empty, is_empty_cell, put, lift, empties_of}
-use Rattle.game_rules.specs.Play.{mover, after}
+use Rattle.game_rules.proofs.Common.{Grid, IsBoard, is_empty, is_empty_cell, put, lift, empties_of, mover, after}
 use Rattle.game_rules.specs.declared.Side.{Side}
 use Rattle.game_rules.specs.declared.Cell.{Cell}
 use Rattle.game_rules.specs.declared.Cell.TheVariants.{Empty, Black as BlackStone, White as WhiteStone}
@@ -16,9 +14,7 @@ use Rattle.game_rules.proofs.Positions.{IsBoard-put}
 use Rattle.game_rules.proofs.PointLists.{reverse-push}
 use Rattle.stone_board.specs.Steps.{holds_stone}
 use Rattle.stone_board.proofs.Stones.{put-holds_stone}
-use Rattle.brain_session.specs.States.{board_after, empty_board}
-use Rattle.brain_session.specs.ChosenMoves.{same_cell, same_board, last_move}
-use Rattle.brain_session.specs.Kept.{Moves, IsKept, without_last}
+use Rattle.brain_session.proofs.Common.{board_after, empty_board, same_cell, same_board, last_move, Moves, IsKept, without_last}
 use Rattle.brain_session.proofs.SessionBoards.{empty-board, width-after, height-after}
 
 -- ---- whether two boards are one

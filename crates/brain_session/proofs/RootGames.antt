@@ -1,10 +1,9 @@
 -- Where a game has come to a held root, a held game by it begins.
 use Rattle.std.proofs.Common.{◌≡◌, ℕ, suc, Bool, true, cond, refl, sym, ap, subst, ◌∙◌, arith, List, [], ◌∷◌, ◌++◌}
-use Rattle.std.specs.Prelude.{Option, Some, None, All}
-use Rattle.std.specs.Option.{option_map, option_or}
+use Rattle.std.proofs.Common.{Option, Some, None, All, option_map}
+use Rattle.std.specs.Option.{option_or}
 use Rattle.std.proofs.lemmas.List.Elements.{All-contains, Contains-append_right}
-use Rattle.game_rules.specs.Grid.{Grid}
-use Rattle.game_rules.specs.Play.{outcome, after}
+use Rattle.game_rules.proofs.Common.{Grid, outcome, after}
 use Rattle.game_rules.specs.declared.RuleKind.{RuleKind}
 use Rattle.game_rules.specs.declared.Outcome.TheVariants.{GoesOn}
 use Rattle.game_rules.specs.declared.Point.{Point}
@@ -12,20 +11,14 @@ use Rattle.game_rules.proofs.Outcomes.{going}
 use Rattle.strategy_graph.specs.declared.Node.{Node}
 use Rattle.strategy_graph.specs.declared.roots.Root.{Root}
 use Rattle.strategy_graph.specs.declared.roots.Root.TheVariants.{Attack, Defend}
-use Rattle.strategy_graph.specs.Tables.{Answers, answer}
-use Rattle.strategy_graph.specs.Acceptance.{Accepted}
-use Rattle.strategy_graph.specs.Roots.{AcceptedRoot}
+use Rattle.strategy_graph.proofs.Common.{Answers, answer, Accepted, AcceptedRoot}
 use Rattle.strategy_graph.proofs.Answering.{IsSomeAnd-elim}
 use Rattle.strategy_checker.specs.declared.held.HeldRoot.{HeldRoot}
 use Rattle.strategy_checker.specs.HeldRoots.{HeldTable, IsHeldRoot, IsHeld}
 use Rattle.gomocup_text.specs.declared.Command.{Command}
-use Rattle.brain_session.specs.States.{Game, board_after, board_of, State, new_brain}
-use Rattle.brain_session.specs.ChosenMoves.{last_move, same_rule, same_board, start_answer, node_at, root_node, first_node, by_followed}
-use Rattle.brain_session.specs.Steps.{Step, Chooses, row_of}
-use Rattle.brain_session.specs.Sessions.{state_after}
-use Rattle.brain_session.specs.Running.{GoesOnAlong}
-use Rattle.brain_session.specs.HeldGames.{BeginsHeldGame}
-use Rattle.brain_session.specs.RootGames.{IsThere, IsNodeOf, HasComeTo, BeginsByRoot, RootsBeginGames}
+use Rattle.brain_session.proofs.Common.{Game, board_after, board_of, State, new_brain, last_move, same_rule, same_board, start_answer}
+use Rattle.brain_session.proofs.Common.{node_at, root_node, first_node, by_followed, Step, Chooses, row_of, state_after, GoesOnAlong}
+use Rattle.brain_session.proofs.Common.{BeginsHeldGame, IsThere, IsNodeOf, HasComeTo, BeginsByRoot, RootsBeginGames}
 use Rattle.brain_session.proofs.PlayedMoves.{same_board-is, same_board-itself}
 use Rattle.brain_session.proofs.HeldNodes.{same_rule-is, if_some}
 use Rattle.brain_session.proofs.HeldGames.{begins, stands_where}

@@ -1,9 +1,7 @@
 -- The rows of the protocol, case by case: what holds of each row that a command may have holds of the row of any command.
-use Rattle.std.proofs.Common.{◌≡◌, ℕ, Bool, true, false, cond, ◌&&◌, List, [], ◌∷◌, refl, ap}
-use Rattle.std.specs.Prelude.{◌≢◌, Option, Some, None}
-use Rattle.game_rules.specs.Grid.{is_on}
-use Rattle.game_rules.specs.Shapes.{is_same_point}
-use Rattle.game_rules.specs.Play.{outcome, mover}
+use Rattle.std.proofs.Common.{◌≡◌, ℕ, Bool, true, false, cond, ◌&&◌, List, [], ◌∷◌, refl, ap, ◌≢◌, Option, Some}
+use Rattle.std.proofs.Common.{None}
+use Rattle.game_rules.proofs.Common.{is_on, is_same_point, outcome, mover}
 use Rattle.game_rules.specs.declared.RuleKind.{RuleKind}
 use Rattle.game_rules.specs.declared.Side.TheVariants.{Black, White}
 use Rattle.game_rules.specs.declared.Point.{Point}
@@ -16,11 +14,11 @@ use Rattle.gomocup_text.specs.declared.Answer.TheVariants.{Ok as SaysOk, About a
 use Rattle.gomocup_text.specs.declared.ErrorText.TheVariants.{UnsupportedSize, NoBoard as NoBoardText, NotReading, UnsupportedRule}
 use Rattle.gomocup_text.specs.declared.ErrorText.TheVariants.{BadBoard, BadArguments, GameStarted, GameOver, WrongTurn, BadMove}
 use Rattle.brain_session.specs.declared.Reaction.TheVariants.{Silent, Says, Ends}
-use Rattle.brain_session.specs.States.{Game, board_of, empty_board, new_game, point_at, Place, NoBoard, Fresh, InGame, Batch, State}
-use Rattle.brain_session.specs.Batches.{new_batch, spoiled, with_batch_stone, game_from}
-use Rattle.brain_session.specs.Steps.{Row, Reacts, Chooses, fails, unread, reading, placed, rule_of, if_supported, is_side, start_row}
-use Rattle.brain_session.specs.Steps.{restart_row, board_row, board_in, stone_row, batch_row, done_row, begin_row, same_side, move_row}
-use Rattle.brain_session.specs.Steps.{turn_row, place_before, last_row, takeback_row, if_not_reading, row_of}
+use Rattle.brain_session.proofs.Common.{Game, board_of, empty_board, new_game, point_at, Place, NoBoard, Fresh, InGame, Batch, State}
+use Rattle.brain_session.proofs.Common.{new_batch, spoiled, with_batch_stone, game_from, Row, Reacts, Chooses, fails, unread, reading}
+use Rattle.brain_session.proofs.Common.{placed, rule_of, if_supported, is_side, start_row, restart_row, board_row, board_in, stone_row}
+use Rattle.brain_session.proofs.Common.{batch_row, done_row, begin_row, same_side, move_row, turn_row, place_before, last_row, takeback_row}
+use Rattle.brain_session.proofs.Common.{if_not_reading, row_of}
 
 -- each row that the command c may have in the state s, with what is known where it has it
 pub record RowCases (P : Row → Type 0) (s : State) (c : Command) : Type 0 where

@@ -1,8 +1,7 @@
 -- What a session has read, said and become when it comes to its next line, and how it may end there.
-use Rattle.std.proofs.Common.{◌≡◌, ◌≢◌, ◌<◌, ◌≤◌, ◌+◌, Bool, true, false, cond, List, [], ◌∷◌, ◌++◌, length, take, refl, sym, ap, subst}
-use Rattle.std.proofs.Common.{◌∙◌, append_assoc, add_comm, arith, length-append, Option, Some, None, ◌⊎◌, inl, inr}
-use Rattle.std.specs.Prelude.{ℕ, IfSome}
-use Rattle.std.specs.Option.{option_to_list}
+use Rattle.std.proofs.Common.{◌≡◌, ◌≢◌, ◌<◌, ◌≤◌, ◌+◌, Bool, true, false, cond, List, [], ◌∷◌, ◌++◌}
+use Rattle.std.proofs.Common.{length, take, refl, sym, ap, subst, ◌∙◌, append_assoc, add_comm, arith, length-append, Option, Some}
+use Rattle.std.proofs.Common.{None, ◌⊎◌, inl, inr, ℕ, IfSome, option_to_list}
 use Rattle.std.specs.Io.KnownBytes.{IsAtEnd}
 use Rattle.std.proofs.lemmas.List.{append-nil, map-append}
 use Rattle.std.proofs.Math.Seq.{take-append_seam}
@@ -26,13 +25,10 @@ use Rattle.gomocup_text.specs.declared.Answer.{Answer}
 use Rattle.gomocup_text.proofs.AskedLines.{asked, one_line, no_line, end_among}
 use Rattle.brain_session.specs.declared.Reaction.{Reaction}
 use Rattle.brain_session.specs.declared.Reaction.TheVariants.{Silent, Says, Ends}
-use Rattle.brain_session.specs.States.{State}
-use Rattle.brain_session.specs.Steps.{brain_step}
-use Rattle.brain_session.specs.Memory.{takes_none}
-use Rattle.brain_session.specs.Sessions.{then_answers, answers_from, answer_texts, state_after}
-use Rattle.brain_session.specs.Serving.{TakesCommands, IsWritten, IsAnswered, IsHalfAnswered, Output, Served, served, Writes, HasAnswered}
-use Rattle.brain_session.specs.Serving.{HasNoEnd, IsReadToEnd, ReadsAfterAnswers, StopsAtRead, StopsAtWrite, StopsInTurn, StopsAtStep}
-use Rattle.brain_session.specs.Serving.{within_limit, IsTooLong}
+use Rattle.brain_session.proofs.Common.{State, brain_step, takes_none, then_answers, answers_from, answer_texts, state_after, TakesCommands}
+use Rattle.brain_session.proofs.Common.{IsWritten, IsAnswered, IsHalfAnswered, Output, Served, served, Writes, HasAnswered, HasNoEnd}
+use Rattle.brain_session.proofs.Common.{IsReadToEnd, ReadsAfterAnswers, StopsAtRead, StopsAtWrite, StopsInTurn, StopsAtStep, within_limit}
+use Rattle.brain_session.proofs.Common.{IsTooLong}
 use Rattle.brain_session.proofs.SessionLaws.{end_ends, HasNoEnd-none, HasNoEnd-push, answers-append, state-append, answers-one, state-one}
 use Rattle.brain_session.proofs.SessionLaws.{answers-end, state-end, state-none, answers-none}
 

@@ -1,14 +1,13 @@
 -- The place of a session's board: empty boards, the size of a board along the moves, the board of a running game, and the rows of
 -- the protocol there.
-use Rattle.std.specs.Prelude.{Option, Some, None, Result, Ok, Err, OnOk, OnErr, ◌==◌, nat_lt, is_none, IfOk, if◌then◌else◌}
-use Rattle.std.proofs.Common.{◌≡◌, inl, ℕ, ◌*◌, ◌<◌, ◌≤◌, Bool, true, false, ◌&&◌, cond, refl, sym, ap, subst, ◌∙◌, arith, eqb-true, List}
-use Rattle.std.proofs.Common.{[], ◌∷◌, replicate}
+use Rattle.std.proofs.Common.{Option, Some, None, Result, Ok, Err, OnOk, OnErr, ◌==◌, nat_lt, is_none, IfOk, if◌then◌else◌}
+use Rattle.std.proofs.Common.{◌≡◌, inl, ℕ, ◌*◌, ◌<◌, ◌≤◌, Bool, true, false, ◌&&◌, cond, refl, sym, ap, subst}
+use Rattle.std.proofs.Common.{◌∙◌, arith, eqb-true, List, [], ◌∷◌, replicate}
 use Rattle.std.proofs.Math.Nat.{mul-pos}
 use Rattle.std.proofs.lemmas.List.Folds.{sum_by-replicate}
 use Rattle.std.proofs.lemmas.List.{length-replicate}
-use Rattle.game_rules.specs.Grid.{Grid, IsBoard, is_on, is_empty, is_empty_cell, is_stone_of, cell_at, place_of as cell_place, holds}
-use Rattle.game_rules.specs.Grid.{stones_of, empties_of}
-use Rattle.game_rules.specs.Play.{IsPosition, outcome, after, mover}
+use Rattle.game_rules.proofs.Common.{Grid, IsBoard, is_on, is_empty, is_empty_cell, is_stone_of, cell_at, place_of as cell_place, holds}
+use Rattle.game_rules.proofs.Common.{stones_of, empties_of, IsPosition, outcome, after, mover, is_same_point}
 use Rattle.game_rules.specs.declared.TheConstants.{MIN_SIDE, MAX_SIDE}
 use Rattle.game_rules.specs.declared.RuleKind.{RuleKind}
 use Rattle.game_rules.specs.declared.Side.{Side}
@@ -18,7 +17,6 @@ use Rattle.game_rules.specs.declared.Cell.TheVariants.{Empty}
 use Rattle.game_rules.specs.declared.Outcome.TheVariants.{Refused}
 use Rattle.game_rules.specs.declared.Point.{Point}
 use Rattle.game_rules.specs.declared.Outcome.{Outcome}
-use Rattle.game_rules.specs.Shapes.{is_same_point}
 use Rattle.game_rules.proofs.Boards.{and_left, and_right, is_empty-on}
 use Rattle.game_rules.proofs.Positions.{GoesOn-empty}
 use Rattle.game_rules.proofs.Points.{taken_refused, same_point-on}
@@ -29,15 +27,11 @@ use Rattle.gomocup_text.specs.declared.Answer.TheVariants.{Error, Ok as SaysOk}
 use Rattle.gomocup_text.specs.declared.ErrorText.{ErrorText}
 use Rattle.gomocup_text.specs.declared.ErrorText.TheVariants.{UnsupportedRule, GameOver, WrongTurn, BadMove}
 use Rattle.brain_session.specs.declared.game.SessionGame.{SessionGame}
-use Rattle.brain_session.specs.States.{Game, Fresh, board_after, empty_board, new_game, Place, InGame, Batch, State, board_of}
-use Rattle.brain_session.specs.ChosenMoves.{last_move}
-use Rattle.brain_session.specs.Memory.{is_game}
-use Rattle.brain_session.specs.Steps.{board_in, is_bare, Row, Step, fails, placed, if_supported, same_side, move_row, turn_row, last_row}
-use Rattle.brain_session.specs.Steps.{restart_row, takeback_row}
-use Rattle.brain_session.specs.Running.{EndsAlong, IsPlayed, IsRunning, IsPlace}
-use Rattle.brain_session.specs.Kept.{Moves, IsKeptUp, IsSessionBoard, IsUntouched, without_last, game_of, place_of, IsPointOn, are_one}
-use Rattle.brain_session.specs.Kept.{in_place}
-use Rattle.brain_session.specs.Kept.{IsRow, IsStateOf, Takes, turn_refusal}
+use Rattle.brain_session.proofs.Common.{Game, Fresh, board_after, empty_board, new_game, Place, InGame, Batch, State, board_of, last_move}
+use Rattle.brain_session.proofs.Common.{is_game, board_in, is_bare, Row, Step, fails, placed, if_supported, same_side, move_row, turn_row}
+use Rattle.brain_session.proofs.Common.{last_row, restart_row, takeback_row, EndsAlong, IsPlayed, IsRunning, IsPlace, Moves, IsKeptUp}
+use Rattle.brain_session.proofs.Common.{IsSessionBoard, IsUntouched, without_last, game_of, place_of, IsPointOn, are_one, in_place, IsRow}
+use Rattle.brain_session.proofs.Common.{IsStateOf, Takes, turn_refusal}
 use Rattle.brain_session.specs.declared.Reaction.{Reaction}
 use Rattle.brain_session.specs.declared.Reaction.TheVariants.{Says}
 use Rattle.brain_session.proofs.SessionGames.{start-lawful, ends-empty}

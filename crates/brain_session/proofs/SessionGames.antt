@@ -1,9 +1,7 @@
 -- A game that is kept up: after each move of the brain, and after each of the opponent.
-use Rattle.std.proofs.Common.{◌≡◌, ◌≢◌, ℕ, ◌-◌, Bool, true, false, not, List, [], ◌∷◌, refl, sym, ap, subst, ◌∙◌}
-use Rattle.std.specs.Prelude.{Option, Some, None, IfSome, MatchOption, is_some}
-use Rattle.std.specs.Option.{option_map, option_and_then}
-use Rattle.game_rules.specs.Grid.{Grid, is_empty}
-use Rattle.game_rules.specs.Play.{IsPosition, outcome, after, mover, other, goes_on}
+use Rattle.std.proofs.Common.{◌≡◌, ◌≢◌, ℕ, ◌-◌, Bool, true, false, not, List, [], ◌∷◌, refl, sym, ap, subst}
+use Rattle.std.proofs.Common.{◌∙◌, Option, Some, None, IfSome, MatchOption, is_some, option_map, option_and_then}
+use Rattle.game_rules.proofs.Common.{Grid, is_empty, IsPosition, outcome, after, mover, other, goes_on}
 use Rattle.game_rules.specs.declared.RuleKind.{RuleKind}
 use Rattle.game_rules.specs.declared.Outcome.{Outcome}
 use Rattle.game_rules.specs.declared.Outcome.TheVariants.{Refused, GoesOn}
@@ -12,17 +10,16 @@ use Rattle.game_rules.proofs.Positions.{IsPosition-after, mover-other, mover-the
 use Rattle.game_rules.proofs.Points.{taken_refused}
 use Rattle.game_rules.proofs.Outcomes.{goes_on-is, moved}
 use Rattle.game_rules.proofs.Games.{wins-some}
-use Rattle.strategy_graph.specs.Tables.{answer_at}
+use Rattle.strategy_graph.proofs.Common.{answer_at}
 use Rattle.strategy_checker.specs.HeldRoots.{HeldTable}
 use Rattle.brain_session.specs.declared.guide.Guide.{Guide}
 use Rattle.brain_session.specs.declared.guide.Guide.TheVariants.{HeldNode as HeldGuide, OwnWin as OwnGuide}
 use Rattle.brain_session.specs.declared.game.SessionGame.{SessionGame}
-use Rattle.brain_session.specs.States.{Followed, HeldNode, OwnWin, Game, board_after, board_of}
-use Rattle.brain_session.specs.ChosenMoves.{Choice, or_else, followed_after, last_move, move_by, by_following, followed_on, by_followed}
-use Rattle.brain_session.specs.ChosenMoves.{first_node, by_held, own_win, by_own_win, by_plain_move, chosen_anew, chosen}
-use Rattle.brain_session.specs.Running.{GoesOnAlong, EndsGame, FollowsAt, FollowsOn, IsOpponentNext, IsPlayed}
-use Rattle.brain_session.specs.Kept.{Moves, GuidesAt, GuidesOn, GoesOnAfter, IsKeptUp, IsInTable, IsReady, NodeStandsAt, StandsAt}
-use Rattle.brain_session.specs.Kept.{followed_of, game_of, guide_after}
+use Rattle.brain_session.proofs.Common.{Followed, HeldNode, OwnWin, Game, board_after, board_of, Choice, or_else, followed_after, last_move}
+use Rattle.brain_session.proofs.Common.{move_by, by_following, followed_on, by_followed, first_node, by_held, own_win, by_own_win}
+use Rattle.brain_session.proofs.Common.{by_plain_move, chosen_anew, chosen, GoesOnAlong, EndsGame, FollowsAt, FollowsOn, IsOpponentNext}
+use Rattle.brain_session.proofs.Common.{IsPlayed, Moves, GuidesAt, GuidesOn, GoesOnAfter, IsKeptUp, IsInTable, IsReady, NodeStandsAt}
+use Rattle.brain_session.proofs.Common.{StandsAt, followed_of, game_of, guide_after}
 use Rattle.brain_session.proofs.Guiding.{stands-goes_on, goes_on-after}
 
 -- ---- the position

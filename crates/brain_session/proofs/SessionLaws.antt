@@ -1,8 +1,8 @@
 -- What a session says and where it stands, command by command, up to END.
 use Rattle.std.proofs.Common.{◌≡◌, ◌≢◌, List, [], ◌∷◌, ◌++◌, refl, sym, ap, ◌∙◌, arith, zero, suc, inl, inr}
-use Rattle.std.specs.Prelude.{Contains}
+use Rattle.std.proofs.Common.{Contains}
 use Rattle.std.proofs.lemmas.List.Elements.{Contains-append_cases}
-use Rattle.game_rules.specs.Play.{outcome}
+use Rattle.game_rules.proofs.Common.{outcome}
 use Rattle.game_rules.specs.declared.Side.TheVariants.{White}
 use Rattle.game_rules.specs.declared.Outcome.{Outcome}
 use Rattle.game_rules.specs.declared.Outcome.TheVariants.{GoesOn}
@@ -12,10 +12,8 @@ use Rattle.gomocup_text.specs.declared.Command.TheVariants.{End}
 use Rattle.gomocup_text.specs.declared.Answer.{Answer}
 use Rattle.brain_session.specs.declared.Reaction.{Reaction}
 use Rattle.brain_session.specs.declared.Reaction.TheVariants.{Silent, Says, Ends}
-use Rattle.brain_session.specs.States.{Game, board_of, empty_board, new_game, State}
-use Rattle.brain_session.specs.Steps.{move_row, row_of, step_by, brain_step}
-use Rattle.brain_session.specs.Sessions.{then_answers, answers_from, then_state, state_after}
-use Rattle.brain_session.specs.Serving.{HasNoEnd}
+use Rattle.brain_session.proofs.Common.{Game, board_of, empty_board, new_game, State, move_row, row_of, step_by, brain_step, then_answers}
+use Rattle.brain_session.proofs.Common.{answers_from, then_state, state_after, HasNoEnd}
 use Rattle.brain_session.proofs.RowCases.{row-cases}
 
 -- a command whose step ends the session is END

@@ -1,12 +1,11 @@
 -- Steps of the brain: the step of a command by what its row says, and the stones of a batch that fit the board.
-use Rattle.std.proofs.Common.{◌≡◌, ℕ, ◌<◌, Bool, true, false, ◌&&◌, ◌||◌, not, refl, sym, ap, subst, ◌∙◌, arith, List, [], ◌∷◌, ◌++◌}
-use Rattle.std.proofs.Common.{length, get_or}
-use Rattle.std.specs.Prelude.{Option, Some, None, Result, Ok, Err, IfOk, IfSome, IsOk, IsNone, is_none, is_some, All, ◌==◌, if◌then◌else◌}
+use Rattle.std.proofs.Common.{◌≡◌, ℕ, ◌<◌, Bool, true, false, ◌&&◌, ◌||◌, not, refl, sym, ap, subst, ◌∙◌, arith}
+use Rattle.std.proofs.Common.{List, [], ◌∷◌, ◌++◌, length, get_or, Option, Some, None, Result, Ok, Err, IfOk, IfSome, IsOk}
+use Rattle.std.proofs.Common.{IsNone, is_none, is_some, All, ◌==◌, if◌then◌else◌, option_map}
 use Rattle.std.proofs.lemmas.List.Elements.{All-push}
 use Rattle.std.proofs.lemmas.List.Quantifiers.{all_pairs_push}
 use Rattle.std.proofs.lemmas.List.Folds.{list_any_at}
-use Rattle.game_rules.specs.Grid.{Grid, is_on}
-use Rattle.game_rules.specs.Shapes.{is_same_point}
+use Rattle.game_rules.proofs.Common.{Grid, is_on, is_same_point}
 use Rattle.game_rules.specs.declared.RuleKind.{RuleKind}
 use Rattle.game_rules.specs.declared.Point.{Point}
 use Rattle.foul_judge.specs.Lawful.{refusal}
@@ -18,16 +17,13 @@ use Rattle.gomocup_text.specs.declared.ErrorText.TheVariants.{BadArguments}
 use Rattle.brain_session.specs.declared.Reaction.{Reaction}
 use Rattle.brain_session.specs.declared.Reaction.TheVariants.{Silent, Says}
 use Rattle.brain_session.specs.declared.batch.BatchStone.{BatchStone}
-use Rattle.brain_session.specs.States.{Game, Batch, Place, NoBoard, InGame, State, empty_board, point_at}
-use Rattle.brain_session.specs.Batches.{new_batch, spoiled, has_stone_at, with_batch_stone, with_stone_at, game_from}
-use Rattle.brain_session.specs.ChosenMoves.{chosen}
-use Rattle.brain_session.specs.Steps.{Row, Reacts, fails, unread, reading, placed, if_supported, rule_of, with_choice, begin_row, turn_row}
-use Rattle.brain_session.specs.Steps.{takeback_row, batch_row, done_row, board_in, row_of, step_by, brain_step, if_not_reading}
-use Rattle.std.specs.Option.{option_map}
+use Rattle.brain_session.proofs.Common.{Game, Batch, Place, NoBoard, InGame, State, empty_board, point_at, new_batch, spoiled, has_stone_at}
+use Rattle.brain_session.proofs.Common.{with_batch_stone, with_stone_at, game_from, chosen, Row, Reacts, fails, unread, reading, placed}
+use Rattle.brain_session.proofs.Common.{if_supported, rule_of, with_choice, begin_row, turn_row, takeback_row, batch_row, done_row}
+use Rattle.brain_session.proofs.Common.{board_in, row_of, step_by, brain_step, if_not_reading, IsPlace, IsBrain, StonesFit, begins_none}
+use Rattle.brain_session.proofs.Common.{is_following, is_settled, takes_none, IsBegun, IsPointOn, IsStateOf, Takes, has_no_place_in_batch}
+use Rattle.brain_session.proofs.Common.{is_spoiled}
 use Rattle.game_rules.proofs.Boards.{and_left, and_right, on_x}
-use Rattle.brain_session.specs.Running.{IsPlace, IsBrain, StonesFit}
-use Rattle.brain_session.specs.Memory.{begins_none, is_following, is_settled, takes_none}
-use Rattle.brain_session.specs.Kept.{IsBegun, IsPointOn, IsStateOf, Takes, has_no_place_in_batch, is_spoiled}
 
 none_from : {X : Type 0} (o : Option X) → IsNone o → o ≡ None
 none_from None e = refl

@@ -1,38 +1,31 @@
 -- The lines TURN of points are read as these turns.
-use Rattle.std.proofs.Common.{◌≡◌, ℕ, suc, ◌≤◌, nat_lt, Bool, true, false, ◌&&◌, not, List, [], ◌∷◌, ◌++◌, map, refl, sym, ap, subst, ◌∙◌}
-use Rattle.std.proofs.Common.{arith, append_assoc, eqb-true, nat_eq, lt-ltb}
-use Rattle.std.specs.Prelude.{All, codes}
+use Rattle.std.proofs.Common.{◌≡◌, ℕ, suc, ◌≤◌, nat_lt, Bool, true, false, ◌&&◌, not, List, [], ◌∷◌, ◌++◌, map}
+use Rattle.std.proofs.Common.{refl, sym, ap, subst, ◌∙◌, arith, append_assoc, eqb-true, nat_eq, lt-ltb, All, codes}
 use Rattle.std.specs.List.{list_all}
 use Rattle.std.specs.Fmt.{digits}
 use Rattle.std.proofs.lemmas.List.{map-append}
 use Rattle.std.proofs.lemmas.List.Elements.{All-cons, All-nil}
 use Rattle.std.proofs.lemmas.Grind.{flat_map-append}
-use Rattle.game_rules.specs.Grid.{Grid, is_on, points_of}
+use Rattle.game_rules.proofs.Common.{Grid, is_on, points_of, after}
 use Rattle.game_rules.specs.declared.TheConstants.{MAX_SIDE}
 use Rattle.game_rules.specs.declared.Point.{Point}
-use Rattle.game_rules.proofs.Boards.{and_left, and_right}
+use Rattle.game_rules.proofs.Boards.{and_left, and_right, on_x, on_y}
 use Rattle.game_rules.proofs.Points.{all_at}
 use Rattle.renju_io.specs.Lines.{is_line_feed, line_of, lines, whole_lines, HasNoLineFeed}
 use Rattle.renju_io.specs.declared.TheConstants.{LINE_FEED}
 use Rattle.renju_io.proofs.LineLaws.{pieces-ended}
 use Rattle.renju_io.proofs.WholeLines.{whole_cut}
 use Rattle.gomocup_text.specs.Commands.{command_told, commands}
-use Rattle.gomocup_text.specs.Answers.{answer_words}
+use Rattle.gomocup_text.specs.Answers.{answer_words, answer_text}
 use Rattle.gomocup_text.specs.declared.Answer.TheVariants.{Move}
 use Rattle.gomocup_text.specs.declared.Command.{Command}
 use Rattle.gomocup_text.specs.declared.Command.TheVariants.{Turn}
-use Rattle.game_rules.specs.Play.{after}
 use Rattle.game_rules.specs.declared.RuleKind.{RuleKind}
-use Rattle.game_rules.proofs.Boards.{on_x, on_y}
-use Rattle.gomocup_text.specs.Answers.{answer_text}
 use Rattle.strategy_checker.specs.HeldRoots.{HeldTable, IsHeld}
 use Rattle.gomocup_text.specs.declared.Answer.{Answer}
-use Rattle.brain_session.specs.States.{board_of, empty_board, new_brain, State}
-use Rattle.brain_session.specs.Sessions.{answer_texts, answers_from, session_text, state_after}
-use Rattle.brain_session.specs.Serving.{HasNoEnd}
-use Rattle.brain_session.specs.HeldGames.{AreReplies, turns}
-use Rattle.brain_session.specs.TurnLines.{turn_line, turn_lines, IsSomeBoards, OwnRepliesAreAnsweredInBytes, RepliesAreAnsweredInBytes}
-use Rattle.brain_session.specs.TurnLines.{TurnLinesAreRead}
+use Rattle.brain_session.proofs.Common.{board_of, empty_board, new_brain, State, answer_texts, answers_from, session_text, state_after}
+use Rattle.brain_session.proofs.Common.{HasNoEnd, AreReplies, turns, turn_line, turn_lines, IsSomeBoards, OwnRepliesAreAnsweredInBytes}
+use Rattle.brain_session.proofs.Common.{RepliesAreAnsweredInBytes, TurnLinesAreRead}
 use Rattle.brain_session.proofs.SessionLaws.{answers-append}
 use Rattle.brain_session.proofs.LawfulStates.{new-lawful, session-lawful}
 use Rattle.brain_session.proofs.HeldGames.{stands_where}

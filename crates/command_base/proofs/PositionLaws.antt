@@ -1,17 +1,13 @@
 -- Commands that are told a position: what is said of a text that is that of a lawful one, and which statuses speak of it.
-use Rattle.std.proofs.Common.{◌≡◌, inl, inr, ap, subst, ◌∙◌, ◌⊎◌, ℕ, ◌≤◌, ◌<◌, List, arith}
-use Rattle.std.specs.Prelude.{IfSome}
-use Rattle.game_rules.specs.Grid.{Grid}
+use Rattle.std.proofs.Common.{◌≡◌, inl, inr, ap, subst, ◌∙◌, ◌⊎◌, ℕ, ◌≤◌, ◌<◌, List, arith, IfSome}
+use Rattle.game_rules.proofs.Common.{Grid}
 use Rattle.game_rules.specs.declared.RuleKind.{RuleKind}
 use Rattle.position_files.specs.declared.PositionFile.{PositionFile}
 use Rattle.position_files.proofs.ReadBack.{position-read-back}
 use Rattle.renju_io.specs.Told.{Takes}
 use Rattle.command_base.specs.declared.status.Status.{Status}
-use Rattle.command_base.specs.Statuses.{status_number}
-use Rattle.command_base.specs.Runs.{Run}
-use Rattle.command_base.specs.Told.{AnswersTold, IsTold, IsYielded}
-use Rattle.command_base.specs.Positions.{IsPositionAt, PositionCommand, SaysOfPosition, of_position}
-use Rattle.command_base.specs.Searches.{SpeaksOfPosition, IsSearched, ShowsOfPosition}
+use Rattle.command_base.proofs.Common.{status_number, Run, AnswersTold, IsTold, IsYielded, IsPositionAt, PositionCommand, SaysOfPosition}
+use Rattle.command_base.proofs.Common.{of_position, SpeaksOfPosition, IsSearched, ShowsOfPosition}
 use Rattle.command_base.proofs.ToldLaws.{IsWhole, answers-told, whole-or-yielded, given-told, every-told}
 
 -- the position at a board under a rule

@@ -1,18 +1,14 @@
 -- How a told command ends, whatever it says.
 use Rattle.std.proofs.Common.{◌≡◌, inl, inr, refl, sym, ap, subst, ◌∙◌, ◌⊎◌, ℕ, suc, ◌+◌, ◌<◌, List, length}
-use Rattle.std.proofs.Common.{arith}
-use Rattle.std.specs.Prelude.{Option, Some, None, IfSome, replicate}
+use Rattle.std.proofs.Common.{arith, Option, Some, None, IfSome, replicate}
 use Rattle.std.proofs.lemmas.Option.{same_Some}
 use Rattle.std.proofs.lemmas.List.{length-replicate}
 use Rattle.renju_io.specs.Told.{Takes}
 use Rattle.renju_io.specs.declared.TheConstants.{MAX_INPUT_BYTES}
 use Rattle.command_base.specs.declared.status.Status.{Status}
 use Rattle.command_base.specs.declared.status.Status.TheVariants.{TooLong}
-use Rattle.command_base.specs.Statuses.{status_number}
-use Rattle.command_base.specs.Texts.{too_long_line}
-use Rattle.command_base.specs.Runs.{Change, Run, IsAskedNoMore, IsDelivered, IsOutOfMemory}
-use Rattle.command_base.specs.Told.{ToldCommand, IsInput, IsSaid, IsLongInput, EndsTold, IsTold, IsYielded, IsUnhindered, HasToldAnswer}
-use Rattle.command_base.specs.Told.{AnswersTold}
+use Rattle.command_base.proofs.Common.{status_number, too_long_line, Change, Run, IsAskedNoMore, IsDelivered, IsOutOfMemory, ToldCommand}
+use Rattle.command_base.proofs.Common.{IsInput, IsSaid, IsLongInput, EndsTold, IsTold, IsYielded, IsUnhindered, HasToldAnswer, AnswersTold}
 
 -- some list is longer than n
 pub longer-than : (n : ℕ) → (x : List ℕ) × (n < length x)

@@ -1,7 +1,8 @@
 -- What is known of the moves so far, and one more.
-use Rattle.std.proofs.Common.{◌≡◌, ℕ, ◌+◌, ◌-◌, ◌*◌, ◌≤◌, Bool, true, false, cond, refl, sym, ap, subst, ◌∙◌, arith}
-use Rattle.std.proofs.Common.{List, [], ◌∷◌, ◌++◌, map, append-nil, append_assoc, Some, find, Result, Ok, Err, IfOk}
-use Rattle.std.specs.List.{filter, sum_by, AllByRecursion}
+use Rattle.std.proofs.Common.{◌≡◌, ℕ, ◌+◌, ◌-◌, ◌*◌, ◌≤◌, Bool, true, false, cond, refl, sym, ap, subst}
+use Rattle.std.proofs.Common.{◌∙◌, arith, List, [], ◌∷◌, ◌++◌, map, append-nil, append_assoc, Some, find, Result, Ok, Err}
+use Rattle.std.proofs.Common.{IfOk, filter, sum_by}
+use Rattle.std.specs.List.{AllByRecursion}
 use Rattle.std.proofs.lemmas.List.Sums.{sum_by-cons}
 use Rattle.game_rules.proofs.Common.{Grid, outcome, points_of}
 use Rattle.game_rules.specs.declared.Outcome.TheVariants.{GoesOn}
@@ -12,15 +13,13 @@ use Rattle.strategy_graph.specs.declared.Reply.{Reply}
 use Rattle.strategy_graph.specs.declared.Node.{Node}
 use Rattle.strategy_graph.proofs.Answering.{push-all, push-points}
 use Rattle.strategy_graph.proofs.Common.{NamesLower}
-use Rattle.strategy_compiler.specs.Replies.{IsBeatenBy}
+use Rattle.strategy_compiler.proofs.Common.{IsBeatenBy, GrowsBy, IsCompiled, Writes}
 use Rattle.strategy_compiler.specs.declared.error.SearchError.{SearchError}
-use Rattle.strategy_compiler.proofs.Common.{GrowsBy, IsCompiled, Writes}
 use Rattle.strategy_compiler.proofs.Growing.{grows-more, grows-not, grows-then, writes-then-fails}
 use Rattle.strategy_compiler.proofs.Replies.{beaten-grown}
 use Rattle.strategy_compiler.proofs.Standing.{compiled-lower, growth_keeps-trees}
-use Rattle.defence_finder.specs.Defences.{is_defence, is_beaten, is_spent, defences_of, beaten_of, first_spent}
-use Rattle.defence_finder.specs.Answers.{AreBeaten, IsPlanned, OnKnown, most_nodes, nodes_after, spent_at}
-use Rattle.defence_finder.specs.Finding.{AreFound, IsAdded, IsSettled, IsToldAt, IsVerdict}
+use Rattle.defence_finder.proofs.Common.{is_defence, is_beaten, is_spent, defences_of, beaten_of, first_spent, AreBeaten, IsPlanned}
+use Rattle.defence_finder.proofs.Common.{OnKnown, most_nodes, nodes_after, spent_at, AreFound, IsAdded, IsSettled, IsToldAt, IsVerdict}
 use Rattle.defence_finder.specs.declared.finder.DefenceAnswer.{DefenceAnswer}
 use Rattle.defence_finder.specs.declared.finder.DefenceAnswer.TheVariants.{Known, Spent as SpentAt}
 use Rattle.defence_finder.specs.declared.finder.Found.{Found}

@@ -1,9 +1,7 @@
 -- Where no move holds the other side wins, whatever is played first, and so does the start that is made of the answers.
-use Rattle.std.proofs.Common.{◌≡◌, ℕ, suc, Bool, true, false, ◌&&◌, ◌||◌, not, cond, refl, sym, ap, subst, ◌∙◌, arith, List, [], ◌∷◌, map}
-use Rattle.std.proofs.Common.{Some}
-use Rattle.std.proofs.Common.{IsSome, Contains, All}
-use Rattle.std.specs.List.{find, list_any, list_all, AllByRecursion}
-use Rattle.std.specs.Option.{option_map}
+use Rattle.std.proofs.Common.{◌≡◌, ℕ, suc, Bool, true, false, ◌&&◌, ◌||◌, not, cond, refl, sym, ap, subst, ◌∙◌, arith}
+use Rattle.std.proofs.Common.{List, [], ◌∷◌, map, Some, IsSome, Contains, All, find, option_map}
+use Rattle.std.specs.List.{list_any, list_all, AllByRecursion}
 use Rattle.std.proofs.lemmas.List.Elements.{All-contains, All-from_recursion}
 use Rattle.game_rules.proofs.Common.{Grid, is_on, points_of, is_same_point, outcome, after, goes_on, LosesOr, WinsWithin, WinsByFours}
 use Rattle.game_rules.proofs.Common.{wins_by_fours, has_five}
@@ -22,11 +20,10 @@ use Rattle.strategy_graph.specs.declared.Node.{Node}
 use Rattle.strategy_graph.proofs.Answering.{next-all, replies-on}
 use Rattle.strategy_graph.proofs.Common.{Answers, listed_node, NamesOnBoard, RepliesOn, TableOnBoard}
 use Rattle.strategy_compiler.proofs.Common.{AnswersBranches, AnswersEach, AnswersWin, IsMadeOfAnswers, NamesPointsFrom, StaysOnBoard}
+use Rattle.strategy_compiler.proofs.Common.{IsBeatenBy}
 use Rattle.strategy_compiler.proofs.Forks.{IsAnswer, answer-by-win, answers-win, mapped-all}
-use Rattle.defence_finder.specs.Defences.{holds_or, is_defence, defences_of, is_beaten}
-use Rattle.strategy_compiler.specs.Replies.{IsBeatenBy}
-use Rattle.defence_finder.specs.Answers.{AreBeaten, IsLostStart, IsPlanned, plans_after}
-use Rattle.defence_finder.specs.Laws.{NoDefenceLoses, BeatenRepliesArePlanned, BeatenRepliesWin}
+use Rattle.defence_finder.proofs.Common.{holds_or, is_defence, defences_of, is_beaten, AreBeaten, IsLostStart, IsPlanned, plans_after}
+use Rattle.defence_finder.proofs.Common.{NoDefenceLoses, BeatenRepliesArePlanned, BeatenRepliesWin}
 
 -- ---- lists of replies
 

@@ -1,11 +1,10 @@
 -- What is known of one move: by its outcome, by a five point that it leaves, or by a search after it.
-use Rattle.std.proofs.Common.{◌≡◌, ◌↔◌, inl, inr, ℕ, zero, suc, unwrap_or, ◌-◌, ◌<◌, ◌≤◌, Bool, true, false, ◌&&◌, not, refl, sym, ap}
-use Rattle.std.proofs.Common.{subst}
-use Rattle.std.proofs.Common.{◌∙◌, arith, List, [], ◌∷◌, Some, Option, IfSome, find, nat_lt, slice_get}
+use Rattle.std.proofs.Common.{◌≡◌, ◌↔◌, inl, inr, ℕ, zero, suc, unwrap_or, ◌-◌, ◌<◌, ◌≤◌, Bool, true, false}
+use Rattle.std.proofs.Common.{◌&&◌, not, refl, sym, ap, subst, ◌∙◌, arith, List, [], ◌∷◌, Some, Option, IfSome, find}
+use Rattle.std.proofs.Common.{nat_lt, slice_get, lt-ltb}
 use Rattle.std.proofs.lemmas.Bool.{cases_lt, le-ltb}
-use borrow.Author.Tests.{lt-ltb}
-use Rattle.game_rules.proofs.Common.{Grid, IsPosition, points_of, is_same_point, five, mover, other, outcome, after, goes_on}
-use Rattle.game_rules.proofs.Common.{has_five, five_points, wins_by_fours}
+use Rattle.game_rules.proofs.Common.{Grid, IsPosition, points_of, is_same_point, five, mover, other, outcome, after, goes_on, has_five}
+use Rattle.game_rules.proofs.Common.{five_points, wins_by_fours}
 use Rattle.game_rules.specs.declared.RuleKind.{RuleKind}
 use Rattle.game_rules.specs.declared.Outcome.{Outcome}
 use Rattle.game_rules.specs.declared.Outcome.TheVariants.{GoesOn}
@@ -17,9 +16,8 @@ use Rattle.game_rules.proofs.Places.{find-passes}
 use Rattle.game_rules.proofs.PointLists.{Apart-back, find-any}
 use Rattle.game_rules.proofs.Points.{is_same_point-apart, is_same_point-same}
 use Rattle.strategy_graph.specs.declared.Node.{Node}
-use Rattle.strategy_compiler.specs.Replies.{IsBeatenBy}
+use Rattle.strategy_compiler.proofs.Common.{IsBeatenBy, Leaf, StandsFor, WinsAtOnce}
 use Rattle.strategy_compiler.specs.declared.wins.WrittenWin.{WrittenWin}
-use Rattle.strategy_compiler.proofs.Common.{Leaf, StandsFor, WinsAtOnce}
 use Rattle.strategy_compiler.proofs.Growing.{win-deep, win-within}
 use Rattle.four_search.specs.FourGame.{four_cost, least_moves}
 use Rattle.four_search.specs.Answers.{IsFourWin}
@@ -28,9 +26,7 @@ use Rattle.four_search.specs.declared.answer.FourAnswer.TheVariants.{Win, Spent}
 use Rattle.four_search.specs.Plans.{four_plan}
 use Rattle.four_search.proofs.Costs.{five-cost}
 use Rattle.four_search.proofs.Planning.{plan-leaf}
-use Rattle.defence_finder.specs.Defences.{holds_or, is_spent}
-use Rattle.defence_finder.specs.Answers.{IsPlanned}
-use Rattle.defence_finder.specs.Finding.{IsSettled}
+use Rattle.defence_finder.proofs.Common.{holds_or, is_spent, IsPlanned, IsSettled}
 
 module _ (rule : RuleKind) (n budget : ℕ) (b : Grid) (q : Point) where
   module _ (on : outcome rule b q ≡ GoesOn) where

@@ -1,9 +1,8 @@
 -- The tests of a defence, and of a budget that suffices, answer as the facts.
-use Rattle.std.proofs.Common.{◌≡◌, ◌↔◌, ◌≤◌, Bool, true, false, ◌&&◌, not, refl, sym, ap, ◌∙◌, Option, Some, None, find, MatchOption}
-use Rattle.std.proofs.Common.{nat_lt}
+use Rattle.std.proofs.Common.{◌≡◌, ◌↔◌, ◌≤◌, Bool, true, false, ◌&&◌, not, refl, sym, ap, ◌∙◌, Option, Some}
+use Rattle.std.proofs.Common.{None, find, MatchOption, nat_lt, ltb-true}
 use Rattle.std.specs.List.{list_any}
 use Rattle.std.proofs.lemmas.Bool.{ltb-false}
-use borrow.Author.Tests.{ltb-true}
 use Rattle.game_rules.proofs.Common.{points_of, outcome, after, goes_on, has_five, WinsByFours, wins_by_fours}
 use Rattle.game_rules.specs.declared.Outcome.{Outcome}
 use Rattle.game_rules.specs.declared.Outcome.TheVariants.{Refused, Wins, Fouls, Draws, GoesOn}
@@ -16,8 +15,7 @@ use Rattle.game_rules.proofs.PointLists.{unfound-none}
 use Rattle.game_rules.proofs.Points.{points-found}
 use Rattle.game_rules.proofs.Positions.{GoesOn-on}
 use Rattle.four_search.specs.FourGame.{four_cost}
-use Rattle.defence_finder.specs.Defences.{HoldsOr, holds_or, is_spent, SufficesAfterEach, IsShortAfter}
-use Rattle.defence_finder.specs.Laws.{DefencesAreTold, SpentIsTold}
+use Rattle.defence_finder.proofs.Common.{HoldsOr, holds_or, is_spent, SufficesAfterEach, IsShortAfter, DefencesAreTold, SpentIsTold}
 
 -- ---- defences
 

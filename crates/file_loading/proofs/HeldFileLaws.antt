@@ -1,7 +1,6 @@
 -- What a FILE gives to be held: it is one thing, of which nothing is told; and which statuses are told of others.
-use Rattle.std.proofs.Common.{◌≡◌, inl, inr, refl, sym, ap, subst, ◌∙◌, ◌⊎◌, ℕ, ◌<◌, ◌≤◌, List, []}
-use Rattle.std.proofs.Common.{◌∷◌, length, map, arith}
-use Rattle.std.specs.Prelude.{◌≢◌, Option, Some, None, IfSome, IsSomeAnd}
+use Rattle.std.proofs.Common.{◌≡◌, inl, inr, refl, sym, ap, subst, ◌∙◌, ◌⊎◌, ℕ, ◌<◌, ◌≤◌, List, [], ◌∷◌}
+use Rattle.std.proofs.Common.{length, map, arith, ◌≢◌, Option, Some, None, IfSome, IsSomeAnd}
 use Rattle.std.proofs.lemmas.Option.{same_Some}
 use Rattle.strategy_checker.specs.HeldRoots.{HeldTable}
 use Rattle.position_files.specs.declared.TableFile.{TableFile}
@@ -14,15 +13,14 @@ use Rattle.command_base.specs.declared.status.Status.TheVariants.{RefusedTable, 
 use Rattle.brain_session.specs.declared.TheConstants.{BRAIN_WORK}
 use Rattle.command_base.specs.Statuses.{status_number}
 use Rattle.command_base.specs.Runs.{Change, Run, HasFailed, IsDelivered, HasNoFault}
-use Rattle.file_loading.specs.TableFiles.{IsTableAt, IsRefusedTable, IsSpentWork}
-use Rattle.file_loading.specs.HeldFiles.{held_by, named_entry, of_book, of_table, HeldFile, NamedRoot, IsFit, IsHeldText, IsLoaded}
-use Rattle.file_loading.specs.HeldFiles.{BookFileSays, FileSays, TableFileSays, IsUnheld}
-use Rattle.file_loading.specs.Loading.{IsLoadedAs, IsLoadedBookText, IsLoadedFrom, IsLoadedHeld, IsLoadedText}
+use Rattle.file_loading.proofs.Common.{IsTableAt, IsRefusedTable, IsSpentWork, held_by, named_entry, of_book, of_table, HeldFile, NamedRoot}
+use Rattle.file_loading.proofs.Common.{IsFit, IsHeldText, IsLoaded, BookFileSays, FileSays, TableFileSays, IsUnheld, IsLoadedAs}
+use Rattle.file_loading.proofs.Common.{IsLoadedBookText, IsLoadedFrom, IsLoadedHeld, IsLoadedText, AreAccepted, IsBookAt, IsRefusedEntry}
+use Rattle.file_loading.proofs.Common.{hold_refusal_status}
 use Rattle.file_loading.specs.declared.loading.Holdable.{Holdable}
 use Rattle.file_loading.specs.declared.loading.Holdable.TheVariants.{Table, TableOrBook}
 use Rattle.file_loading.specs.declared.loading.Loaded.{Loaded}
 use Rattle.file_loading.specs.declared.loading.Loaded.TheVariants.{Holds, Tells}
-use Rattle.file_loading.specs.BookFiles.{AreAccepted, IsBookAt, IsRefusedEntry, hold_refusal_status}
 use Rattle.command_base.proofs.ToldLaws.{longer-than, told-some}
 use Rattle.file_loading.proofs.TableFileLaws.{one-table}
 use Rattle.file_loading.proofs.BookFileLaws.{book-not_refused, entries-not_refused, one-book}

@@ -1,3 +1,5 @@
+-- the words of the crate, in one place
+mod Common
 pub mod TableFileLaws
 pub mod BookFileLaws
 pub mod HeldFileLaws

@@ -1,15 +1,14 @@
 -- A white stone takes away no more than Black's means: where Black's stone was no foul and fewer than two axes had three points of
 -- it, it is none after a white stone elsewhere either.
-use Rattle.std.proofs.Common.{◌≡◌, Bool, true, false, ◌&&◌, ◌||◌, refl, add-one, inl, inr, ℕ, ◌+◌, ◌-◌, ◌≤◌, ◌<◌, not, sym, ap, subst, ◌∙◌}
-use Rattle.std.proofs.Common.{arith, nat_eq, nat_le}
-use Rattle.std.specs.Prelude.{Option, ◌==◌, Some, None, is_none}
-use Rattle.std.specs.List.{sum_by, count_by}
+use Rattle.std.proofs.Common.{◌≡◌, Bool, true, false, ◌&&◌, ◌||◌, refl, add-one, inl, inr, ℕ, ◌+◌, ◌-◌, ◌≤◌}
+use Rattle.std.proofs.Common.{◌<◌, not, sym, ap, subst, ◌∙◌, arith, nat_eq, nat_le, Option, ◌==◌, Some, None, is_none, sum_by}
+use Rattle.std.proofs.Common.{count_by}
 use Rattle.std.proofs.lemmas.Bool.{or_right}
 use Rattle.std.proofs.lemmas.Bool.Decides.{nat_tests}
 use Rattle.game_rules.proofs.Common.{Grid, IsBoard, is_empty, put, is_on, along, axes, points_of, holds, stone_foul, black_foul}
 use Rattle.game_rules.proofs.Common.{black_foul_within, is_three, row_wins, run_of, stone_at, wins_on, wins_at, place_stone, place_wins}
-use Rattle.game_rules.proofs.Common.{fours_of, is_line_three_point, is_line_three_at, is_three_point, five, opposite}
-use Rattle.game_rules.proofs.Common.{towards, stones_towards, go}
+use Rattle.game_rules.proofs.Common.{fours_of, is_line_three_point, is_line_three_at, is_three_point, five, opposite, towards}
+use Rattle.game_rules.proofs.Common.{stones_towards, go}
 use Rattle.game_rules.specs.declared.RuleKind.{RuleKind}
 use Rattle.game_rules.specs.declared.Foul.{Foul}
 use Rattle.game_rules.specs.declared.Point.{Point}
@@ -31,7 +30,7 @@ use Rattle.row_shapes.specs.Gaps.{is_four, are_stones, fours_from}
 use Rattle.row_shapes.specs.Threes.{wins_past, is_open_four}
 use Rattle.row_shapes.proofs.Counting.{fours_of-gap}
 use Rattle.row_shapes.proofs.ThreePoints.{three-open, three_first, three_near}
-use Rattle.foul_judge.specs.ShortCut.{has_line_three}
+use Rattle.foul_judge.proofs.Common.{has_line_three}
 
 four_more : (n s w c v w' v' : Bool) → (w ≡ true → w' ≡ true) → (v ≡ true → v' ≡ true) → (n && s && (w || (c && v))) ≡ true
     → (n && s && (w' || (c && v'))) ≡ true

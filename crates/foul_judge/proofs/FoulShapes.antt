@@ -1,9 +1,8 @@
 -- What the shapes of a point tell of Black's foul there, where Black has fouls.
-use Rattle.std.proofs.Common.{ℕ, zero, suc, ◌+◌, ◌*◌, Bool, cond, ◌≡◌, ◌%◌, true, false, arith, ◌/◌, ◌<◌, sym, ap, ◌∙◌, ◌^◌, ◌≤◌, not, List}
-use Rattle.std.proofs.Common.{refl, nat_eq, nat_le}
+use Rattle.std.proofs.Common.{ℕ, zero, suc, ◌+◌, ◌*◌, Bool, cond, ◌≡◌, ◌%◌, true, false, arith, ◌/◌, ◌<◌, sym}
+use Rattle.std.proofs.Common.{ap, ◌∙◌, ◌^◌, ◌≤◌, not, List, refl, nat_eq, nat_le, sum_by, count_by, Some, None, map}
 use Rattle.std.specs.Int.{bit_at}
-use Rattle.std.specs.List.{sum_by, range_with_len, list_any, count_by}
-use Rattle.std.specs.Prelude.{Some, None, map}
+use Rattle.std.specs.List.{range_with_len, list_any}
 use Rattle.std.proofs.lemmas.Nat.Bits.{bit_at_lowest, bit_at-suc}
 use Rattle.std.proofs.lemmas.Bool.Decides.{nat_tests}
 use Rattle.game_rules.proofs.Common.{Grid, IsBoard, is_empty, holds, put, axes, along, run_of, fours_of, is_line_three_at, has_fouls}
@@ -22,7 +21,7 @@ use Rattle.row_shapes.specs.Rule.{reach_of}
 use Rattle.row_shapes.specs.LineCodes.{line_code}
 use Rattle.row_shapes.specs.LineShapes.{shape_of, shape_at, three_bits, IsShape}
 use Rattle.row_shapes.proofs.CodeDigits.{reach_five, told_shape}
-use Rattle.foul_judge.specs.ShortCut.{has_line_three}
+use Rattle.foul_judge.proofs.Common.{has_line_three}
 use Rattle.foul_judge.proofs.ThreePlaces.{foul-step}
 use Rattle.foul_judge.proofs.MayFoul.{no_two_threes, line_by_bits}
 

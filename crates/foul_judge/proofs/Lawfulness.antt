@@ -1,7 +1,6 @@
 -- A board is lawful exactly where nothing is said against it.
-use Rattle.std.proofs.Common.{◌≡◌, ◌↔◌, ◌⊎◌, inl, inr, ℕ, ◌+◌, ◌<◌, Bool, true, false, cond, ◌||◌, not, refl, sym, ◌∙◌, arith, nat_eq, eq-eqb}
-use Rattle.std.specs.List.{find}
-use Rattle.std.specs.Prelude.{Option, Some, None}
+use Rattle.std.proofs.Common.{◌≡◌, ◌↔◌, ◌⊎◌, inl, inr, ℕ, ◌+◌, ◌<◌, Bool, true, false, cond, ◌||◌, not}
+use Rattle.std.proofs.Common.{refl, sym, ◌∙◌, arith, nat_eq, eq-eqb, find, Option, Some, None}
 use Rattle.std.proofs.lemmas.Bool.{or_right, or_cases, and_from, false_from_ne_true}
 use Rattle.std.proofs.lemmas.Bool.Decides.{nat_tests}
 use Rattle.game_rules.proofs.Common.{Grid, IsBoard, is_on, holds, points_of, stones_of, empties_of, row_wins, run_of, IsPosition, IsUnwon}
@@ -16,7 +15,7 @@ use Rattle.game_rules.proofs.Points.{points-found, none_of}
 use Rattle.game_rules.proofs.PointLists.{unfound-none, none-unfound}
 use Rattle.foul_judge.specs.declared.position.PositionError.{PositionError}
 use Rattle.foul_judge.specs.declared.position.PositionError.TheVariants.{BoardFull}
-use Rattle.foul_judge.specs.Lawful.{names_mover, wins_through, is_on_winning_run, won_or_full, refusal}
+use Rattle.foul_judge.proofs.Common.{names_mover, wins_through, is_on_winning_run, won_or_full, refusal}
 
 -- ---- the first of a list
 

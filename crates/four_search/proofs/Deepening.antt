@@ -1,7 +1,7 @@
 -- Answers to replies in reading order rise. Depth after depth: what is spent, and the fewest moves.
-use Rattle.std.proofs.Common.{◌≡◌, ℕ, true, cond, refl, ap, List, [], ◌∷◌, map, filter, zero, suc, ◌+◌, ◌-◌, ◌≤◌, ◌<◌, Bool, false, inl}
-use Rattle.std.proofs.Common.{inr, sym, subst, ◌∙◌, arith, ◌++◌, nat_le, Some}
-use Rattle.std.specs.List.{find, sum_by, range_with_len}
+use Rattle.std.proofs.Common.{◌≡◌, ℕ, true, cond, refl, ap, List, [], ◌∷◌, map, filter, zero, suc, ◌+◌, ◌-◌}
+use Rattle.std.proofs.Common.{◌≤◌, ◌<◌, Bool, false, inl, inr, sym, subst, ◌∙◌, arith, ◌++◌, nat_le, Some, find, sum_by}
+use Rattle.std.specs.List.{range_with_len}
 use Rattle.std.proofs.lemmas.Bool.{cases_lt}
 use Rattle.std.proofs.lemmas.Bool.Decides.{nat_tests}
 use Rattle.std.proofs.lemmas.List.Sums.{sum_by-cons, sum_by-append}
@@ -13,11 +13,9 @@ use Rattle.game_rules.proofs.Common.{Grid, points_of, goes_on, wins_by_fours, ha
 use Rattle.game_rules.proofs.Games.{WinsUnder-more, test-WinsUnder, WinsUnder-test}
 use Rattle.strategy_graph.proofs.Rising.{replies-rising}
 use Rattle.strategy_graph.proofs.Common.{is_rising}
-use Rattle.four_search.specs.Plans.{answer_if, answers_for}
+use Rattle.four_search.proofs.Common.{answer_if, answers_for, until, four_tree, depths_tried, four_cost, least_moves, found_at, four_line}
 use Rattle.four_search.specs.declared.search.Found.{Found}
 use Rattle.four_search.specs.declared.search.Found.TheVariants.{Win, NoWin, Spent}
-use Rattle.four_search.specs.FourGame.{until, four_tree, depths_tried, four_cost, least_moves}
-use Rattle.four_search.specs.Searching.{found_at, four_line}
 
 module _ (o : Point → Outcome) (next : Point → ℕ) where
   answered : (ps : List Point) → map (λ r. r.at) (answers_for o next ps) ≡ filter (λ q. goes_on (o q)) ps

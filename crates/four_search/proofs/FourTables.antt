@@ -4,14 +4,11 @@ use Rattle.game_rules.proofs.Common.{Grid, IsPosition}
 use Rattle.game_rules.specs.declared.RuleKind.{RuleKind}
 use Rattle.game_rules.specs.declared.Point.{Point}
 use Rattle.strategy_graph.specs.declared.Node.{Node}
-use Rattle.strategy_graph.specs.Tables.{IsTable}
-use Rattle.strategy_compiler.specs.Walks.{IsTableOf, last}
-use Rattle.strategy_compiler.proofs.Common.{GrowsBy, StandsFor}
+use Rattle.strategy_graph.proofs.Common.{IsTable}
+use Rattle.strategy_compiler.proofs.Common.{IsTableOf, last, GrowsBy, StandsFor}
 use Rattle.strategy_compiler.proofs.Growing.{grows-length}
 use Rattle.four_search.specs.declared.fewest.FourTable.{FourTable}
-use Rattle.four_search.specs.Answers.{IsSought, IsFourWin}
-use Rattle.four_search.specs.FewestWins.{IsFinished, IsFourTable}
-use Rattle.four_search.specs.Plans.{four_plan}
+use Rattle.four_search.proofs.Common.{IsSought, IsFourWin, IsFinished, IsFourTable, four_plan}
 use Rattle.four_search.proofs.Written.{sought-win}
 
 -- the table that is made of a compiler that was new, and has the plan of the win, is that of the win

@@ -1,6 +1,8 @@
 -- The laws of the four search. What a search finds is said by the clauses of `four_search`, and what is made of it by those of the
 -- compiler. What is declared by `pub mod` the layers above may cite; the rest serves this crate alone.
 
+-- the words of the crate, in one place
+mod Common
 -- the game of fours, position by position, and the search of it
 mod Trying
 mod Deepening

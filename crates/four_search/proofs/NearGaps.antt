@@ -1,7 +1,6 @@
 -- Two gaps that make a row of five with a stone have two more stones of its side within four places of it.
-use Rattle.std.proofs.Common.{◌≡◌, inl, inr, ◌⊎◌, ℕ, zero, suc, ◌+◌, ◌-◌, ◌*◌, ◌/◌, ◌%◌, ◌^◌, ◌≤◌, ◌<◌, true, refl, sym, ap, ◌∙◌}
-use Rattle.std.proofs.Common.{arith}
-use Rattle.std.specs.Prelude.{bit_and, count_ones}
+use Rattle.std.proofs.Common.{◌≡◌, inl, inr, ◌⊎◌, ℕ, zero, suc, ◌+◌, ◌-◌, ◌*◌, ◌/◌, ◌%◌, ◌^◌}
+use Rattle.std.proofs.Common.{◌≤◌, ◌<◌, true, refl, sym, ap, ◌∙◌, arith, bit_and, count_ones}
 use Rattle.std.specs.Int.{bit_at}
 use Rattle.std.proofs.lemmas.Bool.{cases_lt}
 use Rattle.std.proofs.lemmas.Nat.{pow_pos}
@@ -16,7 +15,7 @@ use Rattle.stone_board.specs.Lines.{line_of, place_on, TellsLine}
 use Rattle.stone_board.proofs.LineBits.{board-near}
 use Rattle.stone_board.proofs.LineStones.{along-places, ahead_bit, behind_low, behind_bit}
 use Rattle.stone_board.proofs.Ones.{bit_shr}
-use Rattle.four_search.specs.Gaps.{AreGaps, IsGapOn}
+use Rattle.four_search.proofs.Common.{AreGaps, IsGapOn}
 
 -- ---- two bits of a number
 

@@ -3,9 +3,7 @@ use Rattle.std.proofs.Common.{◌≡◌, ℕ, ◌+◌, ◌-◌, cond, refl, sym,
 use Rattle.game_rules.specs.declared.RuleKind.{RuleKind}
 use Rattle.four_search.specs.declared.search.Found.{Found}
 use Rattle.four_search.specs.declared.search.Found.TheVariants.{Win, NoWin, Spent}
-use Rattle.four_search.specs.FourGame.{four_tree}
-use Rattle.four_search.specs.Remembering.{IsDenied, IsTrueMemory}
-use Rattle.four_search.specs.Searching.{four_line, found_at}
+use Rattle.four_search.proofs.Common.{four_tree, IsDenied, IsTrueMemory, four_line, found_at}
 use Rattle.four_search.proofs.Deepening.{found-no-win}
 use Rattle.game_rules.proofs.Common.{Grid, IsPosition}
 use Rattle.position_table.specs.Packing.{packed}

@@ -1,7 +1,7 @@
 -- Where a depth looks at no more positions than the depth before, and neither has a win, no greater depth looks at more or has one.
-use Rattle.std.proofs.Common.{◌≡◌, inl, inr, ℕ, zero, suc, ◌+◌, ◌-◌, ◌*◌, ◌≤◌, ◌<◌, Bool, true, false, cond, refl, sym, ap, subst, ◌∙◌}
-use Rattle.std.proofs.Common.{arith, List, [], ◌∷◌, nat_le}
-use Rattle.std.specs.List.{list_any, sum_by}
+use Rattle.std.proofs.Common.{◌≡◌, inl, inr, ℕ, zero, suc, ◌+◌, ◌-◌, ◌*◌, ◌≤◌, ◌<◌, Bool, true, false, cond}
+use Rattle.std.proofs.Common.{refl, sym, ap, subst, ◌∙◌, arith, List, [], ◌∷◌, nat_le, sum_by}
+use Rattle.std.specs.List.{list_any}
 use Rattle.std.proofs.lemmas.Bool.{or_parts, cases_lt}
 use Rattle.std.proofs.lemmas.Bool.Decides.{nat_tests}
 use Rattle.game_rules.proofs.Common.{Grid, points_of, IsPosition, mover, after, has_five, starts_win, wins_by_fours}
@@ -18,9 +18,7 @@ use Rattle.threat_moves.proofs.Fates.{lawful-one}
 use Rattle.four_search.specs.declared.search.Found.TheVariants.{NoWin}
 use Rattle.four_search.specs.declared.answer.Sought.{Sought}
 use Rattle.four_search.specs.declared.answer.Sought.TheVariants.{None, Spent}
-use Rattle.four_search.specs.Answers.{IsSoughtOut}
-use Rattle.four_search.specs.FourGame.{until, if_one, four_tree, four_cost}
-use Rattle.four_search.specs.Searching.{positions_behind, found_at}
+use Rattle.four_search.proofs.Common.{IsSoughtOut, until, if_one, four_tree, four_cost, positions_behind, found_at}
 use Rattle.four_search.proofs.Trying.{no_four, wins-is, tree-is, tree-some}
 use Rattle.four_search.proofs.Deepening.{wins-more, spent_on, NoWinUpTo, cost-none, spent-more, found-no-win}
 

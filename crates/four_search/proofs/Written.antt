@@ -1,11 +1,11 @@
 -- A node that stands for the plan of a win by fours is accepted, and its depth is at most the moves of the plan; within that depth there is
 -- a win by fours. One move of a win by fours, and the node that stands for its plan: the node's attack is the chosen move, and where that
 -- goes on each reply that goes on is answered by a node that stands for the plan of the win that is left. And the fewest moves.
-use Rattle.std.proofs.Common.{◌≡◌, ◌⊎◌, inl, inr, ℕ, zero, suc, ◌+◌, ◌*◌, ◌≤◌, ◌<◌, Bool, true, false, ◌&&◌, refl, sym, ap, subst, ◌∙◌}
-use Rattle.std.specs.Prelude.{IsSomeAnd}
-use Rattle.std.proofs.Common.{arith, List, map, length, Option, Some, None, slice_get, ◌-◌, cond, [], ◌∷◌}
-use Rattle.std.specs.List.{list_all, sum_by, find, range_with_len}
-use Rattle.std.specs.Option.{option_map, option_and_then, option_map_or}
+use Rattle.std.proofs.Common.{◌≡◌, ◌⊎◌, inl, inr, ℕ, zero, suc, ◌+◌, ◌*◌, ◌≤◌, ◌<◌, Bool, true, false}
+use Rattle.std.proofs.Common.{◌&&◌, refl, sym, ap, subst, ◌∙◌, IsSomeAnd, arith, List, map, length, Option, Some, None, slice_get}
+use Rattle.std.proofs.Common.{◌-◌, cond, [], ◌∷◌, sum_by, find, option_map, option_and_then}
+use Rattle.std.specs.List.{list_all, range_with_len}
+use Rattle.std.specs.Option.{option_map_or}
 use Rattle.std.proofs.lemmas.Bool.{cases_lt}
 use Rattle.game_rules.specs.declared.RuleKind.{RuleKind}
 use Rattle.game_rules.specs.declared.Outcome.{Outcome}
@@ -24,8 +24,8 @@ use Rattle.game_rules.proofs.Places.{points_length, find-passes}
 use Rattle.game_rules.proofs.PointLists.{any-find, sum-ones-but}
 use Rattle.game_rules.proofs.ReadingOrder.{sum-once}
 use Rattle.strategy_graph.specs.declared.Node.{Node}
-use Rattle.strategy_graph.proofs.Common.{answers_of, answer, is_winning, IsTable, depth, node_depth, named, greatest, Meets}
-use Rattle.strategy_graph.proofs.Common.{Accepted, arrivals_at, arrivals, answer_at}
+use Rattle.strategy_graph.proofs.Common.{answers_of, answer, is_winning, IsTable, depth, node_depth, named, greatest, Meets, Accepted}
+use Rattle.strategy_graph.proofs.Common.{arrivals_at, arrivals, answer_at}
 use Rattle.strategy_graph.proofs.Answering.{IsSomeAnd-map, answer-greatest}
 use Rattle.strategy_graph.proofs.Fuel.{depth-step}
 use Rattle.strategy_graph.proofs.Steps.{accepted-by-replies, arrivals-by-replies, arrivals-winning}
@@ -40,9 +40,7 @@ use Rattle.threat_moves.specs.declared.block.BlockAnswer.TheVariants.{Won, One}
 use Rattle.threat_moves.proofs.BlockLaw.{block_decides, others_leave_five}
 use Rattle.threat_moves.proofs.FourLaws.{one-goes_on}
 use Rattle.threat_moves.proofs.Common.{is_four_move, fate, block_wins, LeavesFive}
-use Rattle.four_search.specs.Answers.{IsFourWin, IsSought}
-use Rattle.four_search.specs.Plans.{branches_for, four_plan, plan_from}
-use Rattle.four_search.specs.FourGame.{least_moves}
+use Rattle.four_search.proofs.Common.{IsFourWin, IsSought, branches_for, four_plan, plan_from, least_moves}
 use Rattle.four_search.proofs.Trying.{move-is, wins-is}
 use Rattle.four_search.proofs.Planning.{plan-leaf, plan-fork, plan-goes_on, answers-each, answer-at, listed-on}
 use Rattle.four_search.proofs.Deepening.{NoWinUpTo, wins-more, least-win}

@@ -1,12 +1,8 @@
 -- Games that follow an accepted table: the verdict agrees with the end of the game against the table, and no such game is lost.
-use Rattle.std.proofs.Common.{◌≡◌, ◌↔◌, ℕ, zero, suc, ◌+◌, ◌*◌, ◌-◌, Bool, true, false, not, List, [], ◌∷◌, ◌++◌, length, refl, sym, ap}
-use Rattle.std.proofs.Common.{subst, ◌∙◌, arith}
-use Rattle.std.specs.Prelude.{Option, Some, None, slice_get, IsSomeAnd}
-use Rattle.std.specs.Option.{option_map}
-use Rattle.game_rules.specs.Grid.{Grid}
-use Rattle.game_rules.specs.Shapes.{is_same_point}
-use Rattle.game_rules.specs.Play.{outcome, after, mover, other}
-use Rattle.game_rules.specs.Games.{WinsOr, LosesOr}
+use Rattle.std.proofs.Common.{◌≡◌, ◌↔◌, ℕ, zero, suc, ◌+◌, ◌*◌, ◌-◌, Bool, true, false, not, List, [], ◌∷◌}
+use Rattle.std.proofs.Common.{◌++◌, length, refl, sym, ap, subst, ◌∙◌, arith, Option, Some, None, slice_get, IsSomeAnd}
+use Rattle.std.proofs.Common.{option_map}
+use Rattle.game_rules.proofs.Common.{Grid, is_same_point, outcome, after, mover, other, WinsOr, LosesOr}
 use Rattle.game_rules.specs.declared.Side.{Side}
 use Rattle.game_rules.specs.declared.Foul.{Foul}
 use Rattle.game_rules.specs.declared.RuleKind.{RuleKind}
@@ -18,17 +14,14 @@ use Rattle.game_rules.proofs.Points.{is_same_point-same}
 use Rattle.strategy_graph.specs.declared.Node.{Node}
 use Rattle.strategy_graph.specs.declared.roots.Root.{Root}
 use Rattle.strategy_graph.specs.declared.roots.Root.TheVariants.{Attack, Defend}
-use Rattle.strategy_graph.specs.Roots.{AcceptedRoot}
-use Rattle.strategy_graph.specs.Tables.{Answers, answers_of, answer, is_winning}
-use Rattle.strategy_graph.specs.Acceptance.{Meets, AcceptedNode, AcceptedWithin, Accepted}
-use Rattle.strategy_graph.specs.Games.{End, Won as EndWon, Open as EndOpen, one_later, attacks, game}
+use Rattle.strategy_graph.proofs.Common.{AcceptedRoot, Answers, answers_of, answer, is_winning, Meets, AcceptedNode, AcceptedWithin}
+use Rattle.strategy_graph.proofs.Common.{Accepted, End, Won as EndWon, Open as EndOpen, one_later, attacks, game}
 use Rattle.game_referee.specs.declared.GameVerdict.{GameVerdict}
 use Rattle.game_referee.specs.declared.GameVerdict.TheVariants.{Open, Illegal, AfterEnd, Won, Fouled, Drawn}
 use Rattle.game_referee.specs.declared.ReplayAnswer.TheVariants.{Follows}
-use Rattle.game_referee.specs.Verdicts.{outcomes, verdict, verdict_from}
-use Rattle.game_referee.specs.Replays.{departs_from, is_attack, is_stray, next_turn, replay, strays}
-use Rattle.game_referee.specs.Followers.{Agrees, FollowerNeverLoses, GamesGoByRoot, GamesGoByTable, GoesByTable, IsKeptBy, IsPlayed}
-use Rattle.game_referee.specs.Followers.{even_moves, mover_after, odd_moves, side_of}
+use Rattle.game_referee.proofs.Common.{outcomes, verdict, verdict_from, departs_from, is_attack, is_stray, next_turn, replay, strays}
+use Rattle.game_referee.proofs.Common.{Agrees, FollowerNeverLoses, GamesGoByRoot, GamesGoByTable, GoesByTable, IsKeptBy, IsPlayed}
+use Rattle.game_referee.proofs.Common.{even_moves, mover_after, odd_moves, side_of}
 
 -- ---- what agrees, where c moves were played before; a point that is no move is a reply
 

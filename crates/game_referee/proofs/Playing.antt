@@ -1,12 +1,10 @@
 -- A move that goes on, played: the board after it is lawful, has one empty point less, and the other side moves there.
-use Rattle.std.proofs.Common.{◌≡◌, ℕ, zero, suc, ◌+◌, ◌-◌, ◌≤◌, Bool, true, false, List, [], ◌∷◌, length, refl, sym, ap, subst, ◌∙◌, arith}
-use Rattle.std.proofs.Common.{◌⊎◌, inl, inr}
-use Rattle.std.specs.Prelude.{Option, None, drop, take, slice_index_or}
+use Rattle.std.proofs.Common.{◌≡◌, ℕ, zero, suc, ◌+◌, ◌-◌, ◌≤◌, Bool, true, false, List, [], ◌∷◌, length, refl}
+use Rattle.std.proofs.Common.{sym, ap, subst, ◌∙◌, arith, ◌⊎◌, inl, inr, Option, None, drop, take, slice_index_or}
 use Rattle.std.proofs.lemmas.Nat.{mul-le}
 use Rattle.std.proofs.lemmas.List.{drop_all, length-drop, take_all}
-use Rattle.game_rules.specs.Grid.{Grid, IsBoard, empties_of}
+use Rattle.game_rules.proofs.Common.{Grid, IsBoard, empties_of, IsPosition, outcome, after, mover, other}
 use Rattle.game_rules.proofs.Cells.{counts_of_board}
-use Rattle.game_rules.specs.Play.{IsPosition, outcome, after, mover, other}
 use Rattle.game_rules.specs.declared.RuleKind.{RuleKind}
 use Rattle.game_rules.specs.declared.Foul.{Foul}
 use Rattle.game_rules.specs.declared.Side.{Side}
@@ -20,9 +18,7 @@ use Rattle.strategy_graph.specs.declared.roots.Root.{Root}
 use Rattle.game_referee.specs.declared.ReplayAnswer.TheVariants.{Follows, Departs}
 use Rattle.game_referee.specs.declared.GameVerdict.{GameVerdict}
 use Rattle.game_referee.specs.declared.GameVerdict.TheVariants.{Open}
-use Rattle.game_referee.specs.Verdicts.{outcomes, verdict_from}
-use Rattle.game_referee.specs.Played.{WentOn}
-use Rattle.game_referee.specs.Replays.{departs_from, is_stray, next_turn, strays}
+use Rattle.game_referee.proofs.Common.{outcomes, verdict_from, WentOn, departs_from, is_stray, next_turn, strays}
 
 module _ (rule : RuleKind) (b c : Grid) (p : Point) (lawful : IsPosition rule b) (on : outcome rule b p ≡ GoesOn)
     (played : c ≡ after b p) where

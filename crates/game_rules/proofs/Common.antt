@@ -17,19 +17,13 @@ unfoldable pub use Rattle.game_rules.specs.Games.{four_move, is_double_point, wi
 pub use Rattle.game_rules.specs.Grid.{Grid, IsBoard, along, axes, cell_at, empties_of, holds, is_empty, is_empty_cell, is_on, is_stone_of}
 pub use Rattle.game_rules.specs.Grid.{lift, place_of, point_of, points_of, points_within, put, row_from, shift, stone_of, stones_of}
 pub use Rattle.game_rules.specs.Lines.{is_aligned, same_line}
-pub use Rattle.game_rules.specs.Play.{IsPosition, IsUnwon, after, foul_of, goes_on, goes_on_with, has_fouls}
-pub use Rattle.game_rules.specs.Play.{is_foul, is_win, mover, other, saves}
+pub use Rattle.game_rules.specs.Play.{IsPosition, IsUnwon, after, foul_of, goes_on, goes_on_with, has_fouls, is_foul, is_win, mover, other}
+pub use Rattle.game_rules.specs.Play.{saves}
 unfoldable pub use Rattle.game_rules.specs.Play.{black_foul, black_foul_within, is_three, outcome, stone_foul}
 pub use Rattle.game_rules.specs.Points.{precedes}
-pub use Rattle.game_rules.specs.Shapes.{five, is_at, is_in_run, is_line_three_at, is_same_point}
-pub use Rattle.game_rules.specs.Shapes.{row_wins, run_of, stone_at, stones_ahead, stones_behind, wins_at, wins_on}
-unfoldable pub use Rattle.game_rules.specs.Shapes.{
-  fours_of,
-  gives_straight,
-  is_line_three_point,
-  is_straight,
-  is_three_point,
-}
+pub use Rattle.game_rules.specs.Shapes.{five, is_at, is_in_run, is_line_three_at, is_same_point, row_wins, run_of, stone_at, stones_ahead}
+pub use Rattle.game_rules.specs.Shapes.{stones_behind, wins_at, wins_on}
+unfoldable pub use Rattle.game_rules.specs.Shapes.{fours_of, gives_straight, is_line_three_point, is_straight, is_three_point}
 pub use Rattle.game_rules.specs.Ways.{go, opposite, run_end, stones_towards, towards}
 
 -- what the four facts about Black's stone make of it, asked in the order of stone_foul

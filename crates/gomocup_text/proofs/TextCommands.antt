@@ -1,8 +1,6 @@
 -- The command of a text that is not empty.
 use Rattle.std.proofs.Common.{◌≡◌, List, ℕ, [], ◌∷◌, length, Option, Some, None, refl, ap, ◌∙◌}
-use Rattle.gomocup_text.specs.Words.{word_named, rest_of, word_of}
-use Rattle.gomocup_text.specs.Numbers.{numbers_of_three}
-use Rattle.gomocup_text.specs.Commands.{form_of, stone_or, text_command, word_command}
+use Rattle.gomocup_text.proofs.Common.{word_named, rest_of, word_of, numbers_of_three, form_of, stone_or, text_command, word_command}
 use Rattle.gomocup_text.specs.declared.words.Word.{Word}
 
 -- a text that is no stone and begins with a word of the table is that word's

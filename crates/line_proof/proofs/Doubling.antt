@@ -1,8 +1,7 @@
 -- A double threat wins in two moves, and so does its node. The answers to all replies to a move win, and so does the node that has them.
-use Rattle.std.proofs.Common.{◌≡◌, ℕ, Bool, true, false, cond, ◌&&◌, refl, sym, ap, subst, ◌∙◌, List, [], ◌∷◌, Option, Some, None, IfSome}
-use Rattle.std.proofs.Common.{suc, ◌+◌}
-use Rattle.std.specs.Prelude.{unwrap_or}
-use Rattle.std.specs.List.{list_any, list_all, filter}
+use Rattle.std.proofs.Common.{◌≡◌, ℕ, Bool, true, false, cond, ◌&&◌, refl, sym, ap, subst, ◌∙◌, List, [], ◌∷◌}
+use Rattle.std.proofs.Common.{Option, Some, None, IfSome, suc, ◌+◌, unwrap_or, filter}
+use Rattle.std.specs.List.{list_any, list_all}
 use Rattle.game_rules.proofs.Common.{Grid, is_on, points_of, points_within, five, is_same_point, IsPosition, outcome, mover, after, other}
 use Rattle.game_rules.proofs.Common.{goes_on_with, LosesOr, has_five, wins_or, loses_or, starts_win, wins_under, wins_by_fours}
 use Rattle.game_rules.specs.declared.RuleKind.{RuleKind}
@@ -18,7 +17,7 @@ use Rattle.game_rules.proofs.Outcomes.{five-outcome, goes_on_with-true}
 use Rattle.game_rules.proofs.PointLists.{still-found}
 use Rattle.game_rules.proofs.ReadingOrder.{points-on}
 use Rattle.strategy_graph.specs.declared.Node.{Node}
-use Rattle.strategy_compiler.specs.Replies.{IsBeatenBy}
+use Rattle.strategy_compiler.proofs.Common.{IsBeatenBy, IsWrittenWin, GrowsBy, IsDoubleThreat, double_moves, AnswersWin, WinsByAnswers}
 use Rattle.strategy_compiler.proofs.Growing.{win-stays}
 use Rattle.threat_moves.specs.declared.block.BlockAnswer.TheVariants.{Lost, Won}
 use Rattle.threat_moves.proofs.BlockLaw.{block_decides}
@@ -26,16 +25,13 @@ use Rattle.threat_moves.proofs.FourLaws.{two-won}
 use Rattle.strategy_compiler.specs.declared.wins.WrittenWin.{WrittenWin}
 use Rattle.line_proof.specs.declared.doubles.DoubleThreat.{DoubleThreat}
 use Rattle.line_proof.specs.declared.doubles.TwoFives.{TwoFives}
-use Rattle.line_proof.specs.Doubles.{LeavesTwoFives, IsDouble}
+use Rattle.line_proof.proofs.Common.{LeavesTwoFives, IsDouble, each_loses, AnswersAll}
 use Rattle.strategy_graph.specs.declared.Reply.{Reply}
 use Rattle.strategy_graph.proofs.Common.{NamesLower, depth}
 use Rattle.strategy_graph.proofs.Answering.{passed}
-use Rattle.strategy_compiler.proofs.Common.{IsWrittenWin, GrowsBy, IsDoubleThreat, double_moves, AnswersWin, WinsByAnswers}
 use Rattle.strategy_compiler.proofs.Forks.{IsAnswer, all-both, alone-deep, answer-by-win, answers-win}
 use Rattle.threat_moves.proofs.Common.{by_fives, fate, is_four_move, block_wins}
 use Rattle.line_proof.specs.declared.answers.Answering.{Answering}
-use Rattle.line_proof.specs.Lines.{each_loses}
-use Rattle.line_proof.specs.Replies.{AnswersAll}
 
 -- ---- the points of a board are on it
 

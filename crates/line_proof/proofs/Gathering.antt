@@ -1,8 +1,7 @@
 -- Answers to the replies so far: they stay answers as the nodes grow, and one more.
-use Rattle.std.proofs.Common.{◌≡◌, ℕ, zero, suc, ◌<◌, ◌≤◌, ◌+◌, max, Bool, true, false, cond, ◌&&◌, refl, sym, ap, subst, ◌∙◌, arith, List}
-use Rattle.std.proofs.Common.{[], ◌∷◌, ◌++◌}
-use Rattle.std.proofs.Common.{map, append_assoc, get_or, length}
-use Rattle.std.specs.List.{AllByRecursion, list_all, sum_by}
+use Rattle.std.proofs.Common.{◌≡◌, ℕ, zero, suc, ◌<◌, ◌≤◌, ◌+◌, max, Bool, true, false, cond, ◌&&◌, refl, sym, ap}
+use Rattle.std.proofs.Common.{subst, ◌∙◌, arith, List, [], ◌∷◌, ◌++◌, map, append_assoc, get_or, length, sum_by}
+use Rattle.std.specs.List.{AllByRecursion, list_all}
 use Rattle.std.proofs.lemmas.List.{map-append}
 use Rattle.std.proofs.lemmas.List.Sums.{sum_by-cons}
 use Rattle.game_rules.proofs.Common.{Grid, outcome, after, goes_on_with, loses_or, if_goes_on}
@@ -11,16 +10,15 @@ use Rattle.game_rules.specs.declared.Outcome.TheVariants.{GoesOn}
 use Rattle.game_rules.specs.declared.Point.{Point}
 use Rattle.strategy_graph.specs.declared.Node.{Node}
 use Rattle.strategy_graph.specs.declared.Reply.{Reply}
-use Rattle.strategy_graph.specs.Tables.{NamesLower, depth, greatest}
+use Rattle.strategy_graph.proofs.Common.{NamesLower, depth, greatest}
 use Rattle.strategy_graph.proofs.Answering.{push-all}
 use Rattle.strategy_graph.proofs.Greatest.{push-most}
 use Rattle.strategy_compiler.specs.declared.wins.WrittenWin.{WrittenWin}
-use Rattle.strategy_compiler.proofs.Common.{IsWrittenWin, GrowsBy}
-use Rattle.strategy_compiler.specs.Replies.{IsBeatenBy}
+use Rattle.strategy_compiler.proofs.Common.{IsWrittenWin, GrowsBy, IsBeatenBy}
 use Rattle.strategy_compiler.proofs.Growing.{win-stays, win-deep}
 use Rattle.strategy_compiler.proofs.Replies.{beaten-grown}
 use Rattle.line_proof.specs.declared.answers.Answering.{Answering}
-use Rattle.line_proof.specs.Replies.{AreAnswers, IsAnswered, answered, going_on}
+use Rattle.line_proof.proofs.Common.{AreAnswers, IsAnswered, answered, going_on}
 
 -- ---- wins as the nodes grow
 

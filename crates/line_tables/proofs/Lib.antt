@@ -1,5 +1,7 @@
 -- The laws of codes by bits, which serve this crate alone.
 
+-- the words of the crate, in one place
+mod Common
 -- digits of numbers told by bits
 mod BitDigits
 -- the places around a point

@@ -1,12 +1,11 @@
 -- What the stones near a point and the shapes of its lines tell of Black's move there, where Black has fouls.
-use Rattle.std.proofs.Common.{◌≡◌, ℕ, ◌≤◌, ◌<◌, Bool, true, false, cond, not, refl, ◌∙◌, arith, nat_eq, nat_le, List}
-use Rattle.std.specs.List.{list_any, count_by, sum_by}
-use Rattle.std.specs.Prelude.{Option, Some, None, map}
+use Rattle.std.proofs.Common.{◌≡◌, ℕ, ◌≤◌, ◌<◌, Bool, true, false, cond, not, refl, ◌∙◌, arith, nat_eq, nat_le}
+use Rattle.std.proofs.Common.{List, count_by, sum_by, Option, Some, None, map}
+use Rattle.std.specs.List.{list_any}
 use Rattle.std.proofs.lemmas.Bool.{or_parts}
 use Rattle.std.proofs.lemmas.Bool.Decides.{nat_tests}
 use Rattle.game_rules.proofs.Common.{Grid, IsBoard, is_empty, put, axes, five, wins_on, run_of, black_foul, has_fouls, mover, outcome}
-use Rattle.game_rules.proofs.Common.{outcome_by}
-use Rattle.game_rules.proofs.Common.{empties_of}
+use Rattle.game_rules.proofs.Common.{outcome_by, empties_of}
 use Rattle.game_rules.specs.declared.RuleKind.{RuleKind}
 use Rattle.game_rules.specs.declared.Axis.{Axis}
 use Rattle.game_rules.specs.declared.Axis.TheVariants.{Row, Column, Down, Up}

@@ -1,8 +1,6 @@
 -- The command `defend`: its words, its answers, and what its statuses show.
 use Rattle.std.proofs.Common.{◌≡◌, inl, inr, sym, ap, subst, ◌∙◌, ◌⊎◌, ℕ, ◌*◌, ◌≤◌, Bool, true, false, cond}
-use Rattle.std.proofs.Common.{List, [], ◌∷◌, length, Option, Some, None, MatchOption, arith}
-use Rattle.std.specs.Prelude.{IfOk, IfSome, Result, Ok, Err}
-use Rattle.std.specs.List.{sum_by}
+use Rattle.std.proofs.Common.{List, [], ◌∷◌, length, Option, Some, None, MatchOption, arith, IfOk, IfSome, Result, Ok, Err, sum_by}
 use Rattle.std.proofs.lemmas.List.Sums.{sum_by-cons}
 use Rattle.game_rules.proofs.Common.{Grid, IsBoard, is_empty, points_of}
 use Rattle.game_rules.specs.declared.RuleKind.{RuleKind}
@@ -11,11 +9,10 @@ use Rattle.game_rules.proofs.Places.{points_few}
 use Rattle.strategy_graph.specs.declared.Node.{Node}
 use Rattle.strategy_graph.specs.declared.Reply.{Reply}
 use Rattle.strategy_graph.specs.declared.roots.Root.TheVariants.{Defend}
-use Rattle.strategy_graph.specs.Tables.{Answers, start_depth}
-use Rattle.strategy_compiler.specs.Starts.{IsMadeOfAnswers, IsStartOfBranches}
-use Rattle.strategy_compiler.specs.Trees.{AnswersBranches, Branches}
+use Rattle.strategy_graph.proofs.Common.{Answers, start_depth}
+use Rattle.strategy_compiler.proofs.Common.{IsMadeOfAnswers, IsStartOfBranches, AnswersBranches, Branches}
 use Rattle.strategy_compiler.proofs.Unique.{one-start}
-use Rattle.position_files.specs.Tables.{IsTextOfTable, table_text}
+use Rattle.position_files.proofs.Common.{IsTextOfTable, table_text}
 use Rattle.defence_finder.specs.Defences.{defences_of, first_spent, IsShortAfter}
 use Rattle.defence_finder.specs.Answers.{AreBeaten, IsLostStart, nodes_after, most_nodes}
 use Rattle.defence_finder.proofs.Telling.{spent-told}
@@ -30,8 +27,8 @@ use Rattle.command_base.specs.Runs.{Run}
 use Rattle.command_base.specs.Told.{IsTold, IsYielded}
 use Rattle.command_base.specs.Positions.{SaysOfPosition}
 use Rattle.command_base.specs.Searches.{ShowsOfPosition}
-use Rattle.position_commands.specs.Defends.{DefenceSays, IsEnoughAfterEach, IsJudgedDefence, IsLostText, ListsDefences, SpeaksOfDefence}
-use Rattle.position_commands.specs.Defends.{WritesStart, defend_command, first_spent_at, plans_at, LostTextIsOne}
+use Rattle.position_commands.proofs.Common.{DefenceSays, IsEnoughAfterEach, IsJudgedDefence, IsLostText, ListsDefences, SpeaksOfDefence}
+use Rattle.position_commands.proofs.Common.{WritesStart, defend_command, first_spent_at, plans_at, LostTextIsOne}
 use Rattle.command_base.proofs.PositionLaws.{file_at, shows-of-position}
 
 -- ---- the budget

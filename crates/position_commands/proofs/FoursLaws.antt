@@ -1,6 +1,5 @@
 -- The command `fours`: its words, its answers, and what its statuses 0, 9 and 5 show.
-use Rattle.std.proofs.Common.{◌≡◌, inl, inr, ap, ◌∙◌, ℕ, List, arith}
-use Rattle.std.specs.Prelude.{IfSome}
+use Rattle.std.proofs.Common.{◌≡◌, inl, inr, ap, ◌∙◌, ℕ, List, arith, IfSome}
 use Rattle.position_files.specs.declared.PositionFile.{PositionFile}
 use Rattle.renju_io.specs.Told.{Takes}
 use Rattle.command_base.specs.declared.status.Status.{Status}
@@ -9,7 +8,7 @@ use Rattle.command_base.specs.Runs.{Run}
 use Rattle.command_base.specs.Told.{IsTold}
 use Rattle.command_base.specs.Positions.{SaysOfPosition}
 use Rattle.command_base.specs.Searches.{SpeaksOfPosition, ShowsOfPosition}
-use Rattle.position_commands.specs.Fours.{SearchSays, fours_command, IsSearchedByFours}
+use Rattle.position_commands.proofs.Common.{SearchSays, fours_command, IsSearchedByFours}
 use Rattle.command_base.proofs.PositionLaws.{search-silent, shows-of-position, found-searched, none-searched, spent-searched}
 use Rattle.command_base.proofs.PositionLaws.{yielded-searched}
 

@@ -1,14 +1,11 @@
 -- What is said of a position, where the search of fours ran at its board.
-use Rattle.std.proofs.Common.{◌≡◌, inl, inr, ℕ, ◌≤◌, ap, subst, ◌∙◌, List, [], length, arith}
-use Rattle.std.proofs.Common.{length-append}
-use Rattle.std.specs.Prelude.{Result, Ok, Err, IfOk}
-use Rattle.game_rules.specs.Grid.{Grid}
-use Rattle.game_rules.specs.Games.{WinsByFours}
+use Rattle.std.proofs.Common.{◌≡◌, inl, inr, ℕ, ◌≤◌, ap, subst, ◌∙◌, List, [], length, arith, length-append, Result, Ok}
+use Rattle.std.proofs.Common.{Err, IfOk}
+use Rattle.game_rules.proofs.Common.{Grid, WinsByFours}
 use Rattle.game_rules.specs.declared.RuleKind.{RuleKind}
 use Rattle.strategy_graph.specs.declared.Node.{Node}
-use Rattle.strategy_compiler.specs.Growth.{GrowsBy}
-use Rattle.strategy_compiler.specs.Walks.{last}
-use Rattle.position_files.specs.Tables.{IsTextOfTable}
+use Rattle.strategy_compiler.proofs.Common.{GrowsBy, last}
+use Rattle.position_files.proofs.Common.{IsTextOfTable}
 use Rattle.four_search.specs.declared.fewest.FourTable.{FourTable}
 use Rattle.four_search.specs.Answers.{IsFourWin}
 use Rattle.four_search.specs.FewestWins.{IsFoundTable, IsFourTable as IsMade}
@@ -16,7 +13,7 @@ use Rattle.four_search.specs.FourGame.{four_cost}
 use Rattle.command_base.specs.declared.answer.Answer.{Answer}
 use Rattle.command_base.specs.declared.status.Status.TheVariants.{Done, NotFound}
 use Rattle.command_base.specs.Texts.{none_line}
-use Rattle.position_commands.specs.Fours.{IsFourText, SearchSays, table_at}
+use Rattle.position_commands.proofs.Common.{IsFourText, SearchSays, table_at}
 use Rattle.command_base.proofs.PositionLaws.{file_at}
 
 -- a new compiler has no more nodes than are added

@@ -7,11 +7,14 @@ use Rattle.game_rules.specs.declared.Side.TheVariants.{Black, White}
 pub use Rattle.position_files.specs.Answers.{AnswersFit, NodeFits, OpenRestFits, ReplyFits, RestFits, StartFits, answers_with}
 pub use Rattle.position_files.specs.Boards.{AreSides, IsSide, SameBut}
 pub use Rattle.position_files.specs.Bodies.{BodyFits, IsBodyLines, IsFinishFault, IsFinished, body_lines}
-pub use Rattle.position_files.specs.Faults.{IsMiscounted, IsPositionFault, IsTableFault, after_lines, at_line, in_file}
+pub use Rattle.position_files.specs.Faults.{IsGameFault, IsMiscounted, IsPositionFault, IsTableFault, after_lines, at_line, in_file}
+pub use Rattle.position_files.specs.Faults.{in_game}
+pub use Rattle.position_files.specs.Games.{AreOn, IsGameText, IsTextOfGame, moves_line}
+unfoldable pub use Rattle.position_files.specs.Games.{game_text}
 pub use Rattle.position_files.specs.Positions.{IsPositionText, IsTextOfPosition, rule_word, size_text}
 unfoldable pub use Rattle.position_files.specs.Positions.{board_lines, position_text, stones}
-pub use Rattle.position_files.specs.ReadBack.{HeadsReadBack, NamesFirstBad, NodesNameFirstBad, NodesReadBack, PositionsReadBack}
-pub use Rattle.position_files.specs.ReadBack.{StartsNameFirstBad, StartsReadBack, TablesReadBack}
+pub use Rattle.position_files.specs.ReadBack.{GamesReadBack, HeadsReadBack, NamesFirstBad, NodesNameFirstBad, NodesReadBack}
+pub use Rattle.position_files.specs.ReadBack.{PositionsReadBack, StartsNameFirstBad, StartsReadBack, TablesReadBack}
 pub use Rattle.position_files.specs.Sections.{AreNodeLines, AreNodes, IsBoardLines, IsHeadOf, IsNodesOf, IsSectionFault, IsStartLines}
 pub use Rattle.position_files.specs.Sections.{IsStartOf}
 pub use Rattle.position_files.specs.Tables.{IsTableText, IsTextOfTable, RootFits, answers_text, node_line, replies_text, reply_text}

@@ -17,9 +17,8 @@ use Rattle.text_lines.specs.declared.fault.Fault.{Fault}
 use Rattle.text_lines.specs.declared.fault.Fault.TheVariants.{Bad, Memory}
 use Rattle.text_lines.proofs.Common.{line_feed, text_of, FirstBad, LeavesAt, point_text, points_text, Gives, GivesLine, ReadsLine, IsWithin}
 use Rattle.text_lines.proofs.Common.{is_free}
-use Rattle.position_files.proofs.Common.{board_lines, IsSide, IsBoardLines, IsSectionFault, after_lines, at_line}
-use Rattle.position_files.specs.Games.{AreOn, IsGameText, IsTextOfGame, game_text, moves_line}
-use Rattle.position_files.specs.Faults.{IsGameFault, in_game}
+use Rattle.position_files.proofs.Common.{board_lines, IsSide, IsBoardLines, IsSectionFault, after_lines, at_line, AreOn, IsGameText}
+use Rattle.position_files.proofs.Common.{IsTextOfGame, game_text, moves_line, IsGameFault, in_game}
 use Rattle.text_lines.proofs.Cuts.{is_free-append}
 use Rattle.text_lines.proofs.Items.{items_text-injective}
 use Rattle.text_lines.proofs.LineLaws.{bad_line, point_items, points-free}

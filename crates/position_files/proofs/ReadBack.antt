@@ -1,13 +1,13 @@
 -- A text is that of one value, and nothing is said against the text of a lawful one.
-use Rattle.std.proofs.Common.{rules}
-use Rattle.std.proofs.Common.{◌≡◌, refl, sym, ◌∙◌, ℕ, List, [], ◌∷◌, ◌++◌, map, subst, ap, length, Some, None}
+use Rattle.std.proofs.Common.{rules, ◌≡◌, refl, sym, ◌∙◌, ℕ, List, [], ◌∷◌, ◌++◌, map, subst, ap, length, Some}
+use Rattle.std.proofs.Common.{None}
 use Rattle.std.proofs.lemmas.List.{length-map}
 use Rattle.text_lines.proofs.Badness.{front_bad}
 use Rattle.position_files.proofs.BoardLines.{board-free, board-length}
 use Rattle.position_files.proofs.AnswerLaws.{start_line-free}
 use Rattle.game_rules.proofs.Common.{Grid, IsPosition}
 use Rattle.game_rules.specs.declared.RuleKind.{RuleKind}
-use Rattle.strategy_graph.specs.Roots.{root_depth}
+use Rattle.strategy_graph.proofs.Common.{root_depth}
 use Rattle.foul_judge.specs.Lawful.{refusal}
 use Rattle.foul_judge.specs.declared.position.PositionError.{PositionError}
 use Rattle.foul_judge.proofs.Lawfulness.{none_from_lawful}
@@ -17,9 +17,11 @@ use Rattle.position_files.specs.declared.error.HeadError.{HeadError}
 use Rattle.position_files.specs.declared.error.HeadError.TheVariants.{BadLine as BadHead, Memory as NoRoom}
 use Rattle.position_files.specs.declared.error.FileError.{FileError}
 use Rattle.position_files.specs.declared.error.FileError.TheVariants.{BadLine, Unlawful, WrongMoves, Memory}
-use Rattle.position_files.specs.Faults.{IsGameFault}
-use Rattle.position_files.specs.ReadBack.{GamesReadBack}
-use Rattle.text_lines.specs.Lines.{text_of, BeginsWith, FirstBad}
+use Rattle.position_files.proofs.Common.{IsGameFault, GamesReadBack, IsTextOfGame, IsTextOfPosition, board_lines, IsTextOfTable, node_line}
+use Rattle.position_files.proofs.Common.{start_line, IsPositionFault, IsTableFault, HeadsReadBack, NamesFirstBad, NodesNameFirstBad}
+use Rattle.position_files.proofs.Common.{NodesReadBack, PositionsReadBack, StartsNameFirstBad, StartsReadBack, TablesReadBack, AreNodeLines}
+use Rattle.position_files.proofs.Common.{IsBoardLines, IsSectionFault, IsStartLines}
+use Rattle.text_lines.proofs.Common.{text_of, BeginsWith, FirstBad}
 use Rattle.text_lines.proofs.TextLaws.{AreFree, text_of-cons}
 use Rattle.text_lines.proofs.Leaving.{not_left}
 use Rattle.position_files.proofs.SectionLaws.{one_head, one_list, one_start, start_text, node_lines-free}
@@ -28,12 +30,7 @@ use Rattle.position_files.proofs.TableTexts.{one_table}
 use Rattle.position_files.specs.declared.GameFile.{GameFile}
 use Rattle.position_files.specs.declared.error.GameError.{GameError}
 use Rattle.position_files.specs.declared.error.GameError.TheVariants.{Memory as NoGame}
-use Rattle.position_files.specs.Games.{IsTextOfGame}
 use Rattle.position_files.proofs.GameLaws.{one_game}
-use Rattle.position_files.proofs.Common.{IsTextOfPosition, board_lines, IsTextOfTable, node_line, start_line, IsPositionFault, IsTableFault}
-use Rattle.position_files.proofs.Common.{HeadsReadBack, NamesFirstBad, NodesNameFirstBad, NodesReadBack, PositionsReadBack}
-use Rattle.position_files.proofs.Common.{StartsNameFirstBad, StartsReadBack, TablesReadBack, AreNodeLines, IsBoardLines, IsSectionFault}
-use Rattle.position_files.proofs.Common.{IsStartLines}
 
 -- nothing is said against a lawful position
 not-unlawful : (kind : RuleKind) (b : Grid) (why : PositionError) → IsPosition kind b → refusal kind b ≡ Some why → ⊥

@@ -1,8 +1,7 @@
 -- What is kept late is kept as in a table, or not at all.
-use Rattle.std.proofs.Common.{◌≡◌, ℕ, ◌-◌, Bool, true, false, cond, ◌⊎◌, inl, inr, refl, ap, ◌∙◌, nat_lt, Result, Ok, Err, OnOk, OnErr}
-use Rattle.position_table.specs.Packing.{Packed}
-use Rattle.position_table.specs.Remembering.{kept}
-use Rattle.position_table.specs.Lateness.{Late, kept_late}
+use Rattle.std.proofs.Common.{◌≡◌, ℕ, ◌-◌, Bool, true, false, cond, ◌⊎◌, inl, inr, refl, ap, ◌∙◌, nat_lt, Result}
+use Rattle.std.proofs.Common.{Ok, Err, OnOk, OnErr}
+use Rattle.position_table.proofs.Common.{Packed, kept, Late, kept_late}
 
 module _ (key : Packed × ℕ) (value : ℕ) where
   -- the table has the value, or is as it was

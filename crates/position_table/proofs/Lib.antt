@@ -1,5 +1,7 @@
 -- What is declared by `pub mod` the layers above may cite.
 
+-- the words of the crate, in one place
+mod Common
 -- packed boards are the same exactly where the boards are
 pub mod Packing
 -- what is found under a key was kept under it

@@ -1,6 +1,6 @@
 -- A search whose tree has one node: the root is open, or it is settled as won or lost.
-use Rattle.std.proofs.Common.{◌≡◌, ◌∙◌, ℕ, ◌+◌, ◌-◌, ◌<◌, ◌≤◌, Bool, true, false, cond, ◌&&◌, not, refl, sym, ap, subst, arith, List, []}
-use Rattle.std.proofs.Common.{length, nat_eq, Result, Ok, OnOk}
+use Rattle.std.proofs.Common.{◌≡◌, ◌∙◌, ℕ, ◌+◌, ◌-◌, ◌<◌, ◌≤◌, Bool, true, false, cond, ◌&&◌, not, refl}
+use Rattle.std.proofs.Common.{sym, ap, subst, arith, List, [], length, nat_eq, Result, Ok, OnOk}
 use Rattle.std.proofs.lemmas.Bool.{eq-eqb, ne_eqb}
 use Rattle.std.proofs.lemmas.List.{get_or-set_same, length-map, length-set}
 use Rattle.game_rules.proofs.Common.{Grid, IsPosition, mover, WinsByThreats, has_five}
@@ -20,13 +20,11 @@ use Rattle.proof_number.specs.declared.notes.Note.{Note}
 use Rattle.proof_number.specs.declared.search.Search.{Search}
 use Rattle.proof_number.proofs.Common.{no_note, note_at, win_of, CanGrow, GameTree, IsGameTree, TellsTruly, WinsAt, board_at, left_at}
 use Rattle.proof_number.proofs.Common.{IsLostAt, IsTrueOf, AreWritten, CanBegin, HasBegun, IsSameAim, IsCounted, IsNotedWin, IsSettledAt}
-use Rattle.proof_number.proofs.Common.{Searches, attacks_behind}
-use Rattle.proof_number.proofs.Common.{behind_at}
-use Rattle.proof_number.proofs.Common.{behind_leaves, defences_behind, game_of, is_attack, noted_won, sum_below, unwritten}
+use Rattle.proof_number.proofs.Common.{Searches, attacks_behind, behind_at, behind_leaves, defences_behind, game_of, is_attack, noted_won}
+use Rattle.proof_number.proofs.Common.{sum_below, unwritten, known_searching}
 use Rattle.proof_number.proofs.GameTruths.{board-root, left-root}
 use Rattle.strategy_compiler.proofs.Growing.{grows-length, win-some, writes-nothing, writes-tells}
 use Rattle.proof_number.proofs.Sums.{sum-suc, sum-zero}
-use Rattle.proof_number.specs.Searches.Searches.{known_searching}
 use Rattle.threat_game.proofs.TreeLaws.{tree-positive, one_where}
 
 -- ---- five points that are listed

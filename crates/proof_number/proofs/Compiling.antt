@@ -1,7 +1,8 @@
 -- A proved node of the attacker is compiled: the nodes behind its proved move have wins, and the search goes on with one more. A proved
 -- node of the attacker is compiled, in the words of the contracts.
-use Rattle.std.proofs.Common.{◌≡◌, ◌≢◌, ◌⊎◌, inl, inr, ℕ, suc, ◌+◌, ◌<◌, ◌≤◌, Bool, true, false, ◌&&◌, refl, sym, ap, subst, ◌∙◌, arith}
-use Rattle.std.proofs.Common.{List, [], ◌∷◌, ◌++◌, map, length, take, drop, nat_eq, All, Ok}
+use Rattle.std.proofs.Common.{◌≡◌, ◌≢◌, ◌⊎◌, inl, inr, ℕ, suc, ◌+◌, ◌<◌, ◌≤◌, Bool, true, false, ◌&&◌}
+use Rattle.std.proofs.Common.{refl, sym, ap, subst, ◌∙◌, arith, List, [], ◌∷◌, ◌++◌, map, length, take, drop, nat_eq, All}
+use Rattle.std.proofs.Common.{Ok}
 use Rattle.std.proofs.lemmas.Bool.{cases_eq, eq-eqb, ne_eqb}
 use Rattle.std.proofs.lemmas.List.{get_or-map, get_or-take, get_or-drop, get_or-set_same, get_or-set_other, length-map, length-take}
 use Rattle.std.proofs.lemmas.List.{length-drop, length-append, take-map, drop-map}
@@ -30,13 +31,11 @@ use Rattle.threat_game.proofs.Common.{move_at, nowhere}
 use Rattle.threat_game.proofs.TreeLaws.{one_where}
 use Rattle.proof_number.specs.declared.notes.Note.{Note}
 use Rattle.proof_number.specs.declared.search.Search.{Search}
-use Rattle.proof_number.specs.Searches.Searches.{known_searching}
+use Rattle.proof_number.proofs.Common.{known_searching, room_in, all_notes, answer_of, no_note, note_at, noted_for, win_of, AreMet}
+use Rattle.proof_number.proofs.Common.{GameTree, HasTried, IsGameTree, among, board_at, left_at, left_before, moves_of, noted_tree}
+use Rattle.proof_number.proofs.Common.{AreWritten, IsAbove, IsCounted, IsNotedWin, IsSearching, IsTrueMemo, KeepsTree, game_of, is_attack}
+use Rattle.proof_number.proofs.Common.{noted_won, sum_below, unwritten, Searches}
 use Rattle.proof_number.proofs.Opening.{searching-facts}
-use Rattle.proof_number.proofs.Common.{room_in}
-use Rattle.proof_number.proofs.Common.{all_notes, answer_of, no_note, note_at, noted_for, win_of, AreMet, GameTree, HasTried, IsGameTree}
-use Rattle.proof_number.proofs.Common.{among, board_at, left_at, left_before, moves_of, noted_tree, AreWritten, IsAbove, IsCounted}
-use Rattle.proof_number.proofs.Common.{IsNotedWin, IsSearching, IsTrueMemo, KeepsTree, game_of, is_attack, noted_won, sum_below, unwritten}
-use Rattle.proof_number.proofs.Common.{Searches}
 use Rattle.proof_number.proofs.GameTruths.{IsChildOf, child-of, each-zero, left-low, points-same}
 use Rattle.proof_number.proofs.Recording.{all-points, note-for, written-node, won-node}
 use Rattle.proof_number.proofs.Remembering.{memo-grown}

@@ -1,8 +1,8 @@
 -- The numbers and notes of the children of a node of the defender, one after another. A leaf of the defender is settled where a reply
 -- leaves no win, or else gets a child for each reply.
-use Rattle.std.proofs.Common.{◌≡◌, ◌⊎◌, inl, inr, ℕ, ◌+◌, ◌<◌, ◌≤◌, refl, sym, ap, subst, ◌∙◌, arith, List, [], ◌∷◌, ◌++◌, length, take}
-use Rattle.std.proofs.Common.{Result, Err}
-use Rattle.std.proofs.Common.{Option, Some, None, IfSome, is_none, sum_by, suc, ◌-◌, Bool, true, false, cond, ◌&&◌, not, map, All}
+use Rattle.std.proofs.Common.{◌≡◌, ◌⊎◌, inl, inr, ℕ, ◌+◌, ◌<◌, ◌≤◌, refl, sym, ap, subst, ◌∙◌, arith}
+use Rattle.std.proofs.Common.{List, [], ◌∷◌, ◌++◌, length, take, Result, Err, Option, Some, None, IfSome, is_none, sum_by, suc}
+use Rattle.std.proofs.Common.{◌-◌, Bool, true, false, cond, ◌&&◌, not, map, All}
 use Rattle.std.proofs.lemmas.Bool.{cases_lt, eq-eqb, ne_eqb}
 use Rattle.std.proofs.lemmas.List.{get_or_append_left, get_or_push, length_push, get_or-map}
 use Rattle.std.proofs.lemmas.List.Sums.{sum_by_more, sum_by_more_le, sum_by-cons, sum_by-le}
@@ -28,7 +28,7 @@ use Rattle.strategy_graph.proofs.Common.{NamesLower}
 use Rattle.strategy_graph.proofs.Filling.{IsTable-lower}
 use Rattle.strategy_compiler.specs.declared.wins.WrittenWin.{WrittenWin}
 use Rattle.strategy_compiler.proofs.Growing.{growth_keeps-wins, win-some, grows-length, grows-then}
-use Rattle.strategy_compiler.proofs.Common.{GrowsBy, IsCompiled}
+use Rattle.strategy_compiler.proofs.Common.{GrowsBy, IsCompiled, Writes}
 use Rattle.threat_game.specs.declared.replies.Child.{Child}
 use Rattle.threat_game.specs.declared.replies.Children.{Children}
 use Rattle.threat_game.specs.declared.replies.Judged.{Judged}
@@ -42,18 +42,15 @@ use Rattle.threat_game.proofs.TreeLaws.{whole-by}
 use Rattle.threat_game.proofs.AttackLaws.{escape-saves}
 use Rattle.proof_number.specs.declared.notes.Note.{Note}
 use Rattle.proof_number.specs.declared.search.Search.{Search}
-use Rattle.proof_number.specs.Searches.Grows.{known_grown}
+use Rattle.proof_number.proofs.Common.{known_grown, most_nodes, room_in, AreSettled, IsSettledChild, child_at, child_note, child_numbers}
+use Rattle.proof_number.proofs.Common.{no_child, no_note, note_at, win_of, open_numbers, AreMet, CanGrow, GameTree, HasTried, TellsTruly}
+use Rattle.proof_number.proofs.Common.{WinsAt, among, board_at, left_at, HasNoRoom, IsTrueMemo, Grows, HasGrown, HasSpent, IsAtLeaf}
+use Rattle.proof_number.proofs.Common.{IsExpandedAt, IsNotedWin, IsSettledAt, StandsAt, attacks_behind, behind_at, defences_behind, game_of}
+use Rattle.proof_number.proofs.Common.{is_attack, sum_below, IsLostAt, WinsByFewFours}
 use Rattle.proof_number.proofs.Opening.{leaf-facts}
-use Rattle.proof_number.proofs.Common.{most_nodes, room_in}
-use Rattle.proof_number.proofs.Common.{AreSettled, IsSettledChild, child_at, child_note, child_numbers, no_child, no_note, note_at, win_of}
-use Rattle.proof_number.proofs.Common.{open_numbers, AreMet, CanGrow, GameTree, HasTried, TellsTruly, WinsAt, among, board_at, left_at}
 use Rattle.strategy_compiler.specs.declared.error.SearchError.{SearchError}
 use Rattle.strategy_compiler.specs.declared.error.SearchError.TheVariants.{Full}
-use Rattle.strategy_compiler.proofs.Common.{Writes}
 use Rattle.proof_number.proofs.RunningOut.{attacks-out, room-out, same-error}
-use Rattle.proof_number.proofs.Common.{HasNoRoom}
-use Rattle.proof_number.proofs.Common.{IsTrueMemo, Grows, HasGrown, HasSpent, IsAtLeaf, IsExpandedAt, IsNotedWin, IsSettledAt, StandsAt}
-use Rattle.proof_number.proofs.Common.{attacks_behind, behind_at, defences_behind, game_of, is_attack, sum_below, IsLostAt, WinsByFewFours}
 use Rattle.proof_number.proofs.ExpandedCounts.{Expansion, IsNewNote, expanded-grown, new_behind, unwritten_child, sum-nothing}
 use Rattle.proof_number.proofs.Expanding.{IsNewChild}
 use Rattle.proof_number.proofs.Growing.{lost-grown}

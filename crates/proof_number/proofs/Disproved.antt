@@ -1,7 +1,7 @@
 -- In a tree that stands for a game each disproved node of the attacker is lost by disproved nodes. So they are a denial, where the root is
 -- one of them.
-use Rattle.std.proofs.Common.{◌≡◌, ◌∙◌, ◌⊎◌, inl, inr, ℕ, zero, suc, ◌-◌, ◌<◌, ◌≤◌, false, cond, refl, sym, ap, subst, arith, List, [], ◌∷◌}
-use Rattle.std.proofs.Common.{◌++◌, length, map, Contains}
+use Rattle.std.proofs.Common.{◌≡◌, ◌∙◌, ◌⊎◌, inl, inr, ℕ, zero, suc, ◌-◌, ◌<◌, ◌≤◌, false, cond, refl}
+use Rattle.std.proofs.Common.{sym, ap, subst, arith, List, [], ◌∷◌, ◌++◌, length, map, Contains}
 use Rattle.std.proofs.lemmas.Bool.{cases_eq, cases_lt}
 use Rattle.std.proofs.lemmas.List.{length_push}
 use Rattle.std.proofs.lemmas.List.Elements.{Contains-append_left, Contains-push, Contains-push_cases}
@@ -12,9 +12,8 @@ use Rattle.proof_tree.specs.declared.Numbers.{Numbers}
 use Rattle.proof_tree.proofs.Common.{IsTree, children_of, combined, least, link_at, numbers_at, other_kind, settled_numbers, total}
 use Rattle.proof_tree.proofs.Settled.{settled-disproved}
 use Rattle.threat_game.proofs.Common.{move_at}
-use Rattle.proof_number.specs.Denials.{HasDenial, IsDenied, IsLost, IsRefuted}
-use Rattle.proof_number.proofs.Common.{GameTree, HasTried, IsDisproved, IsGameTree, IsLostAt, WinsAt, attack_nodes, board_at, is_attack}
-use Rattle.proof_number.proofs.Common.{left_at, left_before, moves_of, sum_below}
+use Rattle.proof_number.proofs.Common.{HasDenial, IsDenied, IsLost, IsRefuted, GameTree, HasTried, IsDisproved, IsGameTree, IsLostAt}
+use Rattle.proof_number.proofs.Common.{WinsAt, attack_nodes, board_at, is_attack, left_at, left_before, moves_of, sum_below}
 use Rattle.proof_number.proofs.DenialLaws.{denied-more, lost-more}
 use Rattle.proof_number.proofs.GameTruths.{all-tell, child-of, each-zero, fits, move-child, some-zero, tried-attack}
 use Rattle.proof_number.proofs.Sums.{sum-suc}

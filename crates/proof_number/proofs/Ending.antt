@@ -1,6 +1,6 @@
 -- The end of the search: what the note and the numbers of the root tell.
-use Rattle.std.proofs.Common.{◌≡◌, ◌⊎◌, ◌∙◌, inl, inr, ℕ, zero, suc, ◌*◌, ◌<◌, ◌≤◌, Bool, true, false, cond, sym, ap, subst, arith, List}
-use Rattle.std.proofs.Common.{length, get_or, min, Some, None, Result, Ok, Err, IfOk, OnOk, refl}
+use Rattle.std.proofs.Common.{◌≡◌, ◌⊎◌, ◌∙◌, inl, inr, ℕ, zero, suc, ◌*◌, ◌<◌, ◌≤◌, Bool, true, false}
+use Rattle.std.proofs.Common.{cond, sym, ap, subst, arith, List, length, get_or, min, Some, None, Result, Ok, Err, IfOk, OnOk, refl}
 use Rattle.std.proofs.lemmas.List.{get_or_default, length-map}
 use Rattle.game_rules.proofs.Common.{Grid, WinsByThreats, WinsWithin}
 use Rattle.game_rules.specs.declared.RuleKind.{RuleKind}
@@ -20,17 +20,14 @@ use Rattle.proof_number.specs.declared.search.Search.{Search}
 use Rattle.proof_number.specs.declared.answer.ProofAnswer.{ProofAnswer}
 use Rattle.proof_number.specs.declared.answer.ProofAnswer.TheVariants.{Win, None as NoWin, Spent}
 use Rattle.proof_number.specs.declared.TheConstants.{MAX_BUDGET, MAX_DEPTH}
-use Rattle.proof_number.specs.Answers.{Leaves, OnWin}
-use Rattle.proof_number.specs.Told.{IsTold, IsTrueAnswer}
+use Rattle.proof_number.proofs.Common.{Leaves, OnWin, IsTold, IsTrueAnswer, CanBegin, IsNew, IsSameAim, most_nodes, room_in, HasDenial}
+use Rattle.proof_number.proofs.Common.{HasNoRoom, HasNoThreatWin, HasRunOut, IsSearchTree, no_note, note_at, noted_win, win_of, GameTree}
+use Rattle.proof_number.proofs.Common.{TellsTruly, WinsAt, board_at, left_at, IsNotedWin, IsSearching, Searches, closed_nodes, game_of}
+use Rattle.proof_number.proofs.Common.{is_open_leaf, sum_below}
 use Rattle.proof_number.proofs.Opening.{searching-facts}
 use Rattle.proof_number.proofs.Steps.{most-same}
 use Rattle.proof_number.proofs.StepLaws.{writes-on}
-use Rattle.proof_number.proofs.Common.{CanBegin, IsNew, IsSameAim, most_nodes, room_in}
 use Rattle.threat_game.proofs.TreeLaws.{tree-positive}
-use Rattle.proof_number.proofs.Common.{HasDenial, HasNoRoom, HasNoThreatWin, HasRunOut, IsSearchTree, no_note, note_at, noted_win, win_of}
-use Rattle.proof_number.proofs.Common.{GameTree, TellsTruly, WinsAt}
-use Rattle.proof_number.proofs.Common.{board_at, left_at}
-use Rattle.proof_number.proofs.Common.{IsNotedWin, IsSearching, Searches, closed_nodes, game_of, is_open_leaf, sum_below}
 use Rattle.threat_game.proofs.Common.{IsThreatWin, threat_tree}
 use Rattle.proof_number.proofs.DenialLaws.{denial-loses}
 use Rattle.proof_number.proofs.Disproved.{tree-denial}

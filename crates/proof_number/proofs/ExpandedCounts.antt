@@ -1,10 +1,9 @@
 -- What is noted, written and counted where a leaf is given children: all holds again but on the way up from it; and bounds of a step that
 -- gives the leaf children of which nothing is known, or that are proved.
-use Rattle.std.proofs.Common.{◌≡◌, ◌≢◌, ◌⊎◌, inl, inr, ℕ, ◌+◌, ◌<◌, ◌≤◌, true, false, cond, not, ◌&&◌, refl, sym, ap, subst, ◌∙◌}
-use Rattle.std.proofs.Common.{arith, List, ◌++◌, length, nat_eq, map, zero, suc, All}
+use Rattle.std.proofs.Common.{◌≡◌, ◌≢◌, ◌⊎◌, inl, inr, ℕ, ◌+◌, ◌<◌, ◌≤◌, true, false, cond, not, ◌&&◌}
+use Rattle.std.proofs.Common.{refl, sym, ap, subst, ◌∙◌, arith, List, ◌++◌, length, nat_eq, map, zero, suc, All}
 use Rattle.std.proofs.lemmas.Bool.{cases_eq, cases_lt, eq-eqb}
-use Rattle.std.proofs.lemmas.List.{get_or-append-add, get_or_append_left, length-append}
-use Rattle.std.proofs.lemmas.List.{get_or-map, length-map, map-append}
+use Rattle.std.proofs.lemmas.List.{get_or-append-add, get_or_append_left, length-append, get_or-map, length-map, map-append}
 use Rattle.game_rules.specs.declared.Outcome.TheVariants.{GoesOn}
 use Rattle.game_rules.specs.declared.RuleKind.{RuleKind}
 use Rattle.game_rules.specs.declared.Point.{Point}
@@ -14,8 +13,8 @@ use Rattle.proof_tree.specs.declared.Link.{Link}
 use Rattle.proof_tree.specs.declared.Numbers.{Numbers}
 use Rattle.proof_tree.specs.declared.Kind.TheVariants.{Attack, Defend}
 use Rattle.proof_tree.specs.declared.TheConstants.{INFINITE}
-use Rattle.proof_tree.proofs.Common.{is_settled, other_kind, Tree, link_at, numbers_at, finite, finite_sum}
-use Rattle.proof_tree.proofs.Common.{settled_numbers, sought, IsOnWayUp, grown_links, leaf_sum}
+use Rattle.proof_tree.proofs.Common.{is_settled, other_kind, Tree, link_at, numbers_at, finite, finite_sum, settled_numbers, sought}
+use Rattle.proof_tree.proofs.Common.{IsOnWayUp, grown_links, leaf_sum}
 use Rattle.proof_tree.proofs.Changed.{IsGrown, grown}
 use Rattle.proof_tree.proofs.SumLaws.{leaf_sum-grown, one-leaf, IsFresh, fresh-sum}
 use Rattle.strategy_graph.specs.declared.Node.{Node}
@@ -26,8 +25,7 @@ use Rattle.threat_game.proofs.TreeLaws.{one_where}
 use Rattle.proof_number.specs.declared.notes.Note.{Note}
 use Rattle.proof_number.specs.declared.search.Search.{Search}
 use Rattle.proof_number.proofs.Opening.{leaf-facts}
-use Rattle.proof_number.proofs.Common.{GameTree, HasTried, IsGameTree, among, board_at, left_at}
-use Rattle.proof_number.proofs.Common.{moves_of, behind_at, sum_below, no_note}
+use Rattle.proof_number.proofs.Common.{GameTree, HasTried, IsGameTree, among, board_at, left_at, moves_of, behind_at, sum_below, no_note}
 use Rattle.proof_number.proofs.Common.{note_at, win_of, noted_tree, IsTrueMemo, AreWritten, HasGrown, IsAtLeaf, IsCounted, IsExpandedAt}
 use Rattle.proof_number.proofs.Common.{IsMet, IsNotedWin, IsSearching, attacks_behind, defences_behind, game_of, is_attack, unwritten}
 use Rattle.proof_number.proofs.Common.{StandsAt}
@@ -35,9 +33,8 @@ use Rattle.proof_number.proofs.Remembering.{memo-kept}
 use Rattle.proof_number.proofs.Settling.{written-grown}
 use Rattle.proof_number.proofs.Sums.{sum-le, sum-more, sum-suc, sum-zero}
 use Rattle.proof_number.proofs.Expanding.{IsExpansion, IsNewChild, behind-grown, child-behind, child-counts, closed-grown, disproved-grown}
-use Rattle.proof_number.proofs.Expanding.{game-grown}
-use Rattle.proof_number.proofs.Expanding.{grown-moves, new-board, new-kind}
-use Rattle.proof_number.proofs.Expanding.{new-left, old-board, old-kind, old-left, old-moves_of, old-numbers, split}
+use Rattle.proof_number.proofs.Expanding.{game-grown, grown-moves, new-board, new-kind, new-left, old-board, old-kind, old-left}
+use Rattle.proof_number.proofs.Expanding.{old-moves_of, old-numbers, split}
 
 -- what is noted of a new child of this kind: a win that is written, where it is proved, and none where it is open
 pub record IsNewNote (rule : RuleKind) (kind : Kind) (b : Grid) (c : List Node) (note : Note) (numbers : Numbers) : Type 0 where

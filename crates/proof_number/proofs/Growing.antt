@@ -1,6 +1,6 @@
 -- A step that settles the leaf: all holds again but on the way up from it.
-use Rattle.std.proofs.Common.{◌≡◌, ◌≢◌, inl, inr, ℕ, ◌+◌, ◌<◌, ◌≤◌, Bool, true, false, ◌&&◌, refl, sym, ap, subst, ◌∙◌, arith, List, []}
-use Rattle.std.proofs.Common.{◌++◌, length, nat_eq}
+use Rattle.std.proofs.Common.{◌≡◌, ◌≢◌, inl, inr, ℕ, ◌+◌, ◌<◌, ◌≤◌, Bool, true, false, ◌&&◌, refl, sym, ap}
+use Rattle.std.proofs.Common.{subst, ◌∙◌, arith, List, [], ◌++◌, length, nat_eq}
 use Rattle.std.proofs.lemmas.Bool.{cases_eq, eq-eqb, ne_eqb}
 use Rattle.std.proofs.lemmas.List.{get_or-set_same, append-nil, get_or-set_other, length-append, length-map}
 use Rattle.game_rules.proofs.Common.{Grid, WinsByThreats}
@@ -19,8 +19,7 @@ use Rattle.proof_number.specs.declared.notes.Note.{Note}
 use Rattle.proof_number.specs.declared.search.Search.{Search}
 use Rattle.proof_number.proofs.Common.{no_note, note_at, win_of, GameTree, IsGameTree, TellsTruly, WinsAt, board_at, left_at, noted_tree}
 use Rattle.proof_number.proofs.Common.{IsLostAt, IsTrueMemo, AreWritten, HasGrown, IsAtLeaf, IsCounted, IsNotedWin, IsSearching}
-use Rattle.proof_number.proofs.Common.{IsSettledAt}
-use Rattle.proof_number.proofs.Common.{attacks_behind, closed_nodes, game_of, is_attack, noted_won, sum_below, unwritten}
+use Rattle.proof_number.proofs.Common.{IsSettledAt, attacks_behind, closed_nodes, game_of, is_attack, noted_won, sum_below, unwritten}
 use Rattle.proof_number.proofs.Compiling.{won-places}
 use Rattle.proof_number.proofs.Remembering.{memo-kept}
 use Rattle.proof_number.proofs.Settling.{closed-settled, counted-settled, disproved-settled, game-settled, written-grown, written-settled}

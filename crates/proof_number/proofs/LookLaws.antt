@@ -1,21 +1,20 @@
 -- What is remembered of looks stays true while lists are added to those that are kept.
-use Rattle.std.proofs.Common.{◌≡◌, ℕ, ◌+◌, ◌≤◌, List, ◌++◌, take, drop, length, refl, sym, ap, subst, ◌∙◌, arith}
-use Rattle.std.proofs.Common.{Option, Some, None, IfSome}
+use Rattle.std.proofs.Common.{◌≡◌, ℕ, ◌+◌, ◌≤◌, List, ◌++◌, take, drop, length, refl, sym, ap, subst, ◌∙◌}
+use Rattle.std.proofs.Common.{arith, Option, Some, None, IfSome}
 use Rattle.std.proofs.lemmas.List.{drop-append-le, length-append, length-drop, take-append-le}
-use Rattle.game_rules.specs.Grid.{Grid}
+use Rattle.game_rules.proofs.Common.{Grid, IsPosition}
 use Rattle.game_rules.specs.declared.RuleKind.{RuleKind}
 use Rattle.game_rules.specs.declared.Point.{Point}
-use Rattle.game_rules.specs.Play.{IsPosition}
 use Rattle.position_table.specs.Packing.{packed}
 use Rattle.position_table.specs.Remembering.{Remembered, IsTrueTable, value_under}
 use Rattle.position_table.proofs.Remembering.{true-found, true-weaker}
 use Rattle.threat_game.specs.declared.attacks.Attacks.TheVariants.{Moves}
 use Rattle.threat_game.specs.declared.replies.Child.{Child}
-use Rattle.threat_game.specs.Attacks.{AreAttacks}
+use Rattle.threat_game.proofs.Common.{AreAttacks}
 use Rattle.proof_number.specs.declared.spans.Span.{Span}
 use Rattle.proof_number.specs.declared.looks.Look.{Look}
 use Rattle.proof_number.specs.declared.looks.Look.TheVariants.{Tried, Denied, Escape, Replies}
-use Rattle.proof_number.specs.Looks.{part_of, IsAdded, IsPart, AreChildrenOf, IsTrueLook}
+use Rattle.proof_number.proofs.Common.{part_of, IsAdded, IsPart, AreChildrenOf, IsTrueLook}
 
 -- ---- lists that are kept in one
 

@@ -1,19 +1,17 @@
 -- What is remembered of positions stays true while the compiler grows, and where the tree changes and keeps its disproved nodes.
 use Rattle.std.proofs.Common.{◌≡◌, sym, subst, ℕ, List, ◌++◌}
-use Rattle.game_rules.specs.Grid.{Grid}
+use Rattle.game_rules.proofs.Common.{Grid}
 use Rattle.game_rules.specs.declared.RuleKind.{RuleKind}
 use Rattle.position_table.specs.Remembering.{Remembered}
 use Rattle.position_table.proofs.Remembering.{true-weaker}
 use Rattle.strategy_graph.specs.declared.Node.{Node}
-use Rattle.strategy_graph.specs.Tables.{NamesLower}
+use Rattle.strategy_graph.proofs.Common.{NamesLower}
 use Rattle.strategy_compiler.proofs.Growing.{growth_keeps-wins}
 use Rattle.proof_tree.specs.declared.Kind.{Kind}
 use Rattle.proof_tree.specs.declared.Kind.TheVariants.{Attack, Defend}
 use Rattle.proof_number.specs.declared.notes.Settled.{Settled}
 use Rattle.proof_number.specs.declared.notes.Settled.TheVariants.{Won, Lost}
-use Rattle.proof_number.specs.Denials.{IsLost, IsRefuted}
-use Rattle.proof_number.specs.GameTrees.{GameTree, IsDisproved, IsLostAt}
-use Rattle.proof_number.specs.Remembered.{IsTrueOf, IsTrueMemo}
+use Rattle.proof_number.proofs.Common.{IsLost, IsRefuted, GameTree, IsDisproved, IsLostAt, IsTrueOf, IsTrueMemo}
 use Rattle.proof_number.proofs.DenialLaws.{lost-more, refuted-more}
 
 true-of-grown : (rule : RuleKind) (g : GameTree) (c more : List Node) → NamesLower c → (b : Grid) (n : ℕ) (v : Settled)

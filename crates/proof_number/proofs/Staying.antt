@@ -4,8 +4,7 @@ use Rattle.std.proofs.lemmas.List.{get_or_append_left}
 use Rattle.proof_tree.specs.declared.Link.{Link}
 use Rattle.proof_tree.specs.declared.Numbers.{Numbers}
 use Rattle.proof_tree.proofs.Common.{IsOnWayUp, IsTree, OthersStay, Tree, ancestor, is_settled, link_at, most_proving, no_numbers}
-use Rattle.proof_tree.proofs.Common.{numbers_at}
-use Rattle.proof_tree.proofs.Common.{settled_numbers}
+use Rattle.proof_tree.proofs.Common.{numbers_at, settled_numbers}
 use Rattle.proof_tree.proofs.OpenWays.{way-open}
 use Rattle.proof_tree.proofs.Settled.{ancestor-inside}
 

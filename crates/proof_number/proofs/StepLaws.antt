@@ -1,25 +1,23 @@
 -- A step of the search from the root to a leaf and back, of its parts.
-use Rattle.std.proofs.Common.{◌≡◌, ◌∙◌, ℕ, ◌+◌, ◌<◌, ◌≤◌, false, refl, sym, ap, subst, arith, length, List, Ok, Err, OnOk, Result}
+use Rattle.std.proofs.Common.{◌≡◌, ◌∙◌, ℕ, ◌+◌, ◌<◌, ◌≤◌, false, refl, sym, ap, subst, arith, length, List, Ok}
+use Rattle.std.proofs.Common.{Err, OnOk, Result}
 use Rattle.std.proofs.lemmas.List.{get_or-map, length-append, length-map}
-use Rattle.game_rules.specs.Grid.{Grid}
+use Rattle.game_rules.proofs.Common.{Grid}
 use Rattle.game_rules.specs.declared.RuleKind.{RuleKind}
 use Rattle.strategy_graph.specs.declared.Node.{Node}
 use Rattle.strategy_compiler.specs.declared.error.SearchError.{SearchError}
 use Rattle.strategy_compiler.proofs.Common.{Writes}
 use Rattle.strategy_compiler.proofs.Growing.{writes-fails, writes-tells, writes-then}
 use Rattle.proof_tree.proofs.Common.{is_settled, IsOnWayUp, IsTree, Tree, link_at, most_proving, numbers_at}
-use Rattle.threat_game.specs.ThreatGame.{threat_tree}
+use Rattle.threat_game.proofs.Common.{threat_tree}
 use Rattle.proof_number.specs.declared.notes.Note.{Note}
 use Rattle.proof_number.specs.declared.search.Search.{Search}
 use Rattle.proof_number.specs.declared.search.Step.{Step}
 use Rattle.proof_number.specs.declared.search.Step.TheVariants.{Done, Spent}
-use Rattle.proof_number.specs.Searches.Searches.{known_searching}
-use Rattle.proof_number.specs.Searches.StandsAt.{known_at_leaf}
+use Rattle.proof_number.proofs.Common.{known_searching, known_at_leaf, no_note, GameTree, IsGameTree, board_at, left_at, Grows, HasGrown}
+use Rattle.proof_number.proofs.Common.{HasSpent, HasStayed, IsSameAim, HasStepped, IsAbove, IsBack, IsPassed, KeepsTree, IsOverBudget}
+use Rattle.proof_number.proofs.Common.{IsSearching, IsStep, IsTried, OnStep, Searches, StandsAt, game_of, HasNoRoom, most_nodes, room_in}
 use Rattle.proof_number.proofs.Opening.{grown-facts, searching-facts}
-use Rattle.proof_number.proofs.Common.{no_note, GameTree, IsGameTree, board_at, left_at, Grows, HasGrown, HasSpent, HasStayed, IsSameAim}
-use Rattle.proof_number.proofs.Common.{HasStepped, IsAbove, IsBack, IsPassed, KeepsTree, IsOverBudget, IsSearching, IsStep, IsTried, OnStep}
-use Rattle.proof_number.proofs.Common.{Searches, StandsAt, game_of}
-use Rattle.proof_number.proofs.Common.{HasNoRoom, most_nodes, room_in}
 use Rattle.proof_number.proofs.RunningOut.{answer-room, back-out, out-aim, room-aim, same-error}
 use Rattle.strategy_compiler.specs.declared.error.SearchError.TheVariants.{Full}
 use Rattle.std.proofs.lemmas.Result.{on_ok_weaker}

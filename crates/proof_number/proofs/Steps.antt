@@ -1,7 +1,7 @@
 -- The steps of a search, in the words of its contracts. Steps at a leaf of the attacker whose win is compiled at once: what is counted
 -- fits, and so do the nodes.
-use Rattle.std.proofs.Common.{◌≡◌, ℕ, ◌+◌, ◌<◌, ◌≤◌, Bool, true, false, inl, sym, ap, subst, ◌∙◌, arith, List, [], ◌++◌, append-nil, length}
-use Rattle.std.proofs.Common.{Some, Result, Ok, Err, refl, ◌-◌, cond, ◌&&◌, not, nat_eq}
+use Rattle.std.proofs.Common.{◌≡◌, ℕ, ◌+◌, ◌<◌, ◌≤◌, Bool, true, false, inl, sym, ap, subst, ◌∙◌, arith, List}
+use Rattle.std.proofs.Common.{[], ◌++◌, append-nil, length, Some, Result, Ok, Err, refl, ◌-◌, cond, ◌&&◌, not, nat_eq}
 use Rattle.std.proofs.lemmas.List.{get_or-map, length-map}
 use Rattle.std.proofs.lemmas.Bool.{eq-eqb}
 use Rattle.game_rules.specs.declared.RuleKind.{RuleKind}
@@ -17,7 +17,7 @@ use Rattle.strategy_graph.proofs.Filling.{IsTable-lower}
 use Rattle.strategy_compiler.specs.declared.error.SearchError.{SearchError}
 use Rattle.strategy_compiler.specs.declared.wins.WrittenWin.{WrittenWin}
 use Rattle.strategy_compiler.proofs.Growing.{grows-not, win-some, writes-memory, writes-nothing}
-use Rattle.strategy_compiler.specs.declared.error.SearchError.TheVariants.{Memory}
+use Rattle.strategy_compiler.specs.declared.error.SearchError.TheVariants.{Memory, Full}
 use Rattle.strategy_compiler.proofs.Common.{IsCompiled, GrowsBy, Writes}
 use Rattle.threat_game.specs.declared.doubles.DoublePoint.{DoublePoint}
 use Rattle.threat_game.proofs.TreeLaws.{tree-positive, one_where, counted-within}
@@ -25,19 +25,15 @@ use Rattle.threat_game.proofs.Common.{threat_tree, IsThreatWin, IsDoubleWin, ans
 use Rattle.proof_number.specs.declared.search.Step.{Step}
 use Rattle.proof_number.specs.declared.search.Step.TheVariants.{Done, Spent}
 use Rattle.proof_number.proofs.RunningOut.{attacks-out, room-aim, room-out, same-error}
-use Rattle.proof_number.proofs.Common.{AddsAttacks, HasNoRoom}
-use Rattle.strategy_compiler.specs.declared.error.SearchError.TheVariants.{Full}
+use Rattle.proof_number.proofs.Common.{AddsAttacks, HasNoRoom, known_at_leaf, known_grown, IsSameAim, IsTried, most_nodes, room_in, no_note}
+use Rattle.proof_number.proofs.Common.{note_at, CanGrow, WinsAt, board_at, left_at, IsTrueOf, IsTrueMemo, Grows, HasGrown, HasSpent}
+use Rattle.proof_number.proofs.Common.{HasStayed, KeepsTree, OnStep, IsAtLeaf, IsNotedWin, IsSettledAt, StandsAt, game_of, noted_won}
+use Rattle.proof_number.proofs.Common.{GameTree, attacks_behind, behind_at, is_attack, unwritten, IsLostAt}
 use Rattle.proof_number.specs.declared.notes.Note.{Note}
 use Rattle.proof_number.specs.declared.notes.Settled.{Settled}
 use Rattle.proof_number.specs.declared.notes.Settled.TheVariants.{Lost}
 use Rattle.proof_number.specs.declared.search.Search.{Search}
-use Rattle.proof_number.specs.Searches.StandsAt.{known_at_leaf}
-use Rattle.proof_number.specs.Searches.Grows.{known_grown}
 use Rattle.proof_number.proofs.Opening.{grown-facts, leaf-facts}
-use Rattle.proof_number.proofs.Common.{IsSameAim, IsTried, most_nodes, room_in}
-use Rattle.proof_number.proofs.Common.{no_note, note_at, CanGrow, WinsAt, board_at, left_at, IsTrueOf, IsTrueMemo, Grows}
-use Rattle.proof_number.proofs.Common.{HasGrown, HasSpent, HasStayed, KeepsTree, OnStep, IsAtLeaf, IsNotedWin, IsSettledAt, StandsAt}
-use Rattle.proof_number.proofs.Common.{game_of, noted_won, GameTree, attacks_behind, behind_at, is_attack, unwritten, IsLostAt}
 use Rattle.proof_number.proofs.GameTruths.{left-low, position-at}
 use Rattle.proof_number.proofs.Growing.{lost-grown, won-grown}
 use Rattle.proof_number.proofs.Remembering.{memo-grown}

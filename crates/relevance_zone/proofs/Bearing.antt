@@ -1,10 +1,9 @@
 -- Further stones of the defender that a zone bears, before and after a move; and that they make no five.
-use Rattle.std.proofs.Common.{◌≡◌, inl, inr, ℕ, ◌+◌, ◌≤◌, ◌<◌, Bool, true, false, cond, ◌&&◌, not, refl, sym, ap, subst, ◌∙◌, arith}
-use Rattle.std.specs.Prelude.{Option, Some, None}
+use Rattle.std.proofs.Common.{◌≡◌, inl, inr, ℕ, ◌+◌, ◌≤◌, ◌<◌, Bool, true, false, cond, ◌&&◌, not, refl, sym, ap}
+use Rattle.std.proofs.Common.{subst, ◌∙◌, arith, Option, Some, None}
 use Rattle.std.proofs.lemmas.Bool.{both_ways, cases_Bool, false_from_ne_true}
 use Rattle.game_rules.proofs.Common.{Grid, IsBoard, is_on, is_empty, is_empty_cell, is_stone_of, holds, put, cell_at, along, other}
-use Rattle.game_rules.proofs.Common.{stone_at, run_of}
-use Rattle.game_rules.proofs.Common.{stones_ahead, stones_behind, line_bound, wins_on, five}
+use Rattle.game_rules.proofs.Common.{stone_at, run_of, stones_ahead, stones_behind, line_bound, wins_on, five}
 use Rattle.game_rules.specs.declared.RuleKind.{RuleKind}
 use Rattle.game_rules.specs.declared.Side.{Side}
 use Rattle.game_rules.specs.declared.Axis.{Axis}
@@ -18,8 +17,7 @@ use Rattle.game_rules.proofs.OneLine.{empty-before, holds-put_others, wins_alike
 use Rattle.game_rules.proofs.Positions.{IsBoard-put, holds-other}
 use Rattle.game_rules.proofs.Rows.{all_range}
 use Rattle.game_rules.proofs.Wins.{row_wins-five}
-use Rattle.relevance_zone.specs.Windows.{stones_in, is_clear_at, is_clear_of, is_in_window}
-use Rattle.relevance_zone.specs.Zones.{Zone, Bears, Covers, IsHarmless}
+use Rattle.relevance_zone.proofs.Common.{stones_in, is_clear_at, is_clear_of, is_in_window, Zone, Bears, Covers, IsHarmless}
 use Rattle.relevance_zone.proofs.Counts.{count_all, visits-once, visits-never, stones_in-put, stones_in-other, filled}
 
 -- a board has no further stones

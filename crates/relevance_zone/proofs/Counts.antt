@@ -1,12 +1,11 @@
 -- How many stones stand in a window: what one more changes, and which window a run of five fills.
-use Rattle.std.proofs.Common.{◌≡◌, inl, inr, ℕ, zero, suc, ◌+◌, ◌-◌, ◌≤◌, ◌<◌, Bool, true, false, cond, List, [], ◌∷◌, refl, ap, subst}
-use Rattle.std.proofs.Common.{◌∙◌, arith}
-use Rattle.std.specs.Prelude.{Option, Some, None}
-use Rattle.std.specs.List.{count_by, range_with_len}
+use Rattle.std.proofs.Common.{◌≡◌, inl, inr, ℕ, zero, suc, ◌+◌, ◌-◌, ◌≤◌, ◌<◌, Bool, true, false, cond, List, []}
+use Rattle.std.proofs.Common.{◌∷◌, refl, ap, subst, ◌∙◌, arith, Option, Some, None, count_by}
+use Rattle.std.specs.List.{range_with_len}
 use Rattle.std.proofs.lemmas.Bool.{both_ways, cases_lt, false_from_ne_true}
 use Rattle.std.proofs.lemmas.List.Sums.{sum_by-cons}
-use Rattle.game_rules.proofs.Common.{Grid, IsBoard, is_on, is_empty, holds, put, along, is_at, is_same_point, other, stone_at}
-use Rattle.game_rules.proofs.Common.{stones_ahead, stones_behind}
+use Rattle.game_rules.proofs.Common.{Grid, IsBoard, is_on, is_empty, holds, put, along, is_at, is_same_point, other, stone_at, stones_ahead}
+use Rattle.game_rules.proofs.Common.{stones_behind}
 use Rattle.game_rules.specs.declared.Side.{Side}
 use Rattle.game_rules.specs.declared.Axis.{Axis}
 use Rattle.game_rules.specs.declared.Point.{Point}
@@ -16,7 +15,7 @@ use Rattle.game_rules.proofs.Points.{is_at-Some, is_same_point-itself, apart-is_
 use Rattle.game_rules.proofs.Positions.{stone_at-other}
 use Rattle.game_rules.proofs.Rows.{any_found}
 use Rattle.game_rules.proofs.Runs.{ahead_leads, behind_leads}
-use Rattle.relevance_zone.specs.Windows.{stones_in, is_in_window}
+use Rattle.relevance_zone.proofs.Common.{stones_in, is_in_window}
 
 -- ---- counts over a range
 

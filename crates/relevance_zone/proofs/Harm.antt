@@ -1,14 +1,13 @@
 -- What has a zone is accepted: by induction on the nodes that follow one another, at each position with further stones of the
 -- defender that the zone bears. The attack of the answer in turn is a point of its zone, so it is empty there, and no move before it
 -- fills the board.
-use Rattle.std.proofs.Common.{◌≡◌, inl, inr, ℕ, zero, suc, true, false, List, Option, Some, None, slice_get, nat_eq, refl}
-use Rattle.std.proofs.Common.{sym, ap, subst, ◌∙◌, arith}
-use Rattle.std.specs.Prelude.{IsSomeAnd}
+use Rattle.std.proofs.Common.{◌≡◌, inl, inr, ℕ, zero, suc, true, false, List, Option, Some, None, slice_get, nat_eq, refl, sym, ap}
+use Rattle.std.proofs.Common.{subst, ◌∙◌, arith, IsSomeAnd}
 use Rattle.std.specs.Option.{option_or}
 use Rattle.std.proofs.lemmas.Bool.{cases_Bool}
 use Rattle.std.proofs.lemmas.Bool.Decides.{nat_tests}
-use Rattle.game_rules.proofs.Common.{Grid, IsBoard, IsPosition, is_empty, put, empties_of, five, outcome, outcome_by, has_fouls}
-use Rattle.game_rules.proofs.Common.{mover, after, other, WinsOr, LosesOr}
+use Rattle.game_rules.proofs.Common.{Grid, IsBoard, IsPosition, is_empty, put, empties_of, five, outcome, outcome_by, has_fouls, mover}
+use Rattle.game_rules.proofs.Common.{after, other, WinsOr, LosesOr}
 use Rattle.game_rules.specs.declared.RuleKind.{RuleKind}
 use Rattle.game_rules.specs.declared.Side.{Side}
 use Rattle.game_rules.specs.declared.Foul.{Foul}
@@ -22,10 +21,10 @@ use Rattle.game_rules.proofs.Positions.{IsBoard-put, IsPosition-after, mover-the
 use Rattle.strategy_graph.specs.declared.Node.{Node}
 use Rattle.strategy_graph.specs.declared.roots.Root.{Root}
 use Rattle.strategy_graph.specs.declared.roots.Root.TheVariants.{Attack, Defend}
-use Rattle.strategy_graph.proofs.Common.{Answers, answers_of, answer, rest_node, is_winning, Meets, AcceptedNode, AcceptedWithin}
-use Rattle.strategy_graph.proofs.Common.{Accepted, AcceptedRoot, RootWins, root_depth}
+use Rattle.strategy_graph.proofs.Common.{Answers, answers_of, answer, rest_node, is_winning, Meets, AcceptedNode, AcceptedWithin, Accepted}
+use Rattle.strategy_graph.proofs.Common.{AcceptedRoot, RootWins, root_depth}
 use Rattle.strategy_graph.proofs.Soundness.{accepted-wins, accepted-start-wins}
-use Rattle.relevance_zone.specs.Zones.{Zone, Bears, Withstands, NodeHasZone, HasZoneWithin, HasZone, AcceptedRootByZone}
+use Rattle.relevance_zone.proofs.Common.{Zone, Bears, Withstands, NodeHasZone, HasZoneWithin, HasZone, AcceptedRootByZone}
 use Rattle.relevance_zone.proofs.Bearing.{bears_itself, was_empty, five_same, bears_attack, bears_reply, bears_harmless, no_five}
 
 -- two points that are empty one after the other are not the last

@@ -1,6 +1,5 @@
 -- What is proved of each command in turn: that its words tell its form, and that it answers where it is sure to.
-use Rattle.std.proofs.Common.{◌≡◌, refl, ap, ℕ, ◌≤◌, List, [], length, get_or, arith}
-use Rattle.std.specs.Prelude.{codes, if◌then◌else◌, nat_lt}
+use Rattle.std.proofs.Common.{◌≡◌, refl, ap, ℕ, ◌≤◌, List, [], length, get_or, arith, codes, if◌then◌else◌, nat_lt}
 use Rattle.std.specs.Str.{bytes_eq}
 use Rattle.std.specs.Str.Parse.{digits_value}
 use Rattle.std.specs.Fmt.{decimal}
@@ -13,13 +12,12 @@ use Rattle.renju_cli.specs.declared.commands.Form.TheVariants.{Check, Foul, Four
 use Rattle.renju_cli.specs.declared.commands.Form.TheVariants.{RefereeWith, Image, Defend, Bind, Book}
 use Rattle.table_commands.specs.declared.TheConstants.{MAX_WORK}
 use Rattle.command_base.specs.Runs.{Run}
-use Rattle.renju_cli.specs.Commands.{command}
+use Rattle.renju_cli.proofs.Common.{command, second_word, words_after}
 use Rattle.table_commands.specs.Checks.{check_command}
 use Rattle.position_commands.specs.Fouls.{foul_command}
 use Rattle.position_commands.specs.Fours.{fours_command}
 use Rattle.position_commands.specs.Threats.{threats_command}
 use Rattle.solve_command.specs.Solves.{solve_command}
-use Rattle.renju_cli.specs.Words.{second_word, words_after}
 use Rattle.table_commands.specs.Images.{image_command, symmetry_word}
 use Rattle.table_commands.specs.Referees.{referee_command}
 use Rattle.position_commands.specs.Defends.{defend_command}

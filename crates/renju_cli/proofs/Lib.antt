@@ -1,3 +1,5 @@
+-- the words of the crate, in one place
+mod Common
 mod Words
 mod EachCommand
 mod FormLaws

@@ -4,12 +4,10 @@ use Rattle.renju_cli.specs.declared.commands.Form.{Form}
 use Rattle.renju_cli.specs.declared.commands.Form.TheVariants.{BrainWith, RefereeWith, Bind}
 use Rattle.command_base.specs.Runs.{Run}
 use Rattle.command_base.specs.Forms.{HasWords}
-use Rattle.renju_cli.specs.Words.{second_word, words_after}
+use Rattle.renju_cli.proofs.Common.{second_word, words_after, command, IsForm, Report, IsComplete}
 use Rattle.brain_commands.specs.Brains.{IsBrainWith}
 use Rattle.table_commands.specs.Referees.{IsRefereeWith}
 use Rattle.table_commands.specs.Binds.{IsBind}
-use Rattle.renju_cli.specs.Commands.{command, IsForm}
-use Rattle.renju_cli.specs.Reports.{Report, IsComplete}
 use Rattle.renju_cli.proofs.EachCommand.{answers}
 use Rattle.renju_cli.proofs.FormLaws.{one-form}
 

@@ -1,9 +1,8 @@
 -- How often a device was asked, call by call.
-use Rattle.std.proofs.Common.{◌≡◌, ℕ, zero, suc, ◌+◌, ◌<◌, ◌≤◌, min, refl, sym, ap, ◌∙◌, List, [], ◌++◌, length}
-use Rattle.std.proofs.Common.{Option, Some, Bool, true, false, if◌then◌else◌, subst, arith}
-use Rattle.std.proofs.Common.{length-append}
-use Rattle.renju_io.specs.Asked.{one_more, after_calls, IsAsked, IsAskedAtMost, IsAskedOnce, IsAskedWithin, GivesByEach, piece_count}
-use Rattle.renju_io.specs.Told.{Gives, tells_end}
+use Rattle.std.proofs.Common.{◌≡◌, ℕ, zero, suc, ◌+◌, ◌<◌, ◌≤◌, min, refl, sym, ap, ◌∙◌, List, [], ◌++◌}
+use Rattle.std.proofs.Common.{length, Option, Some, Bool, true, false, if◌then◌else◌, subst, arith, length-append}
+use Rattle.renju_io.proofs.Common.{one_more, after_calls, IsAsked, IsAskedAtMost, IsAskedOnce, IsAskedWithin, GivesByEach, piece_count}
+use Rattle.renju_io.proofs.Common.{Gives, tells_end}
 use Rattle.renju_io.specs.declared.TheConstants.{MAX_PIECE_BYTES}
 use Rattle.renju_io.proofs.GivenBytes.{Gives-none, Gives-then}
 

@@ -1,9 +1,8 @@
 -- The first file under a name.
-use Rattle.std.proofs.Common.{◌≡◌, List, ℕ, [], ◌∷◌, find, Option, Some, cond, true, false, string_bytes, refl, sym, ap, ◌∙◌}
-use Rattle.std.specs.Option.{option_map}
+use Rattle.std.proofs.Common.{◌≡◌, List, ℕ, [], ◌∷◌, find, Option, Some, cond, true, false, string_bytes, refl, sym, ap}
+use Rattle.std.proofs.Common.{◌∙◌, option_map}
 use Rattle.std.specs.Str.{bytes_eq}
-use Rattle.renju_io.specs.Files.{file_under}
-use Rattle.renju_io.specs.Memory.{entries}
+use Rattle.renju_io.proofs.Common.{file_under, entries}
 use Rattle.renju_io.specs.declared.memory_shelf.MemoryFile.{MemoryFile}
 
 -- the bytes of the first file under a name are those of the first entry under it

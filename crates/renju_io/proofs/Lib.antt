@@ -1,4 +1,7 @@
 -- Lemmas on counts of calls, on bytes that are given and taken, and on the lines of an input.
+
+-- the words of the crate, in one place
+mod Common
 pub mod AskedCalls
 pub mod FileNames
 pub mod GivenBytes

@@ -1,20 +1,19 @@
 -- What a reader of lines has done since a call began, and what it may answer then.
-use Rattle.std.proofs.Common.{◌≡◌, ◌≢◌, ℕ, ◌+◌, ◌<◌, ◌≤◌, Bool, true, false, cond, List, [], ◌∷◌, ◌++◌, length, take, map, refl, sym, ap}
-use Rattle.std.proofs.Common.{subst, ◌∙◌, append_assoc, None, Some, Ok, Option, IfSome, arith, length-append, length-take, ◌⊎◌, inl, inr}
+use Rattle.std.proofs.Common.{◌≡◌, ◌≢◌, ℕ, ◌+◌, ◌<◌, ◌≤◌, Bool, true, false, cond, List, [], ◌∷◌}
+use Rattle.std.proofs.Common.{◌++◌, length, take, map, refl, sym, ap, subst, ◌∙◌, append_assoc, None, Some, Ok, Option, IfSome}
+use Rattle.std.proofs.Common.{arith, length-append, length-take, ◌⊎◌, inl, inr, option_map}
 use Rattle.std.proofs.lemmas.List.{append-nil, length-map}
-use Rattle.std.specs.Option.{option_map}
 use Rattle.std.specs.Io.BufRead.{take_through}
 use Rattle.std.specs.Io.KnownBytes.{prepend_known, IsAtEnd}
-use Rattle.renju_io.specs.Told.{Gives}
-use Rattle.renju_io.specs.Lines.{LineText, Text, TooLong, begun, is_line_feed, line_of, lines, pieces, HasNoLineFeed, Tells, TellsLast}
-use Rattle.renju_io.specs.Lines.{ReaderState, StaysOpen, KeepsLine, TakesLines, TakesTooMany, IsExhausted, lines_left, told_lines}
-use Rattle.renju_io.specs.LineReads.{OpenUntilLast, ReadsOn}
+use Rattle.renju_io.proofs.Common.{Gives, LineText, Text, TooLong, begun, is_line_feed, line_of, lines, pieces, HasNoLineFeed, Tells}
+use Rattle.renju_io.proofs.Common.{TellsLast, ReaderState, StaysOpen, KeepsLine, TakesLines, TakesTooMany, IsExhausted, lines_left}
+use Rattle.renju_io.proofs.Common.{told_lines, OpenUntilLast, ReadsOn}
 use Rattle.renju_io.specs.declared.line_reader.Line.{Line}
-use Rattle.renju_io.specs.declared.line_reader.Line.TheVariants as kind
 use Rattle.renju_io.specs.declared.TheConstants.{LINE_FEED, MAX_LINE_BYTES, MAX_SESSION_BYTES}
 use Rattle.renju_io.proofs.GivenBytes.{Gives-then}
 use Rattle.renju_io.proofs.LineLaws.{HasNoLineFeed-first, HasNoLineFeed-second, HasNoLineFeed-append, HasNoLineFeed-take, Tells-front}
 use Rattle.renju_io.proofs.LineLaws.{Tells-then, Tells-joined, pieces-ended}
+use Rattle.renju_io.specs.declared.line_reader.Line.TheVariants as kind
 
 -- the reader took these bytes of the source, and its lines are as they were
 pub record ReadSoFar (old : ReaderState) (left : Option (List ℕ)) (now : ReaderState) (left_now : Option (List ℕ)) : Type 0 where

@@ -1,9 +1,9 @@
 -- Lines that look the same within reach: what a stone makes on them is the same.
-use Rattle.std.proofs.Common.{◌≡◌, ◌≢◌, inl, inr, ℕ, ◌+◌, ◌-◌, ◌≤◌, ◌<◌, min, Bool, true, false, cond, ◌&&◌, ◌||◌, not, refl, sym, ap, ◌∙◌}
-use Rattle.std.proofs.Common.{arith, nat_eq, nat_le, ◌^◌}
-use Rattle.std.specs.Prelude.{Option, Some, None, bit_or}
+use Rattle.std.proofs.Common.{◌≡◌, ◌≢◌, inl, inr, ℕ, ◌+◌, ◌-◌, ◌≤◌, ◌<◌, min, Bool, true, false, cond}
+use Rattle.std.proofs.Common.{◌&&◌, ◌||◌, not, refl, sym, ap, ◌∙◌, arith, nat_eq, nat_le, ◌^◌, Option, Some, None, bit_or}
+use Rattle.std.proofs.Common.{sum_by}
 use Rattle.std.specs.Int.{bit_at}
-use Rattle.std.specs.List.{sum_by, range_with_len}
+use Rattle.std.specs.List.{range_with_len}
 use Rattle.std.proofs.lemmas.Bool.{cases_lt}
 use Rattle.game_rules.proofs.Common.{Grid, IsBoard, is_on, is_empty, holds, along, row_wins, stone_at, run_of, wins_on, wins_at}
 use Rattle.game_rules.proofs.Common.{is_straight, is_line_three_at, towards, opposite, stones_towards, go, run_end}
@@ -22,11 +22,8 @@ use Rattle.game_rules.proofs.Wins.{wins_on-ways}
 use Rattle.game_rules.proofs.Threes.{straight_towards, taken_three}
 use Rattle.game_rules.proofs.Tests.{le_true, le_false, eq_true, eq_false, eq_from}
 use Rattle.game_rules.proofs.Fives.{wins-line_by}
-use Rattle.row_shapes.specs.Rule.{reach_of}
-use Rattle.row_shapes.specs.LineShapes.{rule_of_reach, three_bits}
-use Rattle.row_shapes.specs.Reach.{stones_past}
-use Rattle.row_shapes.specs.Halves.{free_at}
-use Rattle.row_shapes.specs.Threes.{wins_past, is_open_four, three_place, bit_of}
+use Rattle.row_shapes.proofs.Common.{reach_of, rule_of_reach, three_bits, stones_past, free_at, wins_past, is_open_four, three_place}
+use Rattle.row_shapes.proofs.Common.{bit_of}
 use Rattle.row_shapes.proofs.ThreePoints.{three_at, no_place, three_bits as three_bits-at}
 
 -- ---- tests that agree up to some number

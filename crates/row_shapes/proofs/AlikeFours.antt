@@ -1,8 +1,8 @@
 -- Lines that look the same within reach have the same fours.
-use Rattle.std.proofs.Common.{◌≡◌, ◌≢◌, inl, inr, ℕ, zero, suc, ◌+◌, ◌-◌, ◌≤◌, ◌<◌, Bool, true, false, cond, ◌&&◌, ◌||◌, not, refl, sym, ap}
-use Rattle.std.proofs.Common.{◌∙◌, arith, nat_eq, nat_le}
-use Rattle.std.specs.Prelude.{Option, Some, None, count_by}
-use Rattle.std.specs.List.{list_all, sum_by, range_with_len}
+use Rattle.std.proofs.Common.{◌≡◌, ◌≢◌, inl, inr, ℕ, zero, suc, ◌+◌, ◌-◌, ◌≤◌, ◌<◌, Bool, true, false, cond}
+use Rattle.std.proofs.Common.{◌&&◌, ◌||◌, not, refl, sym, ap, ◌∙◌, arith, nat_eq, nat_le, Option, Some, None, count_by}
+use Rattle.std.proofs.Common.{sum_by}
+use Rattle.std.specs.List.{list_all, range_with_len}
 use Rattle.std.proofs.lemmas.Bool.{cases_lt}
 use Rattle.game_rules.proofs.Common.{Grid, IsBoard, is_on, is_empty, along, row_wins, stone_at, wins_on, wins_at, fours_of, place_stone}
 use Rattle.game_rules.proofs.Common.{place_wins, stones_towards, go}
@@ -18,8 +18,7 @@ use Rattle.game_rules.proofs.Ways.{least}
 use Rattle.game_rules.proofs.Wins.{wins_on-stones}
 use Rattle.game_rules.proofs.Tests.{le_true, eq_true, eq_false, eq_from}
 use Rattle.game_rules.proofs.RunEnds.{just_stones, more_stones}
-use Rattle.row_shapes.specs.Gaps.{is_four, are_stones, fours_from}
-use Rattle.row_shapes.specs.Halves.{free_at}
+use Rattle.row_shapes.proofs.Common.{is_four, are_stones, fours_from, free_at}
 use Rattle.row_shapes.proofs.Counting.{fours_by_gap, fours_of-gap}
 use Rattle.row_shapes.proofs.Alike.{wins_by, Both}
 

@@ -1,7 +1,7 @@
 -- The codes of lines.
-use Rattle.std.proofs.Common.{◌≡◌, ℕ, zero, suc, ◌+◌, ◌-◌, ◌*◌, ◌^◌, ◌≤◌, ◌<◌, Bool, true, false, cond, refl, sym, ap, ◌∙◌, arith, nat_lt}
-use Rattle.std.proofs.Common.{drop, ◌⊎◌, inl, inr, [], ◌∷◌, ◌≢◌, ◌&&◌}
-use Rattle.std.specs.Prelude.{Option, Some, None, map}
+use Rattle.std.proofs.Common.{◌≡◌, ℕ, zero, suc, ◌+◌, ◌-◌, ◌*◌, ◌^◌, ◌≤◌, ◌<◌, Bool, true, false, cond}
+use Rattle.std.proofs.Common.{refl, sym, ap, ◌∙◌, arith, nat_lt, drop, ◌⊎◌, inl, inr, [], ◌∷◌, ◌≢◌, ◌&&◌}
+use Rattle.std.proofs.Common.{Option, Some, None, map}
 use Rattle.game_rules.proofs.Common.{Grid, is_on, along, IsBoard, is_empty, put, has_fouls, row_wins, run_of, wins_on}
 use Rattle.game_rules.specs.declared.Side.{Side}
 use Rattle.game_rules.specs.declared.Point.{Point}
@@ -10,10 +10,8 @@ use Rattle.game_rules.specs.declared.Axis.{Axis}
 use Rattle.game_rules.specs.declared.RuleKind.TheVariants.{Freestyle, Exact, Renju}
 use Rattle.game_rules.specs.declared.Side.TheVariants.{Black}
 use Rattle.stone_board.specs.Steps.{kept_on}
-use Rattle.row_shapes.specs.LineCodes.{digit_at, from_digits, places_beside, line_code}
-use Rattle.row_shapes.specs.Rule.{reach_of}
+use Rattle.row_shapes.proofs.Common.{digit_at, from_digits, places_beside, line_code, reach_of, shape_of, shape_at, IsShape}
 use Rattle.row_shapes.proofs.ReachLaw.{digit_low, reach_law}
-use Rattle.row_shapes.specs.LineShapes.{shape_of, shape_at, IsShape}
 
 -- ---- digits
 

@@ -1,8 +1,7 @@
 -- Fours counted by gaps: each four by the first of its five places and by the one that is left out.
-use Rattle.std.proofs.Common.{◌≡◌, ℕ, ◌+◌, ◌<◌, Bool, true, false, cond, ◌&&◌, ◌||◌, refl, arith, zero, suc, ◌≤◌, ◌≢◌, ◌-◌, not, sym, ◌∙◌}
-use Rattle.std.proofs.Common.{nat_eq}
-use Rattle.std.specs.Prelude.{map, count_by}
-use Rattle.std.specs.List.{sum_by, range_with_len}
+use Rattle.std.proofs.Common.{◌≡◌, ℕ, ◌+◌, ◌<◌, Bool, true, false, cond, ◌&&◌, ◌||◌, refl, arith, zero, suc}
+use Rattle.std.proofs.Common.{◌≤◌, ◌≢◌, ◌-◌, not, sym, ◌∙◌, nat_eq, map, count_by, sum_by}
+use Rattle.std.specs.List.{range_with_len}
 use Rattle.std.proofs.lemmas.Bool.{false_from_ne_true, or_right}
 use Rattle.std.proofs.lemmas.Bool.Decides.{nat_tests}
 use Rattle.game_rules.proofs.Common.{count_fours, Grid, fours_of, place_stone, place_wins}
@@ -10,7 +9,7 @@ use Rattle.game_rules.specs.declared.RuleKind.{RuleKind}
 use Rattle.game_rules.specs.declared.Side.{Side}
 use Rattle.game_rules.specs.declared.Axis.{Axis}
 use Rattle.game_rules.specs.declared.Point.{Point}
-use Rattle.row_shapes.specs.Gaps.{listed, fours_from, is_four, are_stones}
+use Rattle.row_shapes.proofs.Common.{listed, fours_from, is_four, are_stones}
 use Rattle.game_rules.proofs.Rows.{all_range}
 
 -- all fours, over where their five places begin

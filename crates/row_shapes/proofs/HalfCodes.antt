@@ -1,6 +1,6 @@
 -- The halves of a code: its first digits are those of the half behind, and the others those of the half ahead.
-use Rattle.std.proofs.Common.{◌≡◌, ℕ, zero, suc, ◌+◌, ◌*◌, ◌/◌, ◌%◌, ◌^◌, ◌≤◌, ◌<◌, ◌⊎◌, inl, inr, List, ◌++◌, refl, sym, subst, arith}
-use Rattle.std.specs.Prelude.{replicate}
+use Rattle.std.proofs.Common.{◌≡◌, ℕ, zero, suc, ◌+◌, ◌*◌, ◌/◌, ◌%◌, ◌^◌, ◌≤◌, ◌<◌, ◌⊎◌, inl}
+use Rattle.std.proofs.Common.{inr, List, ◌++◌, refl, sym, subst, arith, replicate}
 use Rattle.std.proofs.Math.Nat.{pow-succ'}
 use Rattle.game_rules.proofs.Common.{Grid, IsBoard, put, stone_at, towards}
 use Rattle.game_rules.specs.declared.Cell.{Cell}
@@ -10,9 +10,7 @@ use Rattle.game_rules.specs.declared.Side.TheVariants.{Black}
 use Rattle.game_rules.specs.declared.Axis.TheVariants.{Row}
 use Rattle.game_rules.specs.declared.Way.TheVariants.{Ahead, Behind}
 use Rattle.game_rules.proofs.Positions.{IsBoard-put}
-use Rattle.row_shapes.specs.LineCodes.{first_digits}
-use Rattle.row_shapes.specs.LineShapes.{line_cells, line_board, middle}
-use Rattle.row_shapes.specs.Halves.{owns, is_free, half_cells, free_at, SeesLine}
+use Rattle.row_shapes.proofs.Common.{first_digits, line_cells, line_board, middle, owns, is_free, half_cells, free_at, SeesLine}
 
 -- ---- the digits of both halves
 

@@ -1,7 +1,7 @@
 -- What a stone of Black makes on its line, as the two halves of the line tell it.
-use Rattle.std.proofs.Common.{◌≡◌, ◌≢◌, inl, inr, ℕ, ◌+◌, ◌-◌, ◌≤◌, ◌<◌, ◌^◌, min, max, Bool, true, false, cond, ◌&&◌, List, length, drop}
-use Rattle.std.proofs.Common.{get_or, refl, sym, ap, ◌∙◌, arith, nat_eq, nat_le, length-drop}
-use Rattle.std.specs.Prelude.{Option, Some, None, bit_or}
+use Rattle.std.proofs.Common.{◌≡◌, ◌≢◌, inl, inr, ℕ, ◌+◌, ◌-◌, ◌≤◌, ◌<◌, ◌^◌, min, max, Bool, true}
+use Rattle.std.proofs.Common.{false, cond, ◌&&◌, List, length, drop, get_or, refl, sym, ap, ◌∙◌, arith, nat_eq, nat_le}
+use Rattle.std.proofs.Common.{length-drop, Option, Some, None, bit_or}
 use Rattle.std.proofs.lemmas.Bool.{cases_lt}
 use Rattle.std.proofs.lemmas.Nat.{or_lt, pow_below}
 use Rattle.std.proofs.lemmas.List.{get_or-drop, get_or_past}
@@ -20,10 +20,8 @@ use Rattle.game_rules.proofs.Boards.{and_left, is_empty-on}
 use Rattle.game_rules.proofs.Runs.{Leads}
 use Rattle.game_rules.proofs.Ways.{go-then, go-same, leads}
 use Rattle.game_rules.proofs.Tests.{le_true, le_false, eq_false, eq_from, le_from}
-use Rattle.row_shapes.specs.Halves.{owns, is_free, row_past, row_beyond, wins_off, is_open, three_off, free_at, SeesHalf, SeesLine}
-use Rattle.row_shapes.specs.LineShapes.{three_bits}
-use Rattle.row_shapes.specs.Reach.{stones_past}
-use Rattle.row_shapes.specs.Threes.{wins_past, is_open_four, three_place, place_towards, bit_of}
+use Rattle.row_shapes.proofs.Common.{owns, is_free, row_past, row_beyond, wins_off, is_open, three_off, free_at, SeesHalf, SeesLine}
+use Rattle.row_shapes.proofs.Common.{three_bits, stones_past, wins_past, is_open_four, three_place, place_towards, bit_of}
 use Rattle.row_shapes.proofs.Alike.{wins_by, wins_same, le_same, leads_alike, past_value, straight_value, run_value, three_value}
 use Rattle.row_shapes.proofs.Reaches.{few-no_fours}
 use Rattle.row_shapes.proofs.ThreeBits.{eleven_bits}

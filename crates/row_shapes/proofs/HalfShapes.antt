@@ -1,6 +1,5 @@
 -- The shape of a stone of Black, as the two halves of its line tell it, by whether any run of five or more wins.
-use Rattle.std.proofs.Common.{◌≡◌, ◌+◌, ◌<◌, max, Bool, true, false, cond, List, ◌∙◌, arith, nat_eq, nat_le}
-use Rattle.std.specs.Prelude.{bit_or}
+use Rattle.std.proofs.Common.{◌≡◌, ◌+◌, ◌<◌, max, Bool, true, false, cond, List, ◌∙◌, arith, nat_eq, nat_le, bit_or}
 use Rattle.game_rules.proofs.Common.{Grid, row_wins, run_of, fours_of, is_straight}
 use Rattle.game_rules.specs.declared.Cell.{Cell}
 use Rattle.game_rules.specs.declared.Point.{Point}
@@ -8,9 +7,8 @@ use Rattle.game_rules.specs.declared.RuleKind.TheVariants.{Freestyle, Exact}
 use Rattle.game_rules.specs.declared.Side.TheVariants.{Black}
 use Rattle.game_rules.specs.declared.Axis.TheVariants.{Row}
 use Rattle.game_rules.specs.declared.Way.TheVariants.{Ahead, Behind}
-use Rattle.row_shapes.specs.Halves.{row_past, row_beyond, is_open, three_off, nine_places, fours_off, rule_by, SeesLine}
-use Rattle.row_shapes.specs.LineShapes.{three_bits}
-use Rattle.row_shapes.specs.Threes.{bit_of}
+use Rattle.row_shapes.proofs.Common.{row_past, row_beyond, is_open, three_off, nine_places, fours_off, rule_by, SeesLine, three_bits}
+use Rattle.row_shapes.proofs.Common.{bit_of}
 use Rattle.row_shapes.proofs.Alike.{wins-line}
 use Rattle.row_shapes.proofs.HalfLines.{run_wins, run_long, straight_here, three_here, few_fours}
 use Rattle.row_shapes.proofs.HalfFours.{fours_here}

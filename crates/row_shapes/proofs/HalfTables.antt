@@ -1,7 +1,6 @@
 -- Tables made of halves: the halves of a code, and what one more shape tells.
-use Rattle.std.proofs.Common.{◌≡◌, ℕ, ◌+◌, ◌*◌, ◌/◌, ◌%◌, ◌^◌, ◌≤◌, ◌<◌, ◌⊎◌, inl, inr, List, [], ◌∷◌, ◌++◌, length, get_or, sym, ap, ◌∙◌}
-use Rattle.std.proofs.Common.{arith, nat_eq, length-append}
-use Rattle.std.specs.Prelude.{Some, slice_get}
+use Rattle.std.proofs.Common.{◌≡◌, ℕ, ◌+◌, ◌*◌, ◌/◌, ◌%◌, ◌^◌, ◌≤◌, ◌<◌, ◌⊎◌, inl, inr, List}
+use Rattle.std.proofs.Common.{[], ◌∷◌, ◌++◌, length, get_or, sym, ap, ◌∙◌, arith, nat_eq, length-append, Some, slice_get}
 use Rattle.std.proofs.lemmas.Bool.{cases_lt}
 use Rattle.std.proofs.lemmas.List.{get_or_push, get_or_append_left}
 use Rattle.std.proofs.lemmas.Option.{slice_get-get_or}
@@ -12,9 +11,7 @@ use Rattle.game_rules.specs.declared.Way.{Way}
 use Rattle.game_rules.specs.declared.Axis.TheVariants.{Row}
 use Rattle.game_rules.specs.declared.Side.TheVariants.{Black}
 use Rattle.game_rules.specs.declared.Way.TheVariants.{Ahead, Behind}
-use Rattle.row_shapes.specs.HalfTables.{TellsHalves}
-use Rattle.row_shapes.specs.Halves.{half_cells, rule_by, SeesLine}
-use Rattle.row_shapes.specs.LineShapes.{line_board, middle, shape_of, shape_at, stone_shape}
+use Rattle.row_shapes.proofs.Common.{TellsHalves, half_cells, rule_by, SeesLine, line_board, middle, shape_of, shape_at, stone_shape}
 use Rattle.row_shapes.specs.declared.halves.Half.{Half}
 use Rattle.row_shapes.specs.declared.shapes.Shape.{Shape}
 use Rattle.row_shapes.proofs.HalfCodes.{code_line}

@@ -1,5 +1,7 @@
 -- The laws of shapes. What is declared by `pub mod` the layers above may cite; the rest serves this crate alone.
 
+-- the words of the crate, in one place
+mod Common
 -- fours counted by gaps; where three points are; what stands within reach of a four and of a three
 pub mod Counting
 pub mod ThreePoints

@@ -1,6 +1,6 @@
 -- A side with no five point gets one by a stone only at the ends of the runs of that stone.
-use Rattle.std.proofs.Common.{◌≡◌, ◌⊎◌, inl, inr, ℕ, ◌+◌, Bool, true, false, cond, ◌&&◌, refl, sym, ap, ◌∙◌, arith}
-use Rattle.std.specs.Prelude.{Option, Some, None}
+use Rattle.std.proofs.Common.{◌≡◌, ◌⊎◌, inl, inr, ℕ, ◌+◌, Bool, true, false, cond, ◌&&◌, refl, sym, ap, ◌∙◌}
+use Rattle.std.proofs.Common.{arith, Option, Some, None}
 use Rattle.game_rules.proofs.Common.{Grid, IsBoard, is_on, is_empty, holds, put, row_wins, wins_on, five, has_five, five_points, towards}
 use Rattle.game_rules.proofs.Common.{opposite, stones_towards, run_end}
 use Rattle.game_rules.specs.declared.RuleKind.{RuleKind}
@@ -19,8 +19,7 @@ use Rattle.game_rules.proofs.Wins.{wins_on-ways, no_win}
 use Rattle.game_rules.proofs.RunEnds.{end_same, end_apart, new_end}
 use Rattle.row_shapes.specs.declared.fives.FivePoints.{FivePoints}
 use Rattle.row_shapes.specs.declared.fives.FivePoints.TheVariants.{None as NoPoint}
-use Rattle.row_shapes.specs.FivePoints.{in_short}
-use Rattle.row_shapes.specs.FiveEnds.{kept_five, end_five, joins_to_win, with_more, with_axis}
+use Rattle.row_shapes.proofs.Common.{in_short, kept_five, end_five, joins_to_win, with_more, with_axis}
 use Rattle.row_shapes.proofs.ShortLists.{Tells, tells-map, tells-more, tells-short}
 
 -- the five points that the ends on all four axes tell

@@ -1,7 +1,7 @@
 -- The law of reach: the shape of the code of a line is the one that a stone makes there.
-use Rattle.std.proofs.Common.{◌≡◌, ◌≢◌, ℕ, zero, suc, ◌+◌, ◌-◌, ◌*◌, ◌/◌, ◌%◌, ◌≤◌, ◌<◌, Bool, true, false, cond, List, [], ◌∷◌, ◌++◌, refl}
-use Rattle.std.proofs.Common.{sym, ap, subst, ◌∙◌, arith, nat_eq, length}
-use Rattle.std.specs.Prelude.{Option, Some, None, map, replicate}
+use Rattle.std.proofs.Common.{◌≡◌, ◌≢◌, ℕ, zero, suc, ◌+◌, ◌-◌, ◌*◌, ◌/◌, ◌%◌, ◌≤◌, ◌<◌, Bool}
+use Rattle.std.proofs.Common.{true, false, cond, List, [], ◌∷◌, ◌++◌, refl, sym, ap, subst, ◌∙◌, arith, nat_eq, length}
+use Rattle.std.proofs.Common.{Option, Some, None, map, replicate}
 use Rattle.game_rules.proofs.Common.{Grid, IsBoard, is_on, is_empty, is_empty_cell, is_stone_of, holds, put, along, row_wins, stone_at, go}
 use Rattle.game_rules.specs.declared.RuleKind.{RuleKind}
 use Rattle.game_rules.specs.declared.Side.{Side}
@@ -17,9 +17,8 @@ use Rattle.game_rules.proofs.Boards.{is_empty-on, is_empty-put, empty_holds, hol
 use Rattle.game_rules.proofs.Positions.{IsBoard-put}
 use Rattle.game_rules.proofs.Lines.{along-same}
 use Rattle.game_rules.proofs.Ways.{go-zero, go-apart, else_at}
-use Rattle.row_shapes.specs.LineCodes.{digit_at, from_digits, first_digits, places_beside, line_code}
-use Rattle.row_shapes.specs.LineShapes.{LawOfReach, IsShape, cell_of_digit, line_cells, middle, stone_shape, shape_at, shape_of}
-use Rattle.row_shapes.specs.Halves.{free_at}
+use Rattle.row_shapes.proofs.Common.{digit_at, from_digits, first_digits, places_beside, line_code, LawOfReach, IsShape, cell_of_digit}
+use Rattle.row_shapes.proofs.Common.{line_cells, middle, stone_shape, shape_at, shape_of, free_at}
 use Rattle.row_shapes.proofs.Alike.{wins_by, wins-reach, wins-line, Alike, Both, five-alike, over-alike, straight-alike, three-alike}
 use Rattle.row_shapes.proofs.AlikeFours.{fours-alike}
 

@@ -1,8 +1,7 @@
 -- What stands within reach of a stone: three others where it is in a four, two where it has a three point.
-use Rattle.std.proofs.Common.{◌≡◌, ◌≢◌, inl, inr, ℕ, zero, suc, ◌+◌, ◌-◌, ◌≤◌, ◌<◌, Bool, true, false, cond, ◌&&◌, ◌||◌, not, refl, sym, ap}
-use Rattle.std.proofs.Common.{◌∙◌, arith, nat_eq, eq-eqb}
-use Rattle.std.specs.Prelude.{Option, Some, None}
-use Rattle.std.specs.List.{range_with_len, sum_by}
+use Rattle.std.proofs.Common.{◌≡◌, ◌≢◌, inl, inr, ℕ, zero, suc, ◌+◌, ◌-◌, ◌≤◌, ◌<◌, Bool, true, false, cond}
+use Rattle.std.proofs.Common.{◌&&◌, ◌||◌, not, refl, sym, ap, ◌∙◌, arith, nat_eq, eq-eqb, Option, Some, None, sum_by}
+use Rattle.std.specs.List.{range_with_len}
 use Rattle.std.proofs.lemmas.Bool.{cases_lt, false_from_ne_true}
 use Rattle.std.proofs.lemmas.Bool.Decides.{nat_tests}
 use Rattle.std.proofs.lemmas.List.Sums.{sum_by-cons}
@@ -19,8 +18,7 @@ use Rattle.game_rules.proofs.Boards.{Apart, empty_holds, and_left, and_right, is
 use Rattle.game_rules.proofs.Lines.{along-same}
 use Rattle.game_rules.proofs.Ways.{go-then, go-same, go-zero, go-apart, leads_is, towards-put, beyond-put, least, least_back}
 use Rattle.game_rules.proofs.Threes.{three_empty}
-use Rattle.row_shapes.specs.Gaps.{is_four, are_stones, fours_from}
-use Rattle.row_shapes.specs.Reach.{stones_past, reach_towards, stones_in_reach}
+use Rattle.row_shapes.proofs.Common.{is_four, are_stones, fours_from, stones_past, reach_towards, stones_in_reach}
 use Rattle.row_shapes.proofs.Counting.{fours_of-gap}
 use Rattle.row_shapes.proofs.ThreePoints.{three_first, first_open}
 

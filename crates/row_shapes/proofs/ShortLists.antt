@@ -1,7 +1,7 @@
 -- Lists of five points, and what they are in short.
-use Rattle.std.proofs.Common.{◌≡◌, ◌⊎◌, inl, inr, Bool, true, false, cond, ◌&&◌, refl, sym, ap, subst, ◌∙◌, List, [], ◌∷◌}
-use Rattle.std.specs.Prelude.{Option, Some, None}
-use Rattle.std.specs.List.{list_any, list_all, filter}
+use Rattle.std.proofs.Common.{◌≡◌, ◌⊎◌, inl, inr, Bool, true, false, cond, ◌&&◌, refl, sym, ap, subst, ◌∙◌, List, []}
+use Rattle.std.proofs.Common.{◌∷◌, Option, Some, None, filter}
+use Rattle.std.specs.List.{list_any, list_all}
 use Rattle.std.proofs.lemmas.Map.Views.{any-filter_same}
 use Rattle.game_rules.proofs.Common.{Grid, is_on, points_of, is_same_point}
 use Rattle.game_rules.specs.declared.Point.{Point}
@@ -9,8 +9,7 @@ use Rattle.game_rules.proofs.Boards.{Apart, and_left, and_right, not-apart}
 use Rattle.game_rules.proofs.Points.{points-found, filter-passes, is_same_point-itself, is_same_point-same, is_same_point-apart}
 use Rattle.row_shapes.specs.declared.fives.FivePoints.{FivePoints}
 use Rattle.row_shapes.specs.declared.fives.FivePoints.TheVariants.{None as NoPoint, One, Several}
-use Rattle.row_shapes.specs.FivePoints.{in_short}
-use Rattle.row_shapes.specs.FiveEnds.{with_more}
+use Rattle.row_shapes.proofs.Common.{in_short, with_more}
 use Rattle.game_rules.proofs.Places.{two_passing-apart}
 use Rattle.game_rules.proofs.Tests.{or_false}
 

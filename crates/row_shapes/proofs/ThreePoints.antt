@@ -1,6 +1,6 @@
 -- A three point of a stone is the first point in one of the two ways that holds no stone of its side.
-use Rattle.std.proofs.Common.{◌≡◌, ℕ, ◌+◌, ◌-◌, ◌≤◌, ◌<◌, max, Bool, true, false, cond, ◌&&◌, not, refl, sym, ap, ◌∙◌, arith, nat_eq}
-use Rattle.std.specs.Prelude.{Option, Some, None, bit_or}
+use Rattle.std.proofs.Common.{◌≡◌, ℕ, ◌+◌, ◌-◌, ◌≤◌, ◌<◌, max, Bool, true, false, cond, ◌&&◌, not, refl, sym}
+use Rattle.std.proofs.Common.{ap, ◌∙◌, arith, nat_eq, Option, Some, None, bit_or}
 use Rattle.std.proofs.lemmas.Bool.Decides.{nat_tests}
 use Rattle.std.proofs.Math.Bool.{and-true, and-false}
 use Rattle.std.proofs.lemmas.Nat.Bits.{bit_at_or, bit_at-lt, bit_at-zero, bit_at-pow_same, bit_at-pow_other}
@@ -21,8 +21,7 @@ use Rattle.game_rules.proofs.Ways.{go-then, go-same, go-opposite, go-apart, oppo
 use Rattle.game_rules.proofs.Wins.{wins_on-ways}
 use Rattle.game_rules.proofs.RunEnds.{end_joins, end_leaves, end_in_run, in_run-end}
 use Rattle.game_rules.proofs.Threes.{straight_towards, three_empty}
-use Rattle.row_shapes.specs.Rule.{fewer_never}
-use Rattle.row_shapes.specs.Threes.{wins_past, is_open_four, three_place, place_towards, bit_of}
+use Rattle.row_shapes.proofs.Common.{fewer_never, wins_past, is_open_four, three_place, place_towards, bit_of}
 
 -- ---- the end of a run
 

@@ -1,7 +1,7 @@
 -- A stone that makes a winning run fills a window of its line.
-use Rattle.std.proofs.Common.{◌≡◌, ◌≢◌, inl, inr, ℕ, zero, suc, ◌+◌, ◌-◌, ◌/◌, ◌^◌, ◌≤◌, ◌<◌, Bool, true, false, ◌&&◌, not, nat_eq, refl}
-use Rattle.std.proofs.Common.{sym, ap, ◌∙◌, arith, List, [], ◌∷◌}
-use Rattle.std.specs.Prelude.{Option, Some, None, bit_and, bit_or}
+use Rattle.std.proofs.Common.{◌≡◌, ◌≢◌, inl, inr, ℕ, zero, suc, ◌+◌, ◌-◌, ◌/◌, ◌^◌, ◌≤◌, ◌<◌, Bool}
+use Rattle.std.proofs.Common.{true, false, ◌&&◌, not, nat_eq, refl, sym, ap, ◌∙◌, arith, List, [], ◌∷◌, Option, Some, None}
+use Rattle.std.proofs.Common.{bit_and, bit_or}
 use Rattle.std.specs.Int.{bit_at, bit_not, w32}
 use Rattle.std.specs.List.{list_any}
 use Rattle.std.proofs.lemmas.Bool.{cases_eq, cases_lt, false_from_ne_true, both_ways}
@@ -22,13 +22,11 @@ use Rattle.std.proofs.lemmas.Bool.Decides.{nat_tests}
 use Rattle.game_rules.proofs.Wins.{wins_on-stones, row_wins-five}
 use Rattle.stone_board.specs.Lines.{line_of, place_on, TellsLine}
 use Rattle.stone_board.proofs.LineBits.{IsNear, board-near}
-use Rattle.stone_board.proofs.LineStones.{along-places, TellsLine-put, place_low, empty_bit, ahead_bit, behind_low}
-use Rattle.stone_board.proofs.LineStones.{behind_bit}
+use Rattle.stone_board.proofs.LineStones.{along-places, TellsLine-put, place_low, empty_bit, ahead_bit, behind_low, behind_bit}
 use Rattle.stone_board.proofs.Ones.{bit_shr}
-use Rattle.row_shapes.specs.Windows.{HasRow, IsWindow, IsPassed, AreWindowLines}
+use Rattle.row_shapes.proofs.Common.{HasRow, IsWindow, IsPassed, AreWindowLines, kept_five, end_five}
 use Rattle.row_shapes.specs.declared.windows.WindowLines.{WindowLines}
 use Rattle.row_shapes.proofs.Counting.{fours_of-gap, no_wins}
-use Rattle.row_shapes.specs.FiveEnds.{kept_five, end_five}
 
 -- ---- windows by shifts
 

@@ -1,15 +1,13 @@
 -- What is said of the position of a text, by the step of `solve` that decides.
-use Rattle.std.proofs.Common.{◌≡◌, true, false, ◌↔◌, inl, inr, ℕ, ◌<◌, ◌≤◌, sym, subst, ◌∙◌, List}
-use Rattle.std.proofs.Common.{length, arith}
-use Rattle.std.specs.Prelude.{Result, Ok, Err, IfOk, Some, None}
+use Rattle.std.proofs.Common.{◌≡◌, true, false, ◌↔◌, inl, inr, ℕ, ◌<◌, ◌≤◌, sym, subst, ◌∙◌, List, length}
+use Rattle.std.proofs.Common.{arith, Result, Ok, Err, IfOk, Some, None}
 use Rattle.std.proofs.lemmas.Bool.{true_from_ne_false}
-use Rattle.game_rules.specs.Games.{has_threat}
+use Rattle.game_rules.proofs.Common.{has_threat, Grid}
 use Rattle.game_rules.proofs.Games.{WinsUnder-more}
-use Rattle.game_rules.specs.Grid.{Grid}
 use Rattle.game_rules.specs.declared.RuleKind.{RuleKind}
 use Rattle.strategy_graph.specs.declared.Node.{Node}
 use Rattle.strategy_compiler.specs.declared.wins.WrittenWin.{WrittenWin}
-use Rattle.strategy_compiler.specs.Wins.{IsWrittenWin}
+use Rattle.strategy_compiler.proofs.Common.{IsWrittenWin}
 use Rattle.strategy_compiler.proofs.Growing.{win-within}
 use Rattle.four_search.specs.declared.fewest.FourTable.{FourTable}
 use Rattle.four_search.specs.declared.fewest.FewestWin.{FewestWin}
@@ -19,16 +17,16 @@ use Rattle.threat_moves.specs.declared.threat_list.Threat.{Threat}
 use Rattle.line_proof.specs.Lines.{line_wins, line_tree}
 use Rattle.line_proof.specs.declared.proof.LineAnswer.{LineAnswer}
 use Rattle.line_proof.specs.declared.proof.LineAnswer.TheVariants.{Proved, Fails}
-use Rattle.threat_game.specs.ThreatGame.{threat_tree}
+use Rattle.threat_game.proofs.Common.{threat_tree}
 use Rattle.threat_game.proofs.TreeLaws.{tree-more}
 use Rattle.position_files.specs.declared.PositionFile.{PositionFile}
 use Rattle.command_base.specs.declared.answer.Answer.{Answer}
 use Rattle.command_base.specs.declared.status.Status.TheVariants.{Done, NotFound, Spent, Full}
-use Rattle.position_files.specs.Tables.{IsTextOfTable}
+use Rattle.position_files.proofs.Common.{IsTextOfTable}
 use Rattle.position_commands.specs.Fours.{IsShortWinText, table_at}
 use Rattle.command_base.specs.Texts.{none_line, spent_line, full_line}
 use Rattle.solve_command.specs.declared.solve.Searched.TheVariants.{Win, None as NoWin, Spent as OverBudget}
-use Rattle.solve_command.specs.Solves.{SolutionSays, IsWonByFours, IsFirstLine, IsLeftOver, IsToldByThreats, MayBeTooGreat}
+use Rattle.solve_command.proofs.Common.{SolutionSays, IsWonByFours, IsFirstLine, IsLeftOver, IsToldByThreats, MayBeTooGreat}
 use Rattle.command_base.proofs.PositionLaws.{file_at}
 use Rattle.position_commands.proofs.Searches.{four-text, wins-last}
 

@@ -1,10 +1,9 @@
 -- The command `solve`: its words, its answers, and what its statuses show.
-use Rattle.std.proofs.Common.{◌≡◌, true, inl, inr, sym, ap, subst, ◌∙◌, ◌⊎◌, ℕ, List, length, arith}
-use Rattle.std.specs.Prelude.{IfSome}
-use Rattle.game_rules.specs.Games.{WinsWithin, has_five}
+use Rattle.std.proofs.Common.{◌≡◌, true, inl, inr, sym, ap, subst, ◌∙◌, ◌⊎◌, ℕ, List, length, arith, IfSome}
+use Rattle.game_rules.proofs.Common.{WinsWithin, has_five}
 use Rattle.game_rules.proofs.Games.{WinsUnder-more}
 use Rattle.strategy_graph.proofs.Soundness.{accepted-wins}
-use Rattle.strategy_compiler.specs.Walks.{last}
+use Rattle.strategy_compiler.proofs.Common.{last}
 use Rattle.position_files.specs.declared.PositionFile.{PositionFile}
 use Rattle.renju_io.specs.Told.{Takes}
 use Rattle.command_base.specs.declared.status.Status.{Status}
@@ -14,8 +13,7 @@ use Rattle.command_base.specs.Told.{IsTold, IsYielded}
 use Rattle.command_base.specs.Positions.{SaysOfPosition}
 use Rattle.command_base.specs.Searches.{ShowsOfPosition}
 use Rattle.position_commands.specs.Fours.{IsFoundWin, IsWinText}
-use Rattle.solve_command.specs.Solves.{IsWonByAStep, IsWonByFours, SolutionSays, solve_command, WritesSolution, SpeaksOfSolution}
-use Rattle.solve_command.specs.Solves.{IsSolved}
+use Rattle.solve_command.proofs.Common.{IsWonByAStep, IsWonByFours, SolutionSays, solve_command, WritesSolution, SpeaksOfSolution, IsSolved}
 use Rattle.command_base.proofs.PositionLaws.{shows-of-position}
 
 -- what is said of a position for which the budget is enough is an answer

@@ -1,8 +1,6 @@
 -- What a board keeps of its stones, as they come and go.
-use Rattle.std.proofs.Common.{◌≡◌, ℕ, zero, suc, ◌+◌, ◌-◌, ◌*◌, ◌<◌, ◌≤◌, true, subst, replicate, cond, sym, ap, ◌∙◌, List, [], ◌∷◌, length}
-use Rattle.std.proofs.Common.{refl, arith}
-use Rattle.std.specs.Prelude.{slice_index_or}
-use Rattle.std.specs.List.{count_by}
+use Rattle.std.proofs.Common.{◌≡◌, ℕ, zero, suc, ◌+◌, ◌-◌, ◌*◌, ◌<◌, ◌≤◌, true, subst, replicate, cond, sym}
+use Rattle.std.proofs.Common.{ap, ◌∙◌, List, [], ◌∷◌, length, refl, arith, slice_index_or, count_by}
 use Rattle.std.proofs.lemmas.List.{length-replicate}
 use Rattle.std.proofs.lemmas.List.Folds.{sum_by-replicate}
 use Rattle.game_rules.proofs.Cells.{empty_stone}
@@ -15,8 +13,7 @@ use Rattle.game_rules.specs.declared.Side.{Side}
 use Rattle.game_rules.specs.declared.Side.TheVariants.{Black, White}
 use Rattle.game_rules.proofs.Positions.{stones_of-put, IsBoard-put, put-lift, lift-empty, IsBoard-lift}
 use Rattle.game_rules.proofs.Boards.{and_left}
-use Rattle.stone_board.specs.Kept.{IsKept}
-use Rattle.stone_board.specs.Lines.{all_turned}
+use Rattle.stone_board.proofs.Common.{IsKept, all_turned}
 use Rattle.stone_board.proofs.LineBits.{AreLines-put, AreLines-lift, AreLines-empty}
 
 pub put-black : (b : Grid) (p : Point) (black white : ℕ) (bits : List ℕ) → IsKept b black white bits → is_empty b p ≡ true

@@ -1,5 +1,7 @@
 -- The laws of boards. What is declared by `pub mod` the layers above may cite; the rest serves this crate alone.
 
+-- the words of the crate, in one place
+mod Common
 -- points that are kept on the board; stones of either side
 pub mod Looks
 pub mod Stones

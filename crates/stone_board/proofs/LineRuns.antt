@@ -1,6 +1,6 @@
 -- How many stones stand next to a point, by the bits of its line.
-use Rattle.std.proofs.Common.{◌≡◌, inl, inr, ℕ, ◌+◌, ◌≤◌, ◌<◌, min, Bool, true, false, cond, refl, sym, ap, subst, ◌∙◌, arith}
-use Rattle.std.specs.Prelude.{Some}
+use Rattle.std.proofs.Common.{◌≡◌, inl, inr, ℕ, ◌+◌, ◌≤◌, ◌<◌, min, Bool, true, false, cond, refl, sym, ap, subst}
+use Rattle.std.proofs.Common.{◌∙◌, arith, Some}
 use Rattle.std.specs.Int.{bit_at}
 use Rattle.std.proofs.lemmas.Bool.{cases_lt}
 use Rattle.game_rules.proofs.Common.{Grid, IsBoard, is_on, stone_at, towards, stones_towards}
@@ -10,8 +10,7 @@ use Rattle.game_rules.specs.declared.Point.{Point}
 use Rattle.game_rules.specs.declared.Way.{Way}
 use Rattle.game_rules.specs.declared.Way.TheVariants.{Ahead, Behind}
 use Rattle.game_rules.proofs.Runs.{Leads, ahead_is, behind_is}
-use Rattle.stone_board.specs.Lines.{line_of, place_on, place_towards, places_left, TellsLine}
-use Rattle.stone_board.specs.Walks.{steps_left}
+use Rattle.stone_board.proofs.Common.{line_of, place_on, place_towards, places_left, TellsLine, steps_left}
 use Rattle.stone_board.proofs.LineBits.{board-near}
 use Rattle.stone_board.proofs.LineStones.{along-places, place_low}
 use Rattle.stone_board.proofs.Strides.{step_on, past_none}

@@ -1,6 +1,5 @@
 -- What stands at steps along an axis.
-use Rattle.std.proofs.Common.{◌≡◌, true, refl, sym, ap, ◌∙◌}
-use Rattle.std.specs.Prelude.{Option, Some, None}
+use Rattle.std.proofs.Common.{◌≡◌, true, refl, sym, ap, ◌∙◌, Option, Some, None}
 use Rattle.game_rules.proofs.Common.{Grid, is_on, is_empty, is_line_three_at, run_end}
 use Rattle.game_rules.specs.declared.Point.{Point}
 use Rattle.game_rules.specs.declared.RuleKind.{RuleKind}
@@ -9,7 +8,7 @@ use Rattle.game_rules.specs.declared.Axis.{Axis}
 use Rattle.game_rules.specs.declared.Way.{Way}
 use Rattle.game_rules.proofs.Boards.{kept_by, kept_empty_by}
 use Rattle.game_rules.proofs.Threes.{kept_three_by}
-use Rattle.stone_board.specs.Steps.{kept_on, kept_empty}
+use Rattle.stone_board.proofs.Common.{kept_on, kept_empty}
 
 pub kept-Some : (b : Grid) (o : Option Point) (q : Point) → kept_on b o ≡ Some q → (o ≡ Some q) × (is_on b q ≡ true)
 kept-Some b None q h = cc

@@ -1,17 +1,14 @@
 -- The replies that are counted and not walked: the points of a board, taken apart into those that are listed, one more, and
 -- the others, and what each of the others is.
-use Rattle.std.proofs.Common.{◌≡◌, ℕ, zero, suc, ◌+◌, ◌*◌, ◌<◌, ◌≤◌, Bool, true, false, cond, ◌&&◌, ◌||◌, not, List, [], ◌∷◌, length}
-use Rattle.std.proofs.Common.{drop, refl, sym, ap, subst, ◌∙◌, arith, nat_eq, eq-eqb, drop-cons, rules}
-use Rattle.std.specs.Prelude.{Some, None}
-use Rattle.std.specs.List.{All, count_by, sum_by, list_any, list_all, flat_map, range_with_len}
+use Rattle.std.proofs.Common.{◌≡◌, ℕ, zero, suc, ◌+◌, ◌*◌, ◌<◌, ◌≤◌, Bool, true, false, cond, ◌&&◌, ◌||◌}
+use Rattle.std.proofs.Common.{not, List, [], ◌∷◌, length, drop, refl, sym, ap, subst, ◌∙◌, arith, nat_eq, eq-eqb, drop-cons}
+use Rattle.std.proofs.Common.{rules, Some, None, All, count_by, sum_by, flat_map}
+use Rattle.std.specs.List.{list_any, list_all, range_with_len}
 use Rattle.std.proofs.lemmas.Bool.{lt-ltb}
 use Rattle.std.proofs.lemmas.List.{drop_all}
 use Rattle.std.proofs.lemmas.List.Sums.{sum_by-cons, sum_by-append}
-use Rattle.game_rules.specs.Grid.{Grid, IsBoard, is_on, is_empty, is_empty_cell, cell_at, row_from, points_of, empties_of}
-use Rattle.game_rules.specs.Shapes.{is_same_point}
-use Rattle.game_rules.specs.Points.{precedes}
-use Rattle.game_rules.specs.Games.{has_five}
-use Rattle.game_rules.specs.Play.{IsPosition, outcome, after, mover, has_fouls, goes_on}
+use Rattle.game_rules.proofs.Common.{Grid, IsBoard, is_on, is_empty, is_empty_cell, cell_at, row_from, points_of, empties_of, is_same_point}
+use Rattle.game_rules.proofs.Common.{precedes, has_five, IsPosition, outcome, after, mover, has_fouls, goes_on}
 use Rattle.game_rules.specs.declared.RuleKind.{RuleKind}
 use Rattle.game_rules.specs.declared.Outcome.{Outcome}
 use Rattle.game_rules.specs.declared.Outcome.TheVariants.{Refused, Wins, Fouls, Draws, GoesOn}
@@ -28,12 +25,11 @@ use Rattle.game_rules.proofs.Tests.{eq_from, or_none, or_right}
 use Rattle.strategy_graph.specs.declared.Reply.{Reply}
 use Rattle.strategy_graph.specs.declared.Rest.{Rest}
 use Rattle.strategy_graph.specs.declared.Node.{Node}
-use Rattle.strategy_graph.specs.Tables.{Answers, answer, is_rising, listed_node, rest_node}
-use Rattle.strategy_graph.specs.Acceptance.{Accepted, AcceptedStart, Meets}
-use Rattle.strategy_graph.specs.Arrivals.{arrivals, arrivals_after, arrivals_at}
+use Rattle.strategy_graph.proofs.Common.{Answers, answer, is_rising, listed_node, rest_node, Accepted, AcceptedStart, Meets, arrivals}
+use Rattle.strategy_graph.proofs.Common.{arrivals_after, arrivals_at}
 use Rattle.strategy_graph.proofs.Steps.{arrivals-answer, arrivals-stops, met-answer, met-foul, met-no_move}
 use Rattle.strategy_checker.specs.declared.outlook.Sure.{Sure}
-use Rattle.strategy_checker.specs.Walks.{IsSure, is_apart}
+use Rattle.strategy_checker.proofs.Common.{IsSure, is_apart}
 use Rattle.strategy_checker.proofs.Sureness.{sure-accepted}
 use Rattle.strategy_checker.proofs.Walking.{drop-none}
 

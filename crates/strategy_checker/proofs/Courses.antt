@@ -1,17 +1,10 @@
 -- The courses over replies: what they owe is what all replies owe.
-use Rattle.std.proofs.Common.{◌≡◌, ℕ, zero, suc, ◌+◌, ◌<◌, Bool, true, false, cond, List, [], ◌∷◌, ◌++◌, map, refl, sym, ap, subst, ◌∙◌}
-use Rattle.std.proofs.Common.{arith, rules}
-use Rattle.std.proofs.Common.{inl, inr}
-use Rattle.std.specs.Prelude.{Some, slice_get}
-use Rattle.std.specs.List.{All, sum_by, list_all, find}
-use Rattle.std.specs.Option.{option_map}
+use Rattle.std.proofs.Common.{◌≡◌, ℕ, zero, suc, ◌+◌, ◌<◌, Bool, true, false, cond, List, [], ◌∷◌, ◌++◌, map}
+use Rattle.std.proofs.Common.{refl, sym, ap, subst, ◌∙◌, arith, rules, inl, inr, Some, slice_get, All, sum_by, find, option_map}
+use Rattle.std.specs.List.{list_all}
 use Rattle.std.proofs.lemmas.List.Elements.{All-cons, All-nil}
 use Rattle.std.proofs.lemmas.List.Sums.{sum_by-cons, sum_by-append}
-use Rattle.game_rules.specs.Grid.{Grid, IsBoard, empties_of, points_of}
-use Rattle.game_rules.specs.Games.{has_five}
-use Rattle.game_rules.specs.Play.{IsPosition, mover}
-use Rattle.game_rules.specs.Points.{precedes}
-use Rattle.game_rules.specs.Shapes.{is_same_point}
+use Rattle.game_rules.proofs.Common.{Grid, IsBoard, empties_of, points_of, has_five, IsPosition, mover, precedes, is_same_point}
 use Rattle.game_rules.specs.declared.Point.{Point}
 use Rattle.game_rules.specs.declared.RuleKind.{RuleKind}
 use Rattle.game_rules.proofs.Boards.{and_left, and_right}
@@ -19,13 +12,10 @@ use Rattle.game_rules.proofs.Points.{is_same_point-itself, precedes-differs}
 use Rattle.strategy_graph.specs.declared.Node.{Node}
 use Rattle.strategy_graph.specs.declared.Reply.{Reply}
 use Rattle.strategy_graph.specs.declared.Rest.{Rest}
-use Rattle.strategy_graph.specs.Tables.{Answers, is_rising, listed_node, rest_node}
-use Rattle.strategy_graph.specs.Acceptance.{Accepted, Meets}
-use Rattle.strategy_graph.specs.Arrivals.{arrivals, arrivals_after, arrivals_at}
+use Rattle.strategy_graph.proofs.Common.{Answers, is_rising, listed_node, rest_node, Accepted, Meets, arrivals, arrivals_after, arrivals_at}
 use Rattle.strategy_checker.specs.declared.outlook.Sure.{Sure}
 use Rattle.strategy_checker.specs.declared.walk.Walk.{Walk}
-use Rattle.strategy_checker.specs.Walks.{IsReady, IsSure}
-use Rattle.strategy_checker.specs.Meetings.{AreMet, IsWhole, Owes, apart_points, owed}
+use Rattle.strategy_checker.proofs.Common.{IsReady, IsSure, AreMet, IsWhole, Owes, apart_points, owed}
 use Rattle.strategy_checker.proofs.Counted.{arrivals-listed, is_listed, met-listed, met-most}
 use Rattle.strategy_checker.proofs.Owing.{owes-all}
 

@@ -1,21 +1,17 @@
 -- An open node: what is left of its replies, and what comes of it. And the nodes that wait for one another.
-use Rattle.std.proofs.Common.{◌≡◌, ℕ, ◌+◌, ◌<◌, List, [], ◌∷◌, ◌++◌, reverse, refl, sym, ap, ◌∙◌, arith, false}
-use Rattle.std.specs.Prelude.{Option, Some, None, Result, Ok, Err, slice_get}
-use Rattle.std.proofs.Common.{inl, inr, rules}
+use Rattle.std.proofs.Common.{◌≡◌, ℕ, ◌+◌, ◌<◌, List, [], ◌∷◌, ◌++◌, reverse, refl, sym, ap, ◌∙◌, arith}
+use Rattle.std.proofs.Common.{false, Option, Some, None, Result, Ok, Err, slice_get, inl, inr, rules}
 use Rattle.std.proofs.lemmas.List.{reverse-append}
 use Rattle.std.proofs.lemmas.List.Elements.{All-cons}
-use Rattle.game_rules.specs.Grid.{Grid, lift}
-use Rattle.game_rules.specs.Play.{IsPosition, after, outcome}
+use Rattle.game_rules.proofs.Common.{Grid, lift, IsPosition, after, outcome}
 use Rattle.game_rules.specs.declared.Point.{Point}
 use Rattle.game_rules.specs.declared.RuleKind.{RuleKind}
 use Rattle.game_rules.specs.declared.Outcome.{Outcome}
 use Rattle.game_rules.specs.declared.Outcome.TheVariants.{GoesOn}
 use Rattle.strategy_graph.specs.declared.Node.{Node}
 use Rattle.strategy_graph.specs.declared.Why.{Why}
-use Rattle.strategy_graph.specs.Tables.{Answers, IsTable, answer, answers_of, is_winning}
-use Rattle.strategy_graph.specs.Acceptance.{Accepted, AcceptedStart, Meets}
-use Rattle.strategy_graph.specs.Arrivals.{arrivals, arrivals_after, arrivals_at}
-use Rattle.strategy_graph.specs.Leads.{LeadsStart, attack_fault}
+use Rattle.strategy_graph.proofs.Common.{Answers, IsTable, answer, answers_of, is_winning, Accepted, AcceptedStart, Meets, arrivals}
+use Rattle.strategy_graph.proofs.Common.{arrivals_after, arrivals_at, LeadsStart, attack_fault}
 use Rattle.strategy_graph.proofs.Filling.{IsTable-lower}
 use Rattle.strategy_graph.proofs.Steps.{accepted-by-replies, arrivals-by-replies, arrivals-answer, met-all, met-answer, leads-answer}
 use Rattle.game_rules.proofs.Undo.{lift_back}
@@ -24,9 +20,8 @@ use Rattle.strategy_checker.specs.declared.walk.Stop.TheVariants.{Fault, Spent, 
 use Rattle.strategy_checker.specs.declared.walk.Stage.{Stage}
 use Rattle.strategy_checker.specs.declared.walk.Walk.{Walk}
 use Rattle.strategy_checker.specs.declared.meeting.Meeting.{Meeting}
-use Rattle.strategy_checker.specs.Walks.{IsNoted, IsOutlook, IsReady, Stopped}
-use Rattle.strategy_checker.specs.Meetings.{AreMet, Entered, Handed, IsStage, Owes, Settled, Stops, Under, Waits, WentOn}
-use Rattle.strategy_checker.specs.Meetings.{all_to_ask, left_at, owed}
+use Rattle.strategy_checker.proofs.Common.{IsNoted, IsOutlook, IsReady, Stopped, AreMet, Entered, Handed, IsStage, Owes, Settled, Stops}
+use Rattle.strategy_checker.proofs.Common.{Under, Waits, WentOn, all_to_ask, left_at, owed}
 use Rattle.strategy_checker.proofs.Owing.{owed-cons}
 use Rattle.strategy_checker.proofs.Walking.{attack-stops, attack-then-leads}
 

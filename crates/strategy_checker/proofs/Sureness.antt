@@ -1,13 +1,10 @@
 -- A node that is sure wins after each reply that goes on elsewhere: its attack stays a five point.
 use Rattle.std.proofs.Common.{◌≡◌, ℕ, ◌<◌, Bool, true, false, refl, sym, ap, subst, ◌∙◌, arith, List, nat_eq, rules}
-use Rattle.std.specs.Prelude.{Option, Some, None, IfSome, slice_get}
-use Rattle.std.specs.Option.{option_map}
+use Rattle.std.proofs.Common.{Option, Some, None, IfSome, slice_get, option_map}
 use Rattle.std.proofs.lemmas.Bool.Decides.{nat_tests}
 use Rattle.std.proofs.lemmas.Bool.{not-true}
-use Rattle.game_rules.specs.Grid.{Grid, holds, lift, empties_of}
-use Rattle.game_rules.specs.Games.{five_points, has_five}
-use Rattle.game_rules.specs.Shapes.{five}
-use Rattle.game_rules.specs.Play.{IsPosition, outcome, mover, other, after, has_fouls}
+use Rattle.game_rules.proofs.Common.{Grid, holds, lift, empties_of, five_points, has_five, five, IsPosition, outcome, mover, other, after}
+use Rattle.game_rules.proofs.Common.{has_fouls}
 use Rattle.game_rules.specs.declared.RuleKind.{RuleKind}
 use Rattle.game_rules.specs.declared.Outcome.TheVariants.{Wins, GoesOn}
 use Rattle.game_rules.specs.declared.Side.{Side}
@@ -22,12 +19,11 @@ use Rattle.row_shapes.specs.declared.fives.FivePoints.{FivePoints}
 use Rattle.row_shapes.specs.declared.fives.FivePoints.TheVariants.{None as NoPoint, One, Several}
 use Rattle.row_shapes.proofs.FiveLaws.{has_five-none, none-left as no-left, one-taken}
 use Rattle.strategy_graph.specs.declared.Node.{Node}
-use Rattle.strategy_graph.specs.Acceptance.{Accepted}
-use Rattle.strategy_graph.specs.Arrivals.{arrivals}
+use Rattle.strategy_graph.proofs.Common.{Accepted, arrivals}
 use Rattle.strategy_graph.proofs.Filling.{IsTable-lower}
 use Rattle.strategy_graph.proofs.Steps.{accepted-by-win, arrivals-one}
 use Rattle.strategy_checker.specs.declared.outlook.Sure.{Sure}
-use Rattle.strategy_checker.specs.Walks.{AreFives, HadNone, IsQuick, IsSure, TellsFives, fives_after, is_sure_after, leaves_none}
+use Rattle.strategy_checker.proofs.Common.{AreFives, HadNone, IsQuick, IsSure, TellsFives, fives_after, is_sure_after, leaves_none}
 
 module _ (rule : RuleKind) (t : List Node) (b : Grid) (q : Point) (lawful : IsPosition rule b) (on : outcome rule b q ≡ GoesOn) where
   -- a five point of the side that is not to move wins after a reply elsewhere

@@ -1,9 +1,7 @@
 -- A move played and taken back, arrivals that are taken, and faults.
-use Rattle.std.proofs.Common.{rules}
-use Rattle.std.proofs.Common.{◌≡◌, ℕ, zero, suc, ◌+◌, ◌≤◌, false, drop, List, [], ◌∷◌, ◌++◌, sym, ap, ◌∙◌, arith}
-use Rattle.std.specs.Prelude.{Some, slice_get, Result, Ok, Err}
-use Rattle.game_rules.specs.Grid.{Grid, is_empty}
-use Rattle.game_rules.specs.Play.{IsPosition, outcome, after}
+use Rattle.std.proofs.Common.{rules, ◌≡◌, ℕ, zero, suc, ◌+◌, ◌≤◌, false, drop, List, [], ◌∷◌, ◌++◌, sym, ap}
+use Rattle.std.proofs.Common.{◌∙◌, arith, Some, slice_get, Result, Ok, Err}
+use Rattle.game_rules.proofs.Common.{Grid, is_empty, IsPosition, outcome, after}
 use Rattle.game_rules.specs.declared.RuleKind.{RuleKind}
 use Rattle.game_rules.specs.declared.Outcome.{Outcome}
 use Rattle.game_rules.specs.declared.Outcome.TheVariants.{GoesOn}
@@ -12,14 +10,12 @@ use Rattle.game_rules.proofs.Points.{taken_refused}
 use Rattle.game_rules.proofs.Positions.{IsPosition-after}
 use Rattle.strategy_graph.specs.declared.Node.{Node}
 use Rattle.strategy_graph.specs.declared.Why.{Why}
-use Rattle.strategy_graph.specs.Tables.{Answers, answers_of, is_winning}
-use Rattle.strategy_graph.specs.Arrivals.{arrivals}
-use Rattle.strategy_graph.specs.Leads.{attack_fault, Leads, LeadsStart}
+use Rattle.strategy_graph.proofs.Common.{Answers, answers_of, is_winning, arrivals, attack_fault, Leads, LeadsStart}
 use Rattle.strategy_graph.proofs.Steps.{arrivals-stops, leads-attack, leads-reply, met-no_move}
 use Rattle.strategy_checker.specs.declared.walk.Stop.{Stop}
 use Rattle.strategy_checker.specs.declared.walk.Stop.TheVariants.{Fault}
 use Rattle.strategy_checker.specs.declared.walk.Walk.{Walk}
-use Rattle.strategy_checker.specs.Walks.{IsNoted, IsReady, IsTrueMemo, Takes, Walked, WalkedNode, WalkedReply}
+use Rattle.strategy_checker.proofs.Common.{IsNoted, IsReady, IsTrueMemo, Takes, Walked, WalkedNode, WalkedReply}
 
 -- ---- a move that goes on, played and taken back
 

@@ -1,9 +1,9 @@
 -- The places of numbers in an order, and nodes with these in place of the numbers. The table that is made of the nodes that some roots
 -- reach, in the order in which walks complete them.
-use Rattle.std.proofs.Common.{◌≡◌, ◌≢◌, ℕ, zero, suc, ◌+◌, ◌<◌, ◌≤◌, Bool, true, false, cond, not, ◌||◌, ◌==◌, List, [], ◌∷◌, ◌++◌, length}
-use Rattle.std.proofs.Common.{rules}
-use Rattle.std.proofs.Common.{take, get_or, refl, sym, ap, subst, ◌∙◌, ◌⊎◌, inl, inr, arith, length-append, one-add, Some}
-use Rattle.std.proofs.Common.{slice_get, replicate, Contains, map, fold, All}
+use Rattle.std.proofs.Common.{◌≡◌, ◌≢◌, ℕ, zero, suc, ◌+◌, ◌<◌, ◌≤◌, Bool, true, false, cond, not, ◌||◌}
+use Rattle.std.proofs.Common.{◌==◌, List, [], ◌∷◌, ◌++◌, length, rules, take, get_or, refl, sym, ap, subst, ◌∙◌}
+use Rattle.std.proofs.Common.{◌⊎◌, inl, inr, arith, length-append, one-add, Some, slice_get, replicate, Contains, map, fold, All}
+use Rattle.std.proofs.Common.{ltb-true, ltb-false}
 use Rattle.std.specs.List.{list_all, range_with_len}
 use Rattle.std.proofs.Math.ListN.{set, length-set}
 use Rattle.std.proofs.lemmas.List.{get_or-set_same, get_or-set_other, length-replicate, ext_get_or, get_or-map, length-map}
@@ -27,7 +27,6 @@ use Rattle.strategy_compiler.proofs.Common.{AnswersBriefly, Branches, StandsForA
 use Rattle.strategy_compiler.proofs.Walking.{among-at, walked-step, walks-itself, visited-above, within-enough, contains-map}
 use Rattle.strategy_compiler.proofs.Copying.{brief-renumbered, fold-copied, within-copied, reaches-copied, stands-copied, stands_all-copied}
 use Rattle.strategy_compiler.proofs.Standing.{completed-reached}
-use borrow.Author.Tests.{ltb-true, ltb-false}
 
 -- ---- places
 

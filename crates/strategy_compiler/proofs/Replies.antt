@@ -6,8 +6,7 @@ use Rattle.game_rules.specs.declared.RuleKind.{RuleKind}
 use Rattle.strategy_graph.specs.declared.Node.{Node}
 use Rattle.strategy_graph.specs.declared.Reply.{Reply}
 use Rattle.strategy_graph.proofs.Common.{NamesLower}
-use Rattle.strategy_compiler.proofs.Common.{GrowsBy}
-use Rattle.strategy_compiler.specs.Replies.{IsBeatenBy}
+use Rattle.strategy_compiler.proofs.Common.{GrowsBy, IsBeatenBy}
 use Rattle.strategy_compiler.proofs.Growing.{win-deep, win-stays}
 
 module _ (rule : RuleKind) (limit : ℕ) (b : Grid) (t u : List Node) (k : ℕ) (lower : NamesLower t) (grown : GrowsBy t u k) where

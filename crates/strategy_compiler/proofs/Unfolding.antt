@@ -19,9 +19,8 @@ use Rattle.strategy_graph.proofs.Common.{renumbered_rest, IsNode}
 use Rattle.strategy_graph.proofs.Naming.{slice_get-longer}
 use Rattle.strategy_graph.proofs.Filling.{IsTable-lower, names_below-more}
 use Rattle.strategy_graph.proofs.Copies.{Copies, renumbered-same}
-use Rattle.strategy_compiler.proofs.Common.{AreDifferent, IsCompiled}
-use Rattle.strategy_compiler.specs.Unfolded.{Unfolded, HoldMore, IsHeld, unfolded, unfolded_node, unfolded_nodes, unfolded_replies}
-use Rattle.strategy_compiler.specs.Unfolded.{unfolded_rest}
+use Rattle.strategy_compiler.proofs.Common.{AreDifferent, IsCompiled, Unfolded, HoldMore, IsHeld, unfolded, unfolded_node, unfolded_nodes}
+use Rattle.strategy_compiler.proofs.Common.{unfolded_replies, unfolded_rest}
 unfoldable use Rattle.strategy_compiler.specs.Unfolded.{unfolded_within}
 
 -- the replies that are listed, and the rest, pass where all that is named does

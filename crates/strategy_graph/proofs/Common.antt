@@ -5,8 +5,7 @@ use Rattle.strategy_graph.specs.declared.Node.{Node}
 use Rattle.strategy_graph.specs.declared.Rest.{Rest}
 pub use Rattle.strategy_graph.specs.Acceptance.{Accepted, AcceptedNode, AcceptedStart, Meets}
 unfoldable pub use Rattle.strategy_graph.specs.Acceptance.{AcceptedWithin}
-pub use Rattle.strategy_graph.specs.Arrivals.{arrivals, arrivals_after, arrivals_at, arrivals_behind}
-pub use Rattle.strategy_graph.specs.Arrivals.{start_arrivals}
+pub use Rattle.strategy_graph.specs.Arrivals.{arrivals, arrivals_after, arrivals_at, arrivals_behind, start_arrivals}
 unfoldable pub use Rattle.strategy_graph.specs.Arrivals.{arrivals_within}
 pub use Rattle.strategy_graph.specs.Games.{Drawn, End, EndsWell, IllegalReply, Lost, NoMove, Open, Won, after_attack, after_reply}
 pub use Rattle.strategy_graph.specs.Games.{attacks_at, end_at, if_node, one_later, points_from, points_on}
@@ -15,10 +14,10 @@ pub use Rattle.strategy_graph.specs.Laws.{AnswersSaySame, RootSaysSame, SaysSame
 pub use Rattle.strategy_graph.specs.Leads.{AtNode, LeadsStart, ReplyLeads, attack_fault, reply_fault}
 unfoldable pub use Rattle.strategy_graph.specs.Leads.{Leads}
 pub use Rattle.strategy_graph.specs.Renumbered.{renumbered_answers, renumbered_node, renumbered_reply, renumbered_rest, renumbered_root}
-pub use Rattle.strategy_graph.specs.Roots.{AcceptedRoot, LeadsRoot, RootWins, root_arrivals, root_below, root_depth}
+pub use Rattle.strategy_graph.specs.Roots.{AcceptedRoot, LeadsRoot, RootOnBoard, RootWins, root_arrivals, root_below, root_depth}
 pub use Rattle.strategy_graph.specs.Same.{same_replies, same_replies_decides}
-pub use Rattle.strategy_graph.specs.Tables.{Answers, AreDepths, IsNode, IsTable, IsTableWithDepths, NamesLower, NamesOnBoard, RepliesOn}
-pub use Rattle.strategy_graph.specs.Tables.{TableOnBoard, answer, answer_at, answers_of, depth, greatest, is_rising, is_winning}
+pub use Rattle.strategy_graph.specs.Tables.{Answers, AreDepths, IsNode, IsStart, IsTable, IsTableWithDepths, NamesLower, NamesOnBoard}
+pub use Rattle.strategy_graph.specs.Tables.{RepliesOn, TableOnBoard, answer, answer_at, answers_of, depth, greatest, is_rising, is_winning}
 pub use Rattle.strategy_graph.specs.Tables.{listed_node, named, names_below, rest_node, start_depth}
 unfoldable pub use Rattle.strategy_graph.specs.Tables.{depth_within}
 

@@ -1,23 +1,19 @@
 -- The counts of a drill: each table of a win may be held, each game is won, a number has one drill; and what the calls say of a position.
-use Rattle.std.specs.Prelude.{Option, Some, None, ◌≢◌}
-use Rattle.std.specs.List.{All, find, range_with_len}
-use Rattle.std.proofs.Common.{◌≡◌, ◌⊎◌, inl, inr, refl, sym, ap, subst, ◌∙◌, ℕ, zero, suc, ◌+◌, ◌*◌, ◌<◌, ◌≤◌, Bool, true, false, cond}
-use Rattle.std.proofs.Common.{nat_le, List, [], ◌∷◌, length, add-one, arith, ◌++◌}
+use Rattle.std.proofs.Common.{Option, Some, None, ◌≢◌, All, find, ◌≡◌, ◌⊎◌, inl, inr, refl, sym, ap, subst, ◌∙◌}
+use Rattle.std.proofs.Common.{ℕ, zero, suc, ◌+◌, ◌*◌, ◌<◌, ◌≤◌, Bool, true, false, cond, nat_le, List, [], ◌∷◌}
+use Rattle.std.proofs.Common.{length, add-one, arith, ◌++◌}
+use Rattle.std.specs.List.{range_with_len}
 use Rattle.std.proofs.lemmas.Bool.{cases_lt, lt-ltb}
 use Rattle.std.proofs.lemmas.Bool.Decides.{nat_tests}
-use Rattle.game_rules.specs.Grid.{Grid}
-use Rattle.game_rules.specs.Play.{IsPosition, outcome, after}
-use Rattle.game_rules.specs.Games.{wins_by_fours}
+use Rattle.game_rules.proofs.Common.{Grid, IsPosition, outcome, after, wins_by_fours}
 use Rattle.game_rules.specs.declared.RuleKind.{RuleKind}
 use Rattle.game_rules.specs.declared.Outcome.TheVariants.{GoesOn}
 use Rattle.game_rules.specs.declared.Point.{Point}
 use Rattle.strategy_graph.specs.declared.Node.{Node}
 use Rattle.strategy_graph.specs.declared.roots.Root.TheVariants.{Attack}
-use Rattle.strategy_graph.specs.Acceptance.{Accepted}
-use Rattle.strategy_graph.specs.Arrivals.{arrivals}
-use Rattle.strategy_graph.specs.Roots.{root_below}
+use Rattle.strategy_graph.proofs.Common.{Accepted, arrivals, root_below}
 use Rattle.strategy_graph.proofs.Following.{accepted-in_table}
-use Rattle.strategy_compiler.specs.Walks.{IsTableOf, last}
+use Rattle.strategy_compiler.proofs.Common.{IsTableOf, last}
 use Rattle.strategy_compiler.proofs.Unique.{one-table}
 use Rattle.strategy_checker.specs.HeldRoots.{HeldTable, IsHeldRoot, IsHeld}
 use Rattle.strategy_checker.specs.declared.held.HeldRoot.{HeldRoot}
@@ -35,11 +31,10 @@ use Rattle.strength_drill.specs.declared.counts.Counts.{Counts}
 use Rattle.strength_drill.specs.declared.drill.TheConstants.{DEPTH, BUDGET}
 use Rattle.strength_drill.specs.declared.TheConstants.{POSITIONS}
 use Rattle.strength_drill.specs.declared.positions.TheConstants.{SIDE, DRAWN_POINTS}
-use Rattle.strength_drill.specs.Draws.{next_number, drawn, number_after, position_drawn, rule_at}
-use Rattle.strength_drill.specs.DrillGames.{held_at, position_lines, move_said, drawn_move, told_all, state_begun, is_ended, after_turns}
-use Rattle.strength_drill.specs.DrillGames.{moves_of_brain, is_won, IsPlayedOut, IsGamePlayed}
-use Rattle.strength_drill.specs.Counts.{Found, WinIn, NoWin, OverBudget, found_by, found_within, no_counts, together, IsHoldable, PlaysGame}
-use Rattle.strength_drill.specs.Counts.{IsNotHeld, ComesOf, IsShare, AreCounts, IsCounted, AreOnlyCounts, AreWithin}
+use Rattle.strength_drill.proofs.Common.{next_number, drawn, number_after, position_drawn, rule_at, held_at, position_lines, move_said}
+use Rattle.strength_drill.proofs.Common.{drawn_move, told_all, state_begun, is_ended, after_turns, moves_of_brain, is_won, IsPlayedOut}
+use Rattle.strength_drill.proofs.Common.{IsGamePlayed, Found, WinIn, NoWin, OverBudget, found_by, found_within, no_counts, together}
+use Rattle.strength_drill.proofs.Common.{IsHoldable, PlaysGame, IsNotHeld, ComesOf, IsShare, AreCounts, IsCounted, AreOnlyCounts, AreWithin}
 use Rattle.strength_drill.proofs.DrillMaking.{board-wide, board-high, board-lawful}
 use Rattle.strength_drill.proofs.DrillTurns.{IsOver, attacks, over-now, ended-now, going-now}
 use Rattle.strength_drill.proofs.DrillCourse.{IsOpened, opened, IsAtTurn, turn-none, course-first, outcome-at, met, then_state, course-next}

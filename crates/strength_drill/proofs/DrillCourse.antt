@@ -1,11 +1,9 @@
 -- A game of the drill as it goes: its first move by the table, the state of the brain after so many turns, and how the game ends.
-use Rattle.std.specs.Prelude.{◌≢◌, Some, None}
-use Rattle.std.proofs.Common.{◌≡◌, refl, sym, ap, subst, ◌∙◌, ℕ, ◌*◌, ◌≤◌, [], ◌∷◌, length, arith, ◌⊎◌, inl, inr, ◌+◌, ◌<◌, Bool, true}
-use Rattle.std.proofs.Common.{false, add-one}
+use Rattle.std.proofs.Common.{◌≢◌, Some, None, ◌≡◌, refl, sym, ap, subst, ◌∙◌, ℕ, ◌*◌, ◌≤◌, [], ◌∷◌}
+use Rattle.std.proofs.Common.{length, arith, ◌⊎◌, inl, inr, ◌+◌, ◌<◌, Bool, true, false, add-one}
 use Rattle.std.proofs.lemmas.List.Sums.{count_by-le-length}
 use Rattle.std.proofs.lemmas.Bool.{cases_lt}
-use Rattle.game_rules.specs.Grid.{Grid, is_empty_cell, empties_of, points_of, is_empty}
-use Rattle.game_rules.specs.Play.{IsPosition, mover, outcome, after}
+use Rattle.game_rules.proofs.Common.{Grid, is_empty_cell, empties_of, points_of, is_empty, IsPosition, mover, outcome, after}
 use Rattle.game_rules.specs.declared.RuleKind.{RuleKind}
 use Rattle.game_rules.specs.declared.Outcome.TheVariants.{Wins as WinsNow, GoesOn}
 use Rattle.game_rules.specs.declared.Point.{Point}
@@ -29,9 +27,8 @@ use Rattle.brain_session.proofs.LawfulStates.{IsKept, next-lawful, new-lawful}
 use Rattle.brain_session.proofs.LegalMoves.{plain-is_empty}
 use Rattle.brain_session.proofs.BatchStones.{stones_at}
 use Rattle.strength_drill.specs.declared.positions.TheConstants.{SIDE}
-use Rattle.strength_drill.specs.DrillGames.{wish_of, position_lines, told_all, state_begun, board_now, is_ended, move_said, says_foul}
-use Rattle.strength_drill.specs.DrillGames.{board_point, drawn_move, drawn_turn, after_turns, IsGamePlayed}
-use Rattle.strength_drill.specs.Draws.{next_number, drawn, number_after}
+use Rattle.strength_drill.proofs.Common.{wish_of, position_lines, told_all, state_begun, board_now, is_ended, move_said, says_foul}
+use Rattle.strength_drill.proofs.Common.{board_point, drawn_move, drawn_turn, after_turns, IsGamePlayed, next_number, drawn, number_after}
 use Rattle.strength_drill.proofs.DrillTelling.{batch_read, told-position, told-kept, wish-rule, begins-held}
 use Rattle.strength_drill.proofs.DrillTurns.{IsPlaying, IsOver, IsFouled, IsAnswered, attacks, over-now, going-now, board-then, lawful-then}
 use Rattle.strength_drill.proofs.DrillTurns.{reply-met}

@@ -1,11 +1,9 @@
 -- A position of the drill, draw by draw.
-use Rattle.std.proofs.Common.{◌≡◌, refl, sym, ap, ◌∙◌, ℕ, zero, suc, ◌+◌, ◌*◌, ◌/◌, ◌^◌, ◌<◌, ◌≤◌, Bool, true, false, cond, ◌&&◌, nat_lt}
-use Rattle.std.proofs.Common.{add-one, arith}
-use Rattle.std.specs.Prelude.{◌≢◌}
+use Rattle.std.proofs.Common.{◌≡◌, refl, sym, ap, ◌∙◌, ℕ, zero, suc, ◌+◌, ◌*◌, ◌/◌, ◌^◌, ◌<◌, ◌≤◌}
+use Rattle.std.proofs.Common.{Bool, true, false, cond, ◌&&◌, nat_lt, add-one, arith, ◌≢◌}
 use Rattle.std.proofs.lemmas.Bool.Decides.{nat_tests}
 use Rattle.std.proofs.lemmas.List.{length-replicate}
-use Rattle.game_rules.specs.Grid.{Grid, IsBoard}
-use Rattle.game_rules.specs.Play.{IsPosition, outcome, after, goes_on}
+use Rattle.game_rules.proofs.Common.{Grid, IsBoard, IsPosition, outcome, after, goes_on}
 use Rattle.game_rules.specs.declared.RuleKind.{RuleKind}
 use Rattle.game_rules.specs.declared.Cell.TheVariants.{Empty}
 use Rattle.game_rules.specs.declared.Outcome.{Outcome}
@@ -15,7 +13,7 @@ use Rattle.game_rules.proofs.Positions.{IsPosition-after}
 use Rattle.brain_session.specs.States.{empty_board}
 use Rattle.brain_session.proofs.SessionBoards.{empty-lawful}
 use Rattle.strength_drill.specs.declared.positions.TheConstants.{SIDE, MOST_STONES}
-use Rattle.strength_drill.specs.Draws.{next_number, number_after, draw_at, middle_point, all_stones, with_point, board_drawn}
+use Rattle.strength_drill.proofs.Common.{next_number, number_after, draw_at, middle_point, all_stones, with_point, board_drawn}
 
 -- ---- one draw
 

@@ -1,14 +1,12 @@
 -- A brain is told a position for which it holds a table: the stones are read one by one and make its board, and at DONE a held game begins.
-use Rattle.std.specs.Prelude.{nat_lt, Some, None}
-use Rattle.std.specs.List.{filter, list_any, count_by}
+use Rattle.std.proofs.Common.{nat_lt, Some, None, filter, count_by, ◌≡◌, refl, sym, ap, subst, ◌∙◌, ℕ, ◌+◌, ◌*◌}
+use Rattle.std.proofs.Common.{◌≤◌, Bool, true, false, cond, not, ◌&&◌, ◌||◌, List, [], ◌∷◌, ◌++◌, map, arith}
+use Rattle.std.proofs.Common.{append_assoc, eqb}
+use Rattle.std.specs.List.{list_any}
 use Rattle.std.specs.Option.{option_or}
-use Rattle.std.proofs.Common.{◌≡◌, refl, sym, ap, subst, ◌∙◌, ℕ, ◌+◌, ◌*◌, ◌≤◌, Bool, true, false, cond, not, ◌&&◌, ◌||◌, List, [], ◌∷◌}
-use Rattle.std.proofs.Common.{◌++◌, map, arith, append_assoc, eqb}
 use Rattle.std.proofs.lemmas.Bool.{or_right}
 use Rattle.std.proofs.lemmas.List.{append-nil}
-use Rattle.game_rules.specs.Grid.{Grid, is_on, is_empty, holds, points_of, stones_of}
-use Rattle.game_rules.specs.Shapes.{is_same_point}
-use Rattle.game_rules.specs.Play.{mover, other, IsPosition}
+use Rattle.game_rules.proofs.Common.{Grid, is_on, is_empty, holds, points_of, stones_of, is_same_point, mover, other, IsPosition}
 use Rattle.game_rules.specs.declared.Point.{Point}
 use Rattle.game_rules.specs.declared.RuleKind.{RuleKind}
 use Rattle.game_rules.specs.declared.RuleKind.TheVariants.{Freestyle, Exact, Renju}
@@ -34,7 +32,7 @@ use Rattle.brain_session.proofs.LawfulStates.{BatchFits, IsKept, next-lawful, ne
 use Rattle.brain_session.proofs.BatchStones.{stone_at, stones_at, Before, before-none, before-more, before-push, before-apart}
 use Rattle.brain_session.proofs.BatchStones.{same_rule-itself, next, stones-make}
 use Rattle.strength_drill.specs.declared.positions.TheConstants.{SIDE}
-use Rattle.strength_drill.specs.DrillGames.{wish_of, stone_line, stone_lines, position_lines, told_all}
+use Rattle.strength_drill.proofs.Common.{wish_of, stone_line, stone_lines, position_lines, told_all}
 
 -- ---- boards with the same cells
 

@@ -1,10 +1,8 @@
 -- A game of the drill, move by move: what the state of the brain says once it made a move by the held table, and after each TURN.
-use Rattle.std.proofs.Common.{◌≡◌, ◌⊎◌, inl, inr, refl, sym, ap, subst, ◌∙◌, ℕ, ◌+◌, ◌*◌, ◌≤◌, Bool, true, false, cond, not, ◌&&◌, ◌∷◌}
-use Rattle.std.proofs.Common.{arith}
-use Rattle.std.specs.Prelude.{Option, Some, IsSomeAnd}
-use Rattle.game_rules.specs.Grid.{Grid, is_empty, empties_of}
-use Rattle.game_rules.specs.Play.{IsPosition, outcome, mover, after, goes_on, is_foul, is_win}
-use Rattle.game_rules.specs.Games.{WinsOr, LosesOr}
+use Rattle.std.proofs.Common.{◌≡◌, ◌⊎◌, inl, inr, refl, sym, ap, subst, ◌∙◌, ℕ, ◌+◌, ◌*◌, ◌≤◌, Bool, true}
+use Rattle.std.proofs.Common.{false, cond, not, ◌&&◌, ◌∷◌, arith, Option, Some, IsSomeAnd}
+use Rattle.game_rules.proofs.Common.{Grid, is_empty, empties_of, IsPosition, outcome, mover, after, goes_on, is_foul, is_win, WinsOr}
+use Rattle.game_rules.proofs.Common.{LosesOr}
 use Rattle.game_rules.specs.declared.RuleKind.{RuleKind}
 use Rattle.game_rules.specs.declared.Foul.{Foul}
 use Rattle.game_rules.specs.declared.Side.{Side}
@@ -16,8 +14,7 @@ use Rattle.game_rules.proofs.Boards.{empties_of-put}
 use Rattle.game_rules.proofs.Positions.{GoesOn-empty}
 use Rattle.game_rules.proofs.Outcomes.{moved, wins_or_goes_on}
 use Rattle.strategy_graph.specs.declared.Node.{Node}
-use Rattle.strategy_graph.specs.Tables.{answers_of, answer, is_winning}
-use Rattle.strategy_graph.specs.Acceptance.{Meets, AcceptedWithin}
+use Rattle.strategy_graph.proofs.Common.{answers_of, answer, is_winning, Meets, AcceptedWithin}
 use Rattle.strategy_graph.proofs.Answering.{IsSomeAnd-elim}
 use Rattle.strategy_checker.specs.HeldRoots.{HeldTable}
 use Rattle.gomocup_text.specs.declared.Command.TheVariants.{Turn}
@@ -29,7 +26,7 @@ use Rattle.brain_session.specs.ChosenMoves.{Choice}
 use Rattle.brain_session.specs.Steps.{Step, rule_of, if_supported, same_side, with_move, move_row, row_of, with_choice, step_by, brain_step}
 use Rattle.brain_session.proofs.HeldSteps.{by_node, StandsIn, row_then, next_stands, lawful_then, turn_then, parts}
 use Rattle.strength_drill.specs.declared.positions.TheConstants.{SIDE}
-use Rattle.strength_drill.specs.DrillGames.{board_now, is_ended, moves_by, moves_of_brain, last_wins, is_won}
+use Rattle.strength_drill.proofs.Common.{board_now, is_ended, moves_by, moves_of_brain, last_wins, is_won}
 use Rattle.brain_session.proofs.FollowedGames.{other_side, state_in}
 
 -- The brain, which holds this, has made a move by the table in a game under the rule, with so many of its moves before; a game on a

@@ -1,5 +1,7 @@
 -- The laws of the drill. What is declared by `pub mod` the layers above may cite; the rest serves this crate alone.
 
+-- the words of the crate, in one place
+mod Common
 -- a position, draw by draw
 mod DrillMaking
 -- a brain that is told a position

@@ -1,18 +1,17 @@
 -- The nodes of a table, adopted one after the other: each is a copy under its new number, and is the same node. So what is held is
 -- what was held before, and the nodes of the table.
-use Rattle.std.proofs.Common.{◌≡◌, ◌⊎◌, inl, inr, ℕ, suc, ◌<◌, ◌≤◌, ◌+◌, true, List, [], ◌∷◌, ◌++◌, length, refl, sym, ap}
-use Rattle.std.proofs.Common.{subst, ◌∙◌, arith, Some, nat_lt, slice_get, slice_index, Contains, length-append, rules}
-use Rattle.std.proofs.Common.{append-nil, append_assoc, Result, Err}
+use Rattle.std.proofs.Common.{◌≡◌, ◌⊎◌, inl, inr, ℕ, suc, ◌<◌, ◌≤◌, ◌+◌, true, List, [], ◌∷◌, ◌++◌}
+use Rattle.std.proofs.Common.{length, refl, sym, ap, subst, ◌∙◌, arith, Some, nat_lt, slice_get, slice_index, Contains, length-append}
+use Rattle.std.proofs.Common.{rules, append-nil, append_assoc, Result, Err, ltb-true, lt-ltb}
 use Rattle.std.specs.Result.{IsErrAnd}
 use Rattle.std.specs.List.{AllByRecursion}
 use Rattle.std.proofs.lemmas.Bool.{cases_lt}
 use Rattle.std.proofs.lemmas.List.{get_or_append_left, get_or_push}
 use Rattle.std.proofs.lemmas.Option.{slice_get_within, same_Some}
-use borrow.Author.Tests.{ltb-true, lt-ltb}
 use Rattle.game_rules.specs.declared.TheConstants.{MAX_SIDE}
-use Rattle.game_rules.specs.Grid.{Grid}
+use Rattle.game_rules.proofs.Common.{Grid}
 use Rattle.game_rules.proofs.Tests.{all_get, all_push}
-use Rattle.position_files.specs.Answers.{NodeFits}
+use Rattle.position_files.proofs.Common.{NodeFits}
 use Rattle.position_files.proofs.Completions.{node_fits}
 use Rattle.position_files.proofs.SectionLaws.{nodes_on}
 use Rattle.strategy_graph.specs.declared.Node.{Node}
@@ -23,14 +22,13 @@ use Rattle.strategy_graph.proofs.Copies.{Copies}
 use Rattle.strategy_graph.proofs.Filling.{IsTable-lower, last_node, names_below-more}
 use Rattle.strategy_graph.proofs.Naming.{slice_get-longer}
 use Rattle.strategy_graph.proofs.Renumbering.{IsNode-renumbered, points-renumbered, renumbered-agree}
-use Rattle.strategy_compiler.proofs.Common.{IsCompiled, PutsIn}
+use Rattle.strategy_compiler.proofs.Common.{IsCompiled, PutsIn, Unfolded, IsHeld, HoldMore, unfolded}
 use Rattle.strategy_compiler.proofs.Unfolding.{node-inside, unfolded-copied, unfolded-longer, held-one_more, held-within}
-use Rattle.strategy_compiler.specs.Unfolded.{Unfolded, IsHeld, HoldMore, unfolded}
 use Rattle.strategy_compiler.specs.declared.compiler.CompileError.{CompileError}
 use Rattle.strategy_compiler.specs.declared.compiler.CompileError.TheVariants.{Full}
 use Rattle.table_book.specs.declared.binder.BindError.{BindError}
 use Rattle.table_book.specs.declared.binder.BindError.TheVariants.{Full as FullBook}
-use Rattle.table_book.specs.Binding.{AreNumbers, Stays, bind_error}
+use Rattle.table_book.proofs.Common.{AreNumbers, Stays, bind_error}
 
 -- what is known once the first i nodes of t are adopted
 pub record AdoptedUpTo (old t new : List Node) (numbers : List ℕ) (i : ℕ) : Type 0 where

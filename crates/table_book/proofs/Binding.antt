@@ -1,7 +1,7 @@
 -- Files that are bound into a book one after the other: what the book has of them stays as it grows.
-use Rattle.std.proofs.Common.{◌≡◌, ◌⊎◌, inl, inr, ◌↔◌, ℕ, zero, suc, ◌<◌, ◌≤◌, ◌+◌, List, [], ◌∷◌, ◌++◌, length, refl, sym, ap}
-use Rattle.std.proofs.Common.{subst, ◌∙◌, arith, Some, slice_get, Contains, length-append, append-nil, rules}
-use Rattle.std.proofs.Common.{append_assoc}
+use Rattle.std.proofs.Common.{◌≡◌, ◌⊎◌, inl, inr, ◌↔◌, ℕ, zero, suc, ◌<◌, ◌≤◌, ◌+◌, List, [], ◌∷◌}
+use Rattle.std.proofs.Common.{◌++◌, length, refl, sym, ap, subst, ◌∙◌, arith, Some, slice_get, Contains, length-append}
+use Rattle.std.proofs.Common.{append-nil, rules, append_assoc}
 use Rattle.std.specs.List.{AllByRecursion}
 use Rattle.std.proofs.lemmas.Bool.{cases_lt}
 use Rattle.std.proofs.lemmas.List.{map-append}
@@ -14,15 +14,13 @@ use Rattle.strategy_graph.specs.declared.roots.Root.{Root}
 use Rattle.strategy_graph.proofs.Common.{NamesLower}
 use Rattle.strategy_graph.proofs.Filling.{IsTable-lower}
 use Rattle.strategy_graph.proofs.Saying.{iff-then, root-grown}
-use Rattle.strategy_compiler.proofs.Common.{IsCompiled}
+use Rattle.strategy_compiler.proofs.Common.{IsCompiled, HoldMore, IsHeld, Unfolded, unfolded, unfolded_nodes}
 use Rattle.strategy_compiler.proofs.Unfolding.{answers-longer, held-within, unfolded-apart, unfolded-longer, unfolded_nodes-at}
 use Rattle.strategy_compiler.proofs.Unfolding.{unfolded_nodes-there}
-use Rattle.strategy_compiler.specs.Unfolded.{HoldMore, IsHeld, Unfolded, unfolded, unfolded_nodes}
 use Rattle.table_book.specs.declared.Book.{Book}
 use Rattle.table_book.specs.declared.Entry.{Entry}
-use Rattle.table_book.specs.Books.{EntryFits, EntryRootFits}
-use Rattle.table_book.specs.Binding.{AddsFile, AreEntriesOf, AreInOrder, HoldSame, IsBinding, IsBound, IsEntryOf}
-use Rattle.table_book.specs.Binding.{SameRoot, Stays, nodes_of, tables_of}
+use Rattle.table_book.proofs.Common.{EntryFits, EntryRootFits, AddsFile, AreEntriesOf, AreInOrder, HoldSame, IsBinding, IsBound, IsEntryOf}
+use Rattle.table_book.proofs.Common.{SameRoot, Stays, nodes_of, tables_of}
 use Rattle.table_book.proofs.Adopting.{among-one, among-two}
 use Rattle.table_book.proofs.Soundness.{root_fits-below}
 

@@ -1,13 +1,13 @@
 -- Where bytes leave the lines of books, and the first bad line of their texts.
-use Rattle.std.proofs.Common.{◌≡◌, ℕ, ◌+◌, ◌≤◌, refl, sym, ap, subst, ◌∙◌, arith, List, [], ◌∷◌, ◌++◌, length, map, take, drop}
-use Rattle.std.proofs.Common.{take-append-drop, replicate, get_or, inl, inr, None, codes, rules}
-use Rattle.std.specs.List.{AllByRecursion, flat_map}
+use Rattle.std.proofs.Common.{◌≡◌, ℕ, ◌+◌, ◌≤◌, refl, sym, ap, subst, ◌∙◌, arith, List, [], ◌∷◌, ◌++◌}
+use Rattle.std.proofs.Common.{length, map, take, drop, take-append-drop, replicate, get_or, inl, inr, None, codes, rules, flat_map}
+use Rattle.std.specs.List.{AllByRecursion}
 use Rattle.std.specs.Fmt.{decimal}
 use Rattle.std.proofs.lemmas.Bool.{cases_lt}
 use Rattle.std.proofs.lemmas.Fmt.{decimal_injective}
 use Rattle.std.proofs.lemmas.List.{append_cancel_left, append-nil, length-map, length-replicate, length-take-le}
 use Rattle.game_rules.specs.declared.TheConstants.{MAX_SIDE}
-use Rattle.strategy_graph.specs.Tables.{IsTable}
+use Rattle.strategy_graph.proofs.Common.{IsTable}
 use Rattle.strategy_graph.specs.declared.Node.{Node}
 use Rattle.strategy_graph.specs.declared.TheConstants.{MAX_NODES}
 use Rattle.strategy_graph.proofs.Filling.{corner, filled_table}
@@ -15,9 +15,7 @@ use Rattle.text_lines.proofs.Common.{FirstBad, IsBetween, IsLineOf, LeavesAt, Re
 use Rattle.text_lines.proofs.TextLaws.{AreFree, free_take, same_lines, text_of-cons}
 use Rattle.text_lines.proofs.Leaving.{HasParts, leaves_after, leaves_first}
 use Rattle.text_lines.proofs.Badness.{first_bad, too_many}
-use Rattle.position_files.specs.Faults.{after_lines}
-use Rattle.position_files.specs.Sections.{AreNodeLines, AreNodes, IsSectionFault}
-use Rattle.position_files.specs.Tables.{node_line}
+use Rattle.position_files.proofs.Common.{after_lines, AreNodeLines, AreNodes, IsSectionFault, node_line}
 use Rattle.position_files.specs.declared.error.HeadError.{HeadError}
 use Rattle.position_files.specs.declared.error.HeadError.TheVariants.{BadLine, Memory}
 use Rattle.position_files.proofs.Completions.{filled_fit}
@@ -25,9 +23,8 @@ use Rattle.position_files.proofs.SectionLaws.{fault_after, fault_in, node_lines-
 use Rattle.table_book.specs.declared.Book.{Book}
 use Rattle.table_book.specs.declared.Entry.{Entry}
 use Rattle.table_book.specs.declared.TheConstants.{MAX_ENTRIES}
-use Rattle.table_book.specs.Books.{EntryFits, HasText, IsBookText, book_lines, book_text, entries_line, entry_lines, first_line, nodes_line}
-use Rattle.table_book.specs.Faults.{IsBookFault, in_book}
-use Rattle.table_book.specs.Sections.{IsBookLines, IsEndLines, IsRestLines, rest_lines}
+use Rattle.table_book.proofs.Common.{EntryFits, HasText, IsBookText, book_lines, book_text, entries_line, entry_lines, first_line}
+use Rattle.table_book.proofs.Common.{nodes_line, IsBookFault, in_book, IsBookLines, IsEndLines, IsRestLines, rest_lines}
 use Rattle.table_book.proofs.EntryLaws.{largest_side}
 use Rattle.table_book.proofs.EntryBad.{least_entry, least_entry-fits}
 use Rattle.table_book.proofs.BookLaws.{book-free, book-length, same_numbers}

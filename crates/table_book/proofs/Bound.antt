@@ -1,16 +1,15 @@
 -- What a binder holds stays as its nodes grow, and the entry of a file says in the book what the file says.
-use Rattle.std.proofs.Common.{◌≡◌, ◌⊎◌, inl, inr, ◌↔◌, ℕ, suc, ◌<◌, ◌≤◌, ◌+◌, true, false, List, [], ◌∷◌, ◌++◌, length, refl}
-use Rattle.std.proofs.Common.{sym, ap, subst, ◌∙◌, arith, nat_lt, slice_index, map, length-append, rules}
+use Rattle.std.proofs.Common.{◌≡◌, ◌⊎◌, inl, inr, ◌↔◌, ℕ, suc, ◌<◌, ◌≤◌, ◌+◌, true, false, List, []}
+use Rattle.std.proofs.Common.{◌∷◌, ◌++◌, length, refl, sym, ap, subst, ◌∙◌, arith, nat_lt, slice_index, map, length-append}
+use Rattle.std.proofs.Common.{rules, ltb-true, lt-ltb}
 use Rattle.std.specs.List.{list_all, AllByRecursion}
 use Rattle.std.proofs.lemmas.Option.{slice_get_within}
-use borrow.Author.Tests.{ltb-true, lt-ltb}
 use Rattle.game_rules.specs.declared.TheConstants.{MAX_SIDE}
 use Rattle.game_rules.specs.declared.Point.{Point}
-use Rattle.game_rules.specs.Grid.{Grid, IsBoard, is_on}
+use Rattle.game_rules.proofs.Common.{Grid, IsBoard, is_on}
 use Rattle.game_rules.proofs.Boards.{and_left, and_right, on_x, on_y}
 use Rattle.game_rules.proofs.Tests.{all_push}
-use Rattle.position_files.specs.Answers.{NodeFits}
-use Rattle.position_files.specs.Tables.{IsTextOfTable, RootFits}
+use Rattle.position_files.proofs.Common.{NodeFits, IsTextOfTable, RootFits}
 use Rattle.position_files.specs.declared.TableFile.{TableFile}
 use Rattle.position_files.specs.declared.TheConstants.{MAX_MOVES}
 use Rattle.position_files.proofs.Completions.{answers_fit, nodes_fit}
@@ -19,24 +18,19 @@ use Rattle.strategy_graph.specs.declared.Reply.{Reply}
 use Rattle.strategy_graph.specs.declared.TheConstants.{MAX_NODES}
 use Rattle.strategy_graph.specs.declared.roots.Root.{Root}
 use Rattle.strategy_graph.specs.declared.roots.Root.TheVariants.{Attack, Defend}
-use Rattle.strategy_graph.specs.Tables.{IsStart, RepliesOn, TableOnBoard}
-use Rattle.strategy_graph.proofs.Common.{IsTable, NamesLower, answers_of, is_winning, named}
-use Rattle.strategy_graph.proofs.Common.{names_below, renumbered_answers, renumbered_root, root_below}
-use Rattle.strategy_graph.proofs.Common.{RootSaysSame}
+use Rattle.strategy_graph.proofs.Common.{IsStart, RepliesOn, TableOnBoard, IsTable, NamesLower, answers_of, is_winning, named, names_below}
+use Rattle.strategy_graph.proofs.Common.{renumbered_answers, renumbered_root, root_below, RootSaysSame}
 use Rattle.strategy_graph.proofs.Answering.{replies-on}
 use Rattle.strategy_graph.proofs.Copies.{Copies, is_winning-renumbered, named-renumbered}
 use Rattle.strategy_graph.proofs.Filling.{IsTable-lower, names_below-more}
 use Rattle.strategy_graph.proofs.Saying.{root-copied, root-deep, root-longer}
 use Rattle.strategy_graph.proofs.Renumbering.{points-renumbered, rising-renumbered}
-use Rattle.strategy_compiler.proofs.Common.{IsCompiled}
-use Rattle.strategy_compiler.proofs.Unfolding.{answers-copied, node-inside, unfolded-apart, unfolded-copied}
-use Rattle.strategy_compiler.proofs.Unfolding.{unfolded-longer}
-use Rattle.strategy_compiler.specs.Unfolded.{Unfolded, IsHeld, unfolded}
+use Rattle.strategy_compiler.proofs.Common.{IsCompiled, Unfolded, IsHeld, unfolded}
+use Rattle.strategy_compiler.proofs.Unfolding.{answers-copied, node-inside, unfolded-apart, unfolded-copied, unfolded-longer}
 use Rattle.table_book.specs.declared.Entry.{Entry}
 use Rattle.table_book.specs.declared.TheConstants.{MAX_ENTRIES}
-use Rattle.table_book.specs.Books.{EntryFits, IsSound, EntryRootFits}
-use Rattle.table_book.specs.Binding.{AddsFile, AreNumbers, CanBeBound, HoldSame, IsBinding, IsEntryOf}
-use Rattle.table_book.specs.Binding.{SameRoot, Stays}
+use Rattle.table_book.proofs.Common.{EntryFits, IsSound, EntryRootFits, AddsFile, AreNumbers, CanBeBound, HoldSame, IsBinding, IsEntryOf}
+use Rattle.table_book.proofs.Common.{SameRoot, Stays}
 use Rattle.table_book.proofs.Adopting.{among-two}
 use Rattle.table_book.proofs.Soundness.{root_fits-below}
 unfoldable use Rattle.table_book.proofs.Adopting.{largest}

@@ -1,13 +1,14 @@
 -- Where bytes leave the lines of entries.
-use Rattle.std.proofs.Common.{◌≡◌, ℕ, suc, ◌+◌, ◌-◌, ◌*◌, ◌^◌, ◌<◌, ◌≤◌, refl, sym, ap, subst, ◌∙◌, arith, List, [], ◌∷◌, ◌++◌, length}
-use Rattle.std.proofs.Common.{take, drop, take-append-drop, get_or, replicate, None, codes, rules}
-use Rattle.std.specs.List.{AllByRecursion, flat_map}
+use Rattle.std.proofs.Common.{◌≡◌, ℕ, suc, ◌+◌, ◌-◌, ◌*◌, ◌^◌, ◌<◌, ◌≤◌, refl, sym, ap, subst, ◌∙◌}
+use Rattle.std.proofs.Common.{arith, List, [], ◌∷◌, ◌++◌, length, take, drop, take-append-drop, get_or, replicate, None, codes}
+use Rattle.std.proofs.Common.{rules, flat_map}
+use Rattle.std.specs.List.{AllByRecursion}
 use Rattle.std.specs.Fmt.{decimal}
 use Rattle.std.proofs.lemmas.Fmt.{decimal_injective}
 use Rattle.std.proofs.lemmas.List.{append_cancel_left, append-nil, length-append, length-replicate, length-take-le}
 use Rattle.std.proofs.lemmas.List.Concat.{flat_map-append}
 use Rattle.std.proofs.Math.Seq.{drop-cons}
-use Rattle.game_rules.specs.Grid.{Grid, IsBoard}
+use Rattle.game_rules.proofs.Common.{Grid, IsBoard}
 use Rattle.game_rules.specs.declared.RuleKind.{RuleKind}
 use Rattle.game_rules.specs.declared.RuleKind.TheVariants.{Freestyle}
 use Rattle.game_rules.specs.declared.TheConstants.{MAX_SIDE, MIN_SIDE}
@@ -18,11 +19,7 @@ use Rattle.text_lines.proofs.Common.{IsBetween, IsLineOf, LeavesAt, ReadsLine, l
 use Rattle.text_lines.proofs.LineLaws.{same_line}
 use Rattle.text_lines.proofs.TextLaws.{AreFree, free_append, text_of-push}
 use Rattle.text_lines.proofs.Leaving.{HasParts, leaves_after, leaves_first, left_first}
-use Rattle.position_files.specs.Answers.{StartFits}
-use Rattle.position_files.specs.Faults.{after_lines}
-use Rattle.position_files.specs.Positions.{board_lines}
-use Rattle.position_files.specs.Sections.{IsBoardLines, IsSectionFault, IsStartLines}
-use Rattle.position_files.specs.Tables.{start_line}
+use Rattle.position_files.proofs.Common.{StartFits, after_lines, board_lines, IsBoardLines, IsSectionFault, IsStartLines, start_line}
 use Rattle.position_files.specs.declared.TheConstants.{MAX_MOVES}
 use Rattle.position_files.specs.declared.error.HeadError.{HeadError}
 use Rattle.position_files.specs.declared.error.HeadError.TheVariants.{BadLine, Memory}
@@ -32,8 +29,8 @@ use Rattle.position_files.proofs.SectionLaws.{fault_after, number-free, only_fit
 use Rattle.position_files.proofs.Stones.{IsBoard-empty}
 use Rattle.table_book.specs.declared.Entry.{Entry}
 use Rattle.table_book.specs.declared.TheConstants.{MAX_ENTRIES}
-use Rattle.table_book.specs.Books.{EntryFits, EntryRootFits, entries_line, entry_lines, move_count_line, root_line}
-use Rattle.table_book.specs.Sections.{AreEntryLines, IsEndLines, IsEntryLines}
+use Rattle.table_book.proofs.Common.{EntryFits, EntryRootFits, entries_line, entry_lines, move_count_line, root_line, AreEntryLines}
+use Rattle.table_book.proofs.Common.{IsEndLines, IsEntryLines}
 use Rattle.table_book.proofs.Lists.{all_append, all_replicate, all_take}
 use Rattle.table_book.proofs.EntryLaws.{entries-free, entries-length, moves_line-free}
 

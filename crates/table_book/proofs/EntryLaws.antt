@@ -1,7 +1,7 @@
 -- The lines of entries: they have no line feed, and spell one entry.
-use Rattle.std.proofs.Common.{◌≡◌, ℕ, ◌+◌, ◌*◌, ◌^◌, ◌<◌, true, refl, sym, ap, ◌∙◌, arith, List, [], ◌∷◌, ◌++◌, append_assoc, length, take}
-use Rattle.std.proofs.Common.{get_or, codes, rules}
-use Rattle.std.specs.List.{AllByRecursion, flat_map}
+use Rattle.std.proofs.Common.{◌≡◌, ℕ, ◌+◌, ◌*◌, ◌^◌, ◌<◌, true, refl, sym, ap, ◌∙◌, arith, List, []}
+use Rattle.std.proofs.Common.{◌∷◌, ◌++◌, append_assoc, length, take, get_or, codes, rules, flat_map}
+use Rattle.std.specs.List.{AllByRecursion}
 use Rattle.std.specs.Fmt.{decimal}
 use Rattle.std.proofs.lemmas.Fmt.{decimal_injective}
 use Rattle.std.proofs.lemmas.List.{append_cancel_left, length-append}
@@ -10,14 +10,12 @@ use Rattle.strategy_graph.specs.declared.roots.Root.{Root}
 use Rattle.strategy_graph.specs.declared.roots.Root.TheVariants.{Attack, Defend}
 use Rattle.text_lines.proofs.Common.{ended, is_free, line_feed, text_of}
 use Rattle.text_lines.proofs.TextLaws.{AreFree, free_append, text_of-append, text_of-cons}
-use Rattle.position_files.specs.Boards.{IsSide}
-use Rattle.position_files.specs.Positions.{board_lines}
-use Rattle.position_files.specs.Tables.{answers_text}
+use Rattle.position_files.proofs.Common.{IsSide, board_lines, answers_text}
 use Rattle.position_files.proofs.AnswerLaws.{answers_text-injective, start_line-free}
 use Rattle.position_files.proofs.BoardLines.{board-free, board_lines-injective}
 use Rattle.position_files.proofs.SectionLaws.{number-free}
 use Rattle.table_book.specs.declared.Entry.{Entry}
-use Rattle.table_book.specs.Books.{EntryFits, EntryRootFits, entry_lines, move_count_line, root_line}
+use Rattle.table_book.proofs.Common.{EntryFits, EntryRootFits, entry_lines, move_count_line, root_line}
 use Rattle.table_book.proofs.Lists.{same_parts}
 
 pub largest_side : IsSide MAX_SIDE

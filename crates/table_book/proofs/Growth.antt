@@ -1,14 +1,13 @@
 -- The text of a book, which grows by one section after another.
 use Rattle.std.proofs.Common.{◌≡◌, ℕ, ◌+◌, sym, ap, ◌∙◌, List, [], ◌∷◌, ◌++◌, append_assoc, map, length}
-use Rattle.std.specs.List.{flat_map}
+use Rattle.std.proofs.Common.{flat_map}
 use Rattle.std.proofs.lemmas.List.{flat_map_more}
 use Rattle.std.proofs.lemmas.List.Concat.{flat_map-append}
-use Rattle.text_lines.specs.Lines.{ended, text_of}
-use Rattle.position_files.specs.Positions.{board_lines}
-use Rattle.position_files.specs.Tables.{node_line}
+use Rattle.text_lines.proofs.Common.{ended, text_of}
+use Rattle.position_files.proofs.Common.{board_lines, node_line}
 use Rattle.table_book.specs.declared.Book.{Book}
 use Rattle.table_book.specs.declared.Entry.{Entry}
-use Rattle.table_book.specs.Books.{book_lines, book_text, entries_line, entry_lines, first_line, move_count_line, nodes_line, root_line}
+use Rattle.table_book.proofs.Common.{book_lines, book_text, entries_line, entry_lines, first_line, move_count_line, nodes_line, root_line}
 
 -- the lines of an entry
 pub entry_grown : (e : Entry) (old t1 t2 t3 : List ℕ) → t1 ≡ old ++ text_of (board_lines e.kind e.board)

@@ -1,5 +1,7 @@
 -- The laws of books. What is declared by `pub mod` the layers above may cite; the rest serves this crate alone.
 
+-- the words of the crate, in one place
+mod Common
 mod Lists
 mod EntryLaws
 mod EntryBad

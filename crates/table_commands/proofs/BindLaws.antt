@@ -1,10 +1,10 @@
 -- The command `bind`: how far its files are bound, its answers, and what its runs show.
-use Rattle.std.proofs.Common.{◌≡◌, ◌⊎◌, inl, inr, refl, sym, ap, subst, ◌∙◌, ℕ, zero, suc, ◌<◌, ◌≤◌}
-use Rattle.std.proofs.Common.{◌+◌, List, [], ◌∷◌, ◌++◌, length, take, drop, get_or, map, arith, Result, Ok, Err, IfOk}
-use Rattle.std.specs.Prelude.{Option, Some, None, IfSome}
+use Rattle.std.proofs.Common.{◌≡◌, ◌⊎◌, inl, inr, refl, sym, ap, subst, ◌∙◌, ℕ, zero, suc, ◌<◌, ◌≤◌, ◌+◌}
+use Rattle.std.proofs.Common.{List, [], ◌∷◌, ◌++◌, length, take, drop, get_or, map, arith, Result, Ok, Err, IfOk, Option, Some}
+use Rattle.std.proofs.Common.{None, IfSome}
 use Rattle.std.specs.List.{AllByRecursion}
 use Rattle.strategy_graph.specs.declared.TheConstants.{MAX_NODES}
-use Rattle.strategy_compiler.specs.Unfolded.{HoldMore}
+use Rattle.strategy_compiler.proofs.Common.{HoldMore}
 use Rattle.position_files.specs.declared.TableFile.{TableFile}
 use Rattle.renju_io.specs.Faults.{HasRisen}
 use Rattle.renju_io.specs.Files.{Files, file_under}
@@ -23,9 +23,8 @@ use Rattle.command_base.specs.Statuses.{status_number}
 use Rattle.command_base.specs.Runs.{Change, Run, IsDelivered, IsOutOfMemory, HasNoFault}
 use Rattle.file_loading.specs.TableFiles.{IsTableAt}
 use Rattle.file_loading.specs.HeldFiles.{IsFileName, IsFit, IsLoaded, IsUnheld, TableFileSays}
-use Rattle.table_commands.specs.Binds.{AreBindable, AreFew, AreNames, BindSays, HasBound, IsBind, IsBindable, IsUnhinderedBind}
-use Rattle.table_commands.specs.Binds.{ShowsBound, StopsAt, TellsBook, of_file}
-use Rattle.table_commands.specs.Binders.{BindsMore, IsAdded, IsAddedText}
+use Rattle.table_commands.proofs.Common.{AreBindable, AreFew, AreNames, BindSays, HasBound, IsBind, IsBindable, IsUnhinderedBind}
+use Rattle.table_commands.proofs.Common.{ShowsBound, StopsAt, TellsBook, of_file, BindsMore, IsAdded, IsAddedText}
 use Rattle.command_base.specs.Texts.{full_line}
 use Rattle.command_base.proofs.ToldLaws.{where-told}
 use Rattle.file_loading.proofs.HeldFileLaws.{not-told, table-not_told, delivered-other, not-other, table_told-other, unheld-other}

@@ -1,11 +1,10 @@
 -- The command `book`: its words, its answers, and what its status 0 shows.
 use Rattle.std.proofs.Common.{◌≡◌, inl, inr, refl, sym, subst, ◌∙◌, ◌⊎◌, ℕ, ◌-◌, ◌≤◌, List, [], ◌∷◌}
-use Rattle.std.proofs.Common.{arith}
-use Rattle.std.specs.Prelude.{IfSome}
+use Rattle.std.proofs.Common.{arith, IfSome}
 use Rattle.std.specs.List.{AllByRecursion}
 use Rattle.game_rules.proofs.Tests.{all_get}
 use Rattle.strategy_graph.specs.declared.Node.{Node}
-use Rattle.strategy_graph.specs.Roots.{RootWins}
+use Rattle.strategy_graph.proofs.Common.{RootWins}
 use Rattle.strategy_graph.proofs.Starts.{accepted-root-wins}
 use Rattle.renju_io.specs.Told.{Takes}
 use Rattle.table_book.specs.declared.Book.{Book}
@@ -19,7 +18,7 @@ use Rattle.command_base.specs.declared.status.Status.TheVariants.{Done, RefusedT
 use Rattle.command_base.specs.Statuses.{status_number}
 use Rattle.command_base.specs.Runs.{Run}
 use Rattle.command_base.specs.Told.{IsTold}
-use Rattle.table_commands.specs.Books.{AreWithin, BookSays, EntriesSay, IsWonBook, IsWonEntry, book_command}
+use Rattle.table_commands.proofs.Common.{AreWithin, BookSays, EntriesSay, IsWonBook, IsWonEntry, book_command}
 use Rattle.file_loading.specs.BookFiles.{IsBookAt, IsRefusedEntry, hold_refusal_status}
 use Rattle.command_base.proofs.ToldLaws.{done-told, other-status}
 use Rattle.file_loading.proofs.BookFileLaws.{one-book, book-not_refused}

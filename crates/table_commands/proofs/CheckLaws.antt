@@ -1,7 +1,6 @@
 -- The command `check`: its words, its answers, and what its status 0 shows.
-use Rattle.std.proofs.Common.{◌≡◌, inl, inr, sym, ap, subst, ◌∙◌, ◌⊎◌, ℕ, ◌≤◌, List, arith}
-use Rattle.std.specs.Prelude.{IfSome}
-use Rattle.strategy_graph.specs.Roots.{root_arrivals, RootWins}
+use Rattle.std.proofs.Common.{◌≡◌, inl, inr, sym, ap, subst, ◌∙◌, ◌⊎◌, ℕ, ◌≤◌, List, arith, IfSome}
+use Rattle.strategy_graph.proofs.Common.{root_arrivals, RootWins}
 use Rattle.position_files.specs.declared.TableFile.{TableFile}
 use Rattle.position_files.proofs.ReadBack.{table-read-back}
 use Rattle.renju_io.specs.Told.{Takes}
@@ -10,7 +9,7 @@ use Rattle.command_base.specs.declared.status.Status.TheVariants.{Done, RefusedT
 use Rattle.command_base.specs.Statuses.{status_number}
 use Rattle.command_base.specs.Runs.{Run}
 use Rattle.command_base.specs.Told.{IsTold}
-use Rattle.table_commands.specs.Checks.{accepted_line, IsAcceptedTable, TableSays, CheckSays, check_command, IsAcceptedInput}
+use Rattle.table_commands.proofs.Common.{accepted_line, IsAcceptedTable, TableSays, CheckSays, check_command, IsAcceptedInput}
 use Rattle.file_loading.specs.TableFiles.{IsTableAt}
 use Rattle.command_base.proofs.ToldLaws.{done-told, other-status}
 

@@ -1,14 +1,11 @@
 -- The command `image`: its answers, and what its status 0 shows.
-use Rattle.std.proofs.Common.{◌≡◌, inl, inr, sym, ap, subst, ◌∙◌, ℕ, Bool, true, List, refl}
-use Rattle.std.specs.Prelude.{IfSome}
+use Rattle.std.proofs.Common.{◌≡◌, inl, inr, sym, ap, subst, ◌∙◌, ℕ, Bool, true, List, refl, IfSome}
 use Rattle.std.proofs.lemmas.Bool.{both_ways}
-use Rattle.game_rules.specs.Play.{IsPosition}
-use Rattle.game_rules.specs.Grid.{Grid}
-use Rattle.strategy_graph.specs.Roots.{root_depth}
-use Rattle.strategy_graph.specs.Tables.{TableOnBoard}
+use Rattle.game_rules.proofs.Common.{IsPosition, Grid}
+use Rattle.strategy_graph.proofs.Common.{root_depth, TableOnBoard}
 use Rattle.strategy_graph.specs.declared.Node.{Node}
 use Rattle.strategy_graph.specs.declared.roots.Root.{Root}
-use Rattle.position_files.specs.Tables.{IsTextOfTable, RootFits}
+use Rattle.position_files.proofs.Common.{IsTextOfTable, RootFits}
 use Rattle.position_files.specs.declared.TableFile.{TableFile}
 use Rattle.position_files.proofs.ReadBack.{table-read-back}
 use Rattle.board_symmetry.specs.Points.{fits, board_image}
@@ -24,7 +21,7 @@ use Rattle.command_base.specs.Statuses.{status_number}
 use Rattle.command_base.specs.Runs.{Run}
 use Rattle.command_base.specs.Told.{IsTold}
 use Rattle.file_loading.specs.TableFiles.{IsTableAt}
-use Rattle.table_commands.specs.Images.{ImagedFileSays, ImageSays, image_command, IsImage, IsImagedInput}
+use Rattle.table_commands.proofs.Common.{ImagedFileSays, ImageSays, image_command, IsImage, IsImagedInput}
 use Rattle.command_base.proofs.ToldLaws.{done-told}
 
 -- what is said of a text whose board the symmetry fits is an answer

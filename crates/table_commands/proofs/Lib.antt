@@ -1,3 +1,5 @@
+-- the words of the crate, in one place
+mod Common
 pub mod CheckLaws
 pub mod BookLaws
 pub mod ImageLaws

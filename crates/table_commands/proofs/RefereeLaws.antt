@@ -1,9 +1,8 @@
 -- The command `referee`: its words, its answers, and what its runs show.
-use Rattle.std.proofs.Common.{◌≡◌, inl, inr, refl, sym, ap, subst, ◌∙◌, ◌⊎◌, ℕ, List, get_or, arith}
-use Rattle.std.specs.Prelude.{Some, IfSome}
-use Rattle.game_rules.specs.Grid.{Grid}
+use Rattle.std.proofs.Common.{◌≡◌, inl, inr, refl, sym, ap, subst, ◌∙◌, ◌⊎◌, ℕ, List, get_or, arith, Some, IfSome}
+use Rattle.game_rules.proofs.Common.{Grid}
 use Rattle.game_rules.specs.declared.RuleKind.{RuleKind}
-use Rattle.strategy_graph.specs.Roots.{AcceptedRoot}
+use Rattle.strategy_graph.proofs.Common.{AcceptedRoot}
 use Rattle.game_referee.specs.declared.ReplayAnswer.{ReplayAnswer}
 use Rattle.game_referee.specs.declared.ReplayAnswer.TheVariants.{Follows, Departs}
 use Rattle.game_referee.specs.Followers.{GoesByRoot, IsPlayed, NeverLoses, side_of}
@@ -25,9 +24,9 @@ use Rattle.command_base.specs.Told.{AnswersTold, EndsTold, IsTold, IsYielded}
 use Rattle.command_base.specs.Refusals.{IsRefusedText}
 use Rattle.file_loading.specs.TableFiles.{IsTableAt}
 use Rattle.file_loading.specs.HeldFiles.{IsFit, IsFitFile, IsUnhinderedShelf, TableFileSays, TellsFile}
-use Rattle.table_commands.specs.Referees.{ComparesSays, HasGameFault, HeldSays, IsGameAt, IsRefereeWith, RefereeSays, RefereesByFile}
-use Rattle.table_commands.specs.Referees.{IsJudgedInput, ShowsGame, TellsTable, compares_command, of_game, referee_command, replay_line}
-use Rattle.table_commands.specs.Referees.{verdict_on}
+use Rattle.table_commands.proofs.Common.{ComparesSays, HasGameFault, HeldSays, IsGameAt, IsRefereeWith, RefereeSays, RefereesByFile}
+use Rattle.table_commands.proofs.Common.{IsJudgedInput, ShowsGame, TellsTable, compares_command, of_game, referee_command, replay_line}
+use Rattle.table_commands.proofs.Common.{verdict_on}
 use Rattle.command_base.proofs.ToldLaws.{IsWhole, answers-by, by-end, ends-map, every-told, given-told, where-told, whole-or-yielded}
 use Rattle.file_loading.proofs.TableFileLaws.{one-table}
 use Rattle.file_loading.proofs.HeldFileLaws.{found-under, not-told, same-bytes, table-not_told, delivered-other, not-other}

@@ -1,11 +1,10 @@
 -- Words and the separators between them.
-use Rattle.std.proofs.Common.{◌≡◌, ℕ, suc, ◌+◌, ◌<◌, ◌≤◌, Bool, true, false, cond, not, ◌&&◌, refl, sym, ap, ◌∙◌, arith, List, [], ◌∷◌}
-use Rattle.std.proofs.Common.{◌++◌, length, take, drop, eqb, get_or, nat_lt, nat_eq, Bor, take-append-drop, drop-cons, length-drop, ◌-◌}
-use Rattle.std.proofs.Common.{Option, Some, None, option_copied}
-use Rattle.std.specs.Option.{MatchOption}
+use Rattle.std.proofs.Common.{◌≡◌, ℕ, suc, ◌+◌, ◌<◌, ◌≤◌, Bool, true, false, cond, not, ◌&&◌, refl, sym, ap}
+use Rattle.std.proofs.Common.{◌∙◌, arith, List, [], ◌∷◌, ◌++◌, length, take, drop, eqb, get_or, nat_lt, nat_eq, Bor}
+use Rattle.std.proofs.Common.{take-append-drop, drop-cons, length-drop, ◌-◌, Option, Some, None, option_copied, MatchOption, position}
 use Rattle.std.specs.Bool.{Decides}
 use Rattle.std.specs.Cmp.Lexicographic.{pointwise}
-use Rattle.std.specs.List.{list_all, prefix_len, position, position_or_len}
+use Rattle.std.specs.List.{list_all, prefix_len, position_or_len}
 use Rattle.std.proofs.lemmas.Option.{cond_some}
 use Rattle.std.proofs.lemmas.Bool.{ltb-false, eqb-true, eq-eqb, false≢true}
 use Rattle.std.proofs.lemmas.List.Folds.{list_all-append}
@@ -15,7 +14,7 @@ use Rattle.std.proofs.lemmas.List.{take_at}
 use Rattle.std.proofs.lemmas.Slice.Eq.{slice_eq-Decides}
 use Rattle.std.proofs.Math.Seq.{take-length}
 use Rattle.game_rules.proofs.Boards.{and_right}
-use Rattle.text_lines.specs.Reading.{Reads, is_free, tail_text}
+use Rattle.text_lines.proofs.Common.{Reads, is_free, tail_text}
 
 prefix_all_by : (test : ℕ → Bool) (x : ℕ) (xs : List ℕ) (r : Bool) → test x ≡ r → list_all test (take (prefix_len test xs) xs) ≡ true
     → list_all test (take (cond r (1 + prefix_len test xs) 0) (x ∷ xs)) ≡ true

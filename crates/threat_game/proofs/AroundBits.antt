@@ -1,17 +1,14 @@
 -- How many stones stand around a point, by the bits of its line: each of them sets one of the nine bits around the point's place.
-use Rattle.std.proofs.Common.{◌≡◌, ℕ, zero, suc, ◌+◌, ◌-◌, ◌*◌, ◌/◌, ◌%◌, ◌^◌, ◌≤◌, Bool, true, false, cond, length, refl, sym, ap}
-use Rattle.std.proofs.Common.{subst, ◌∙◌, arith}
-use Rattle.std.specs.Prelude.{Option, Some, None, bit_and, count_ones}
+use Rattle.std.proofs.Common.{◌≡◌, ℕ, zero, suc, ◌+◌, ◌-◌, ◌*◌, ◌/◌, ◌%◌, ◌^◌, ◌≤◌, Bool, true, false}
+use Rattle.std.proofs.Common.{cond, length, refl, sym, ap, subst, ◌∙◌, arith, Option, Some, None, bit_and, count_ones, filter}
 use Rattle.std.specs.Int.{bit_at}
-use Rattle.std.specs.List.{filter, range_with_len}
+use Rattle.std.specs.List.{range_with_len}
 use Rattle.std.proofs.Math.Nat.{div-div-eq-div-mul}
 use Rattle.std.proofs.lemmas.Nat.{pow-add, pow_pos}
 use Rattle.std.proofs.lemmas.Nat.Bits.{bit_at_and, bit_at_cat_high, bit_at-lt}
 use Rattle.std.proofs.lemmas.List.Sums.{length-filter}
 use lib.Count.{ones_step}
-use Rattle.game_rules.specs.Grid.{Grid, IsBoard, is_on, along}
-use Rattle.game_rules.specs.Shapes.{stone_at}
-use Rattle.game_rules.specs.Ways.{towards}
+use Rattle.game_rules.proofs.Common.{Grid, IsBoard, is_on, along, stone_at, towards}
 use Rattle.game_rules.specs.declared.Side.{Side}
 use Rattle.game_rules.specs.declared.Axis.{Axis}
 use Rattle.game_rules.specs.declared.Point.{Point}
@@ -21,7 +18,7 @@ use Rattle.stone_board.specs.Lines.{line_of, place_on, TellsLine}
 use Rattle.stone_board.proofs.LineBits.{board-near}
 use Rattle.stone_board.proofs.LineStones.{along-places, stone_bit}
 use Rattle.stone_board.proofs.Ones.{bit_shr}
-use Rattle.threat_game.specs.NearDoubles.{stones_around}
+use Rattle.threat_game.proofs.Common.{stones_around}
 
 -- ---- some bits of a number are no more than all that are set
 

@@ -1,7 +1,7 @@
 -- The double points that are kept before the replies are the first ones, and what a reply stops of them.
-use Rattle.std.proofs.Common.{◌≡◌, true, false, cond, Bool, ℕ, ◌<◌, ◌≤◌, refl, sym, ap, subst, ◌∙◌, arith, List, [], ◌∷◌, ◌++◌, map, length}
-use Rattle.std.proofs.Common.{get_or, take, All, Contains, append_assoc, length-append, append-nil}
-use Rattle.std.specs.List.{filter}
+use Rattle.std.proofs.Common.{◌≡◌, true, false, cond, Bool, ℕ, ◌<◌, ◌≤◌, refl, sym, ap, subst, ◌∙◌, arith, List, []}
+use Rattle.std.proofs.Common.{◌∷◌, ◌++◌, map, length, get_or, take, All, Contains, append_assoc, length-append, append-nil}
+use Rattle.std.proofs.Common.{filter}
 use Rattle.std.proofs.lemmas.List.{get_or-map, length-map, map-append, take-append-le, take_all}
 use Rattle.std.proofs.lemmas.List.Elements.{All-push}
 use Rattle.game_rules.specs.declared.RuleKind.{RuleKind}
@@ -14,8 +14,7 @@ use Rattle.row_shapes.proofs.FiveLaws.{none-short}
 use Rattle.threat_game.specs.declared.doubles.DoublePoint.{DoublePoint}
 use Rattle.threat_game.specs.declared.doubles.Kept.{Kept}
 use Rattle.threat_game.specs.declared.doubles.TheConstants.{MOST_KEPT}
-use Rattle.threat_game.specs.Replies.{AreKept, AreStopped, IsKeptAt, StopsDoubles}
-use Rattle.threat_game.proofs.Common.{IsBeside}
+use Rattle.threat_game.proofs.Common.{AreKept, AreStopped, IsKeptAt, StopsDoubles, IsBeside}
 
 -- these are kept, where these points are left to be looked at
 pub record FirstSoFar (rule : RuleKind) (b : Grid) (s : Side) (found : List Kept) (left : List Point) : Type 0 where

@@ -1,27 +1,25 @@
 -- Double points that are kept to settle replies by: each stays what it is after a stone of the other side beside it. The replies to a
 -- double point that wins.
-use Rattle.std.proofs.Common.{◌≡◌, ◌≤◌, true, false, ◌&&◌, not, refl, sym, ap, ◌∙◌, arith, List, All, Option, Some, None, is_none}
-use Rattle.std.proofs.Common.{nat_eq}
+use Rattle.std.proofs.Common.{◌≡◌, ◌≤◌, true, false, ◌&&◌, not, refl, sym, ap, ◌∙◌, arith, List, All, Option, Some}
+use Rattle.std.proofs.Common.{None, is_none, nat_eq}
 use Rattle.std.proofs.lemmas.Bool.{not-true}
 use Rattle.game_rules.specs.declared.RuleKind.{RuleKind}
 use Rattle.game_rules.specs.declared.Side.{Side}
 use Rattle.game_rules.specs.declared.Foul.{Foul}
 use Rattle.game_rules.specs.declared.Outcome.TheVariants.{GoesOn}
 use Rattle.game_rules.specs.declared.Point.{Point}
-use Rattle.game_rules.proofs.Common.{Grid, IsPosition, is_empty, put, outcome, outcome_by, mover, other, after, five, foul_of}
-use Rattle.game_rules.proofs.Common.{empties_of, has_five, has_fouls, is_same_point, is_double_point, goes_on}
+use Rattle.game_rules.proofs.Common.{Grid, IsPosition, is_empty, put, outcome, outcome_by, mover, other, after, five, foul_of, empties_of}
+use Rattle.game_rules.proofs.Common.{has_five, has_fouls, is_same_point, is_double_point, goes_on}
 use Rattle.game_rules.proofs.Boards.{and_left, and_right, empties_of-put, is_empty-on, other-other}
 use Rattle.game_rules.proofs.Fives.{five-empty}
 use Rattle.game_rules.proofs.PointLists.{other_first}
 use Rattle.game_rules.proofs.Points.{points-found}
 use Rattle.game_rules.proofs.Positions.{GoesOn-empty, mover-then}
 use Rattle.game_rules.proofs.Wins.{no_five}
-use Rattle.threat_moves.specs.FreePoints.{StaysFree}
+use Rattle.threat_moves.proofs.Common.{StaysFree}
 use Rattle.threat_game.specs.declared.doubles.DoublePoint.{DoublePoint}
 use Rattle.threat_game.specs.declared.doubles.Kept.{Kept}
-use Rattle.threat_game.specs.Attacks.{IsDoubleWin, IsKept, IsStillKept}
-use Rattle.threat_game.specs.Replies.{answer_nodes, has_reply_at, has_reply_beside}
-use Rattle.threat_game.proofs.Common.{IsBeside}
+use Rattle.threat_game.proofs.Common.{IsDoubleWin, IsKept, IsStillKept, answer_nodes, has_reply_at, has_reply_beside, IsBeside}
 use Rattle.threat_game.proofs.FreeMoves.{not_one, each-goes_on, double-safe, reply-at}
 use Rattle.threat_game.proofs.ReplyLaws.{both-kept}
 

@@ -1,20 +1,16 @@
 -- Where a stone can make a double point of one that makes no two five points before it: on a line with the stone on which two others
 -- of its side stand within four steps. The stone and that on the double point are in a winning run of five stones or more, with one
 -- five point, so at least two more are.
-use Rattle.std.proofs.Common.{◌≡◌, ◌≢◌, ◌⊎◌, inl, inr, ℕ, zero, suc, ◌+◌, ◌-◌, ◌≤◌, ◌<◌, Bool, true, false, cond, ◌&&◌, ◌||◌, not, length}
-use Rattle.std.proofs.Common.{List, [], ◌∷◌}
-use Rattle.std.proofs.Common.{refl, sym, ap}
-use Rattle.std.proofs.Common.{subst, ◌∙◌, arith, nat_le}
-use Rattle.std.specs.Prelude.{Option, Some, None, unwrap_or}
-use Rattle.std.specs.List.{filter, find, list_any, range_with_len}
+use Rattle.std.proofs.Common.{◌≡◌, ◌≢◌, ◌⊎◌, inl, inr, ℕ, zero, suc, ◌+◌, ◌-◌, ◌≤◌, ◌<◌, Bool, true}
+use Rattle.std.proofs.Common.{false, cond, ◌&&◌, ◌||◌, not, length, List, [], ◌∷◌, refl, sym, ap, subst, ◌∙◌, arith}
+use Rattle.std.proofs.Common.{nat_le, Option, Some, None, unwrap_or, filter, find}
+use Rattle.std.specs.List.{list_any, range_with_len}
 use Rattle.std.proofs.lemmas.Bool.{cases_lt, false_from_ne_true, both_ways, not-true}
 use Rattle.std.proofs.lemmas.Bool.Decides.{nat_tests}
 use Rattle.std.proofs.lemmas.List.Sums.{length-filter, sum_by-le-sum_by}
-use Rattle.game_rules.specs.Grid.{Grid, IsBoard, is_on, is_empty, put, along, points_of, holds}
-use Rattle.game_rules.specs.Lines.{same_line}
-use Rattle.game_rules.specs.Shapes.{stone_at, wins_on, five, is_same_point}
-use Rattle.game_rules.specs.Ways.{go, towards, opposite, stones_towards, run_end}
-use Rattle.game_rules.specs.Games.{has_five, five_points, has_threat, is_double_point}
+use Rattle.game_rules.proofs.Common.{Grid, IsBoard, is_on, is_empty, put, along, points_of, holds, same_line, stone_at, wins_on, five}
+use Rattle.game_rules.proofs.Common.{is_same_point, go, towards, opposite, stones_towards, run_end, has_five, five_points, has_threat}
+use Rattle.game_rules.proofs.Common.{is_double_point}
 use Rattle.game_rules.specs.declared.RuleKind.{RuleKind}
 use Rattle.game_rules.specs.declared.Side.{Side}
 use Rattle.game_rules.specs.declared.Axis.{Axis}
@@ -24,8 +20,7 @@ use Rattle.game_rules.specs.declared.Way.TheVariants.{Ahead, Behind}
 use Rattle.game_rules.specs.declared.Point.{Point}
 use Rattle.game_rules.proofs.Axes.{some_axis, no_axis}
 use Rattle.stone_board.specs.Steps.{kept_on}
-use Rattle.game_rules.proofs.Boards.{kept_by}
-use Rattle.game_rules.proofs.Boards.{Apart, and_left, and_right, is_empty-on, is_empty-put, same_or_apart, not-apart}
+use Rattle.game_rules.proofs.Boards.{kept_by, Apart, and_left, and_right, is_empty-on, is_empty-put, same_or_apart, not-apart}
 use Rattle.game_rules.proofs.Boards.{holds-put_other, holds-put_same}
 use Rattle.game_rules.proofs.Fives.{five-empty}
 use Rattle.game_rules.proofs.Lines.{OnLine-along}
@@ -41,16 +36,15 @@ use Rattle.game_rules.proofs.Tests.{more_pass}
 use Rattle.game_rules.proofs.Ways.{go-then, go-same, go-opposite, go-zero, else_at, leads, leads_back, towards-put, beyond-put}
 use Rattle.game_rules.proofs.Ways.{run_before_end}
 use Rattle.game_rules.proofs.Wins.{wins_on-ways, no_win, row_wins-five}
-use Rattle.row_shapes.specs.FivePoints.{in_short}
+use Rattle.row_shapes.specs.FivePoints.{in_short, is_several}
 use Rattle.row_shapes.specs.FiveEnds.{end_five, with_more}
 use Rattle.row_shapes.specs.declared.fives.FivePoints.TheVariants.{None as NoPoint, One, Several}
 use Rattle.row_shapes.proofs.NewFives.{end_wins}
 use Rattle.row_shapes.proofs.FiveLaws.{none-short}
-use Rattle.row_shapes.specs.FivePoints.{is_several}
-use Rattle.threat_moves.specs.ThreeMoves.{has_double_point}
+use Rattle.threat_moves.proofs.Common.{has_double_point}
 use Rattle.threat_moves.proofs.GainLaws.{several, few-double, double-empty, threat-by_double, taken-no_gain, no_gain-double}
-use Rattle.threat_game.specs.NearDoubles.{AreNearStones, DoublesAreNear, IsInReach, is_double_on, makes_on, makes_two, reach, some_has}
-use Rattle.threat_game.specs.NearDoubles.{is_some_point, points_of_two, stones_around}
+use Rattle.threat_game.proofs.Common.{AreNearStones, DoublesAreNear, IsInReach, is_double_on, makes_on, makes_two, reach, some_has}
+use Rattle.threat_game.proofs.Common.{is_some_point, points_of_two, stones_around}
 use Rattle.threat_game.specs.declared.near_stones.NearStones.{NearStones}
 
 -- ---- tests of the numbers from 1 to 4

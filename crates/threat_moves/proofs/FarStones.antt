@@ -1,7 +1,7 @@
 -- A stone of the other side that stands away from a three leaves the three as it was: whether a point gives a straight four is
 -- decided by the places of the three's line.
-use Rattle.std.proofs.Common.{◌≡◌, ◌≢◌, inl, inr, ℕ, ◌+◌, ◌-◌, ◌≤◌, ◌<◌, Bool, true, false, ◌&&◌, not, refl, sym, ap, ◌∙◌, arith, nat_eq}
-use Rattle.std.proofs.Common.{Option, Some, None, is_none, nat_le}
+use Rattle.std.proofs.Common.{◌≡◌, ◌≢◌, inl, inr, ℕ, ◌+◌, ◌-◌, ◌≤◌, ◌<◌, Bool, true, false, ◌&&◌, not}
+use Rattle.std.proofs.Common.{refl, sym, ap, ◌∙◌, arith, nat_eq, Option, Some, None, is_none, nat_le}
 use Rattle.std.proofs.lemmas.Bool.{eq-eqb, eqb-true, le-leb}
 use Rattle.game_rules.proofs.Common.{Grid, IsBoard, is_empty, put, along, points_of, holds, is_line_three_point, five, foul_of, black_foul}
 use Rattle.game_rules.proofs.Common.{has_fouls, other, towards, opposite, stones_towards, go}
@@ -26,8 +26,7 @@ use Rattle.game_rules.proofs.Threes.{three_empty}
 use Rattle.row_shapes.specs.Threes.{wins_past, is_open_four}
 use Rattle.row_shapes.proofs.ThreePoints.{three-open, three_first, three_near}
 use Rattle.foul_judge.proofs.FewerEmpties.{white-no_foul}
-use Rattle.threat_moves.specs.FreePoints.{StaysFree}
-use Rattle.threat_moves.proofs.Common.{is_straight_point, has_straight_point, stops_three, is_near, IsSure, CostsAreNear}
+use Rattle.threat_moves.proofs.Common.{StaysFree, is_straight_point, has_straight_point, stops_three, is_near, IsSure, CostsAreNear}
 use Rattle.threat_moves.proofs.GainLaws.{straight-line, line_three, empty-stops}
 
 -- ---- what is near on a line

@@ -1,12 +1,11 @@
 -- Lists of threats that have no final point wherever they began: what is counted of them, where they end, and what is remembered.
-use Rattle.std.proofs.Common.{◌≡◌, ℕ, ◌+◌, ◌-◌, ◌<◌, ◌≤◌, ◌⊎◌, Bool, true, false, ◌&&◌, cond, List, [], ◌∷◌, ◌++◌, drop, length, get_or}
-use Rattle.std.proofs.Common.{find, nat_le, nat_eq, refl, sym, ap, subst, ◌∙◌, arith, Option, Some, None, IfSome, Contains, inl, inr}
+use Rattle.std.proofs.Common.{◌≡◌, ℕ, ◌+◌, ◌-◌, ◌<◌, ◌≤◌, ◌⊎◌, Bool, true, false, ◌&&◌, cond, List, []}
+use Rattle.std.proofs.Common.{◌∷◌, ◌++◌, drop, length, get_or, find, nat_le, nat_eq, refl, sym, ap, subst, ◌∙◌, arith}
+use Rattle.std.proofs.Common.{Option, Some, None, IfSome, Contains, inl, inr}
 use Rattle.std.proofs.lemmas.List.{append-nil}
 use Rattle.std.proofs.lemmas.Bool.{and_from}
 use Rattle.std.proofs.lemmas.Bool.Decides.{nat_tests}
-use Rattle.game_rules.specs.Grid.{Grid, IsBoard, is_empty, put, points_of}
-use Rattle.game_rules.specs.Play.{other}
-use Rattle.game_rules.specs.Games.{has_five}
+use Rattle.game_rules.proofs.Common.{Grid, IsBoard, is_empty, put, points_of, other, has_five}
 use Rattle.game_rules.specs.declared.RuleKind.{RuleKind}
 use Rattle.game_rules.specs.declared.Side.{Side}
 use Rattle.game_rules.specs.declared.Point.{Point}
@@ -15,16 +14,14 @@ use Rattle.position_table.specs.Remembering.{value_under, looked_up, kept}
 use Rattle.position_table.proofs.Packing.{packed-tells}
 use Rattle.position_table.proofs.Remembering.{value_under-kept, looked_up-before, kept-before}
 use Rattle.threat_moves.specs.declared.threat_list.Threat.{Threat}
-use Rattle.threat_moves.specs.Threats.{threats_of}
+use Rattle.threat_moves.proofs.Common.{threats_of}
 use Rattle.threat_moves.proofs.ThreatLists.{last_added, Final, Lists, after_path}
 use Rattle.threat_space.specs.declared.walk.FoundInLists.{FoundInLists}
 use Rattle.threat_space.specs.declared.walk.FoundInLists.TheVariants.{NoSequence, Spent}
-use Rattle.threat_space.specs.Sequences.{with_stone, with_stones, played, played_all, lists_from, lists_of, final_of, is_final_point}
-use Rattle.threat_space.specs.Sequences.{all_needed, is_sequence}
-use Rattle.threat_space.specs.Looking.{found_or, looked, looked_on}
-use Rattle.threat_space.specs.Lines.{HasFarPairs, HasPairsAfter, EndsNear}
-use Rattle.threat_space.specs.Barren.{EndsAlike, IsNearAfter, HasNoFinal, passed, AreBarren, IsBarren}
-use Rattle.threat_space.specs.Barren.{BarrenMemory, IsBarrenEntry, IsTrueBarrenMemory}
+use Rattle.threat_space.proofs.Common.{with_stone, with_stones, played, played_all, lists_from, lists_of, final_of, is_final_point}
+use Rattle.threat_space.proofs.Common.{all_needed, is_sequence, found_or, looked, looked_on, HasFarPairs, HasPairsAfter, EndsNear}
+use Rattle.threat_space.proofs.Common.{EndsAlike, IsNearAfter, HasNoFinal, passed, AreBarren, IsBarren, BarrenMemory, IsBarrenEntry}
+use Rattle.threat_space.proofs.Common.{IsTrueBarrenMemory}
 use Rattle.threat_space.proofs.FarFinals.{ends-near}
 use Rattle.threat_space.proofs.FoundInLists.{from_threats, threat-next, lists-more, played-more}
 

@@ -1,18 +1,16 @@
 -- Sessions in which a win of the brain's own is followed to its end, whatever is held that has no say where it is found.
-use Rattle.std.proofs.Common.{◌≡◌, ℕ, true, false, List, [], ◌∷◌, ◌++◌, codes, refl, ap, ◌∙◌, arith, Option, Some, None}
-use Rattle.std.proofs.Common.{slice_get, zero, suc}
+use Rattle.std.proofs.Common.{◌≡◌, ℕ, true, false, List, [], ◌∷◌, ◌++◌, codes, refl, ap, ◌∙◌, arith, Option, Some}
+use Rattle.std.proofs.Common.{None, slice_get, zero, suc}
 use Rattle.std.specs.Fmt.{digits}
 use Rattle.std.proofs.lemmas.List.Elements.{All-nil, All-cons}
-use Rattle.game_rules.specs.Play.{IsPosition, after}
+use Rattle.game_rules.proofs.Common.{IsPosition, after, Grid, IsBoard, outcome, five, four_move}
 use Rattle.game_rules.specs.declared.RuleKind.TheVariants.{Freestyle}
 use Rattle.game_rules.specs.declared.Side.TheVariants.{Black}
 use Rattle.game_rules.specs.declared.Point.{Point}
 use Rattle.game_rules.specs.declared.Outcome.TheVariants.{Wins, GoesOn}
-use Rattle.game_rules.proofs.Common.{Grid, IsBoard, outcome, five, four_move}
 use Rattle.foul_judge.specs.Lawful.{refusal}
 use Rattle.foul_judge.proofs.Lawfulness.{lawful_from_none}
-use Rattle.strategy_graph.specs.Games.{one_later}
-use Rattle.strategy_graph.proofs.Common.{NamesLower, Accepted, Won}
+use Rattle.strategy_graph.proofs.Common.{one_later, NamesLower, Accepted, Won}
 use Rattle.strategy_graph.proofs.Steps.{accepted-by-win}
 use Rattle.strategy_graph.specs.declared.roots.Root.TheVariants.{Attack}
 use Rattle.strategy_checker.specs.HeldRoots.{HeldTable, IsHeldRoot, IsHeld}

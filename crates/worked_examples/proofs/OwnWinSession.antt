@@ -1,17 +1,17 @@
 -- The session in which a win of the brain's own is followed, and after moves were taken back a held start.
-use Rattle.std.proofs.Common.{◌≡◌, ℕ, zero, suc, Bool, true, false, List, [], ◌∷◌, ◌++◌, codes, refl, sym, ap, subst, ◌∙◌, arith, nat_eq}
-use Rattle.std.proofs.Common.{Option, Some, None, slice_get}
+use Rattle.std.proofs.Common.{◌≡◌, ℕ, zero, suc, Bool, true, false, List, [], ◌∷◌, ◌++◌, codes, refl, sym, ap, subst}
+use Rattle.std.proofs.Common.{◌∙◌, arith, nat_eq, Option, Some, None, slice_get}
 use Rattle.std.specs.Fmt.{digits}
 use Rattle.std.specs.List.{list_all}
 use Rattle.std.proofs.lemmas.List.Elements.{All-nil, All-cons}
-use Rattle.game_rules.specs.Play.{after}
+use Rattle.game_rules.proofs.Common.{after, IsBoard, points_of, empties_of, outcome}
 use Rattle.game_rules.specs.declared.RuleKind.TheVariants.{Freestyle}
 use Rattle.game_rules.specs.declared.Side.TheVariants.{Black}
 use Rattle.game_rules.specs.declared.Point.{Point}
 use Rattle.foul_judge.specs.Lawful.{refusal}
 use Rattle.foul_judge.proofs.Lawfulness.{lawful_from_none}
 use Rattle.strategy_graph.specs.declared.Rest.TheVariants.{To}
-use Rattle.strategy_graph.specs.Games.{one_later}
+use Rattle.strategy_graph.proofs.Common.{one_later, Answers, NamesLower, AcceptedStart, Won, game, attacks}
 use Rattle.strategy_graph.specs.declared.roots.Root.TheVariants.{Defend}
 use Rattle.strategy_checker.specs.HeldRoots.{IsHeldRoot, IsHeld}
 use Rattle.gomocup_text.specs.Commands.{commands}
@@ -33,8 +33,6 @@ use Rattle.game_rules.specs.declared.Outcome.TheVariants.{Wins, GoesOn}
 use Rattle.brain_session.specs.OwnGames.{BeginsOwnGame, win_game, win_attacks, win_answers}
 use Rattle.brain_session.proofs.HeldReplies.{session_by}
 use Rattle.brain_session.proofs.OwnGames.{own-games-go_well}
-use Rattle.game_rules.proofs.Common.{IsBoard, points_of, empties_of, outcome}
-use Rattle.strategy_graph.proofs.Common.{Answers, NamesLower, AcceptedStart, Won, game, attacks}
 use Rattle.strategy_graph.proofs.Soundness.{is_met, met-by_test}
 
 -- ---- the start is accepted

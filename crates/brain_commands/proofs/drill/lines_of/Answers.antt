@@ -1,6 +1,5 @@
-use Rattle.std.proofs.Common.{◌≡◌, String, Global}
-use Rattle.std.specs.Prelude.{Result, Ok, Err, IfOk, string_bytes}
-use Rattle.brain_commands.specs.Drills.{IsDrillText, drill_lines}
+use Rattle.std.proofs.Common.{◌≡◌, String, Global, Result, Ok, Err, IfOk, string_bytes}
+use Rattle.brain_commands.proofs.Common.{IsDrillText, drill_lines}
 use Rattle.brain_commands.proofs.drill.lines_of.Goals as goal
 
 pub returns : goal.returns

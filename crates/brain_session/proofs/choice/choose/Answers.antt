@@ -1,12 +1,8 @@
-use Rattle.std.proofs.Common.{◌≡◌, true, sym, ap, subst, ◌∙◌}
-use Rattle.std.specs.Prelude.{None}
-use Rattle.game_rules.specs.Grid.{is_empty}
-use Rattle.game_rules.specs.Play.{IsPosition}
+use Rattle.std.proofs.Common.{◌≡◌, true, sym, ap, subst, ◌∙◌, None}
+use Rattle.game_rules.proofs.Common.{is_empty, IsPosition}
 use Rattle.game_rules.specs.declared.Point.{Point}
-use Rattle.brain_session.specs.ChosenMoves.{Choice, plain_move}
-use Rattle.brain_session.specs.Kept.{Moves, game_of}
+use Rattle.brain_session.proofs.Common.{Choice, plain_move, Moves, game_of, board_of}
 use Rattle.brain_session.specs.declared.guide.Guide.TheVariants.{HeldNode as HeldGuide, OwnWin as OwnGuide}
-use Rattle.brain_session.specs.States.{board_of}
 use Rattle.brain_session.proofs.SessionGames.{along-lawful}
 use Rattle.brain_session.proofs.HeldNodes.{first-accepted}
 use Rattle.brain_session.proofs.LegalMoves.{plain-is_empty}

@@ -1,6 +1,5 @@
-use Rattle.std.proofs.Common.{sym, ap, ◌∙◌, arith}
-use Rattle.std.specs.Prelude.{slice_get}
-use Rattle.brain_session.specs.Kept.{Moves, game_of}
+use Rattle.std.proofs.Common.{sym, ap, ◌∙◌, arith, slice_get}
+use Rattle.brain_session.proofs.Common.{Moves, game_of}
 use Rattle.brain_session.proofs.HeldNodes.{led_to, first-skip, first-found, first-none}
 use Rattle.brain_session.proofs.choice.held_node.Goals as goal
 

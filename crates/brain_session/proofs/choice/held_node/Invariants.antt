@@ -1,6 +1,5 @@
 use Rattle.std.proofs.Common.{◌≡◌, drop}
-use Rattle.brain_session.specs.ChosenMoves.{first_node}
-use Rattle.brain_session.specs.Kept.{game_of}
+use Rattle.brain_session.proofs.Common.{first_node, game_of}
 use Rattle.brain_session.proofs.choice.held_node.Given as goal
 
 -- no root so far leads to a node, and the moves are as before

@@ -1,7 +1,6 @@
-use Rattle.std.proofs.Common.{◌≡◌}
-use Rattle.std.specs.List.{find}
-use Rattle.game_rules.specs.Shapes.{five}
-use Rattle.brain_session.specs.ChosenMoves.{five_to_make}
+use Rattle.std.proofs.Common.{◌≡◌, find}
+use Rattle.game_rules.proofs.Common.{five}
+use Rattle.brain_session.proofs.Common.{five_to_make}
 use Rattle.brain_session.proofs.plain_move.five_to_make.Given as goal
 
 -- the first five point of those left is the first of all

@@ -1,6 +1,5 @@
-use Rattle.std.proofs.Common.{◌≡◌}
-use Rattle.std.specs.List.{find}
-use Rattle.game_rules.specs.Grid.{is_empty, points_of}
+use Rattle.std.proofs.Common.{◌≡◌, find}
+use Rattle.game_rules.proofs.Common.{is_empty, points_of}
 use Rattle.brain_session.proofs.plain_move.least_empty.Given as goal
 
 -- the first empty point of those left is the first of all

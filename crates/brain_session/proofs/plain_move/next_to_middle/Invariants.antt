@@ -1,8 +1,6 @@
-use Rattle.std.proofs.Common.{◌≡◌, ◌&&◌, not}
-use Rattle.std.specs.List.{filter}
-use Rattle.game_rules.specs.Grid.{is_empty}
-use Rattle.game_rules.specs.Play.{outcome, is_foul}
-use Rattle.brain_session.specs.ChosenMoves.{next_to_middle, off_middle}
+use Rattle.std.proofs.Common.{◌≡◌, ◌&&◌, not, filter}
+use Rattle.game_rules.proofs.Common.{is_empty, outcome, is_foul}
+use Rattle.brain_session.proofs.Common.{next_to_middle, off_middle}
 use Rattle.brain_session.proofs.PlainMoves.{nearest_of}
 use Rattle.brain_session.proofs.plain_move.next_to_middle.Given as goal
 

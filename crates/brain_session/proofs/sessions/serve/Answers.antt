@@ -1,6 +1,5 @@
-use Rattle.std.proofs.Common.{◌≡◌, ◌∙◌, true, false, sym, ap, subst, refl, arith, inl, inr, Option, Some, None, Result, Ok, Err, ◌++◌}
-use Rattle.std.specs.Prelude.{IsErrOf, is_some}
-use Rattle.std.specs.Option.{option_to_list}
+use Rattle.std.proofs.Common.{◌≡◌, ◌∙◌, true, false, sym, ap, subst, refl, arith, inl, inr, Option, Some, None, Result, Ok, Err}
+use Rattle.std.proofs.Common.{◌++◌, IsErrOf, is_some, option_to_list}
 use Rattle.std.specs.Result.{IsErrAnd}
 use Rattle.renju_io.specs.Asked.{IsAskedWithin}
 use Rattle.renju_io.specs.Lines.{ReaderState, reads_for}
@@ -10,11 +9,11 @@ use Rattle.renju_io.proofs.TakenText.{Takes-then}
 use Rattle.gomocup_text.specs.declared.Command.{Command}
 use Rattle.brain_session.specs.declared.sessions.ServeError.{ServeError}
 use Rattle.brain_session.specs.declared.sessions.ServeError.TheVariants.{ReadFailed, WriteFailed, Exhausted, Memory}
-use Rattle.brain_session.specs.Serving.{TakesCommands, IsAnswered, output_of, served}
+use Rattle.brain_session.proofs.Common.{TakesCommands, IsAnswered, output_of, served}
 use Rattle.brain_session.proofs.Serving.{Asked, EndsAt, PastLimit, SoFar-begun, Asked-told, AskedInTurn-told, InTurn-answered}
 use Rattle.brain_session.proofs.Serving.{HasAnswered-end, IsReadToEnd-end, StopsAtWrite-asked, StopsInTurn-asked, StopsAtStep-asked}
-use Rattle.brain_session.proofs.Serving.{EndsAt-told, StopsAtRead-open}
-use Rattle.brain_session.proofs.Serving.{PastLimit-taken, GivesSome-past, by_each_told, by_each_open, AsksPast-taken}
+use Rattle.brain_session.proofs.Serving.{EndsAt-told, StopsAtRead-open, PastLimit-taken, GivesSome-past, by_each_told, by_each_open}
+use Rattle.brain_session.proofs.Serving.{AsksPast-taken}
 use Rattle.brain_session.proofs.sessions.serve.Given.{Over}
 use Rattle.brain_session.proofs.sessions.serve.Goals as goal
 

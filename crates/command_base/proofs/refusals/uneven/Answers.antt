@@ -1,5 +1,4 @@
-use Rattle.std.proofs.Common.{append_assoc}
-use Rattle.std.specs.Prelude.{string_bytes}
+use Rattle.std.proofs.Common.{append_assoc, string_bytes}
 use Rattle.text_lines.proofs.TextLaws.{regroup}
 use Rattle.command_base.proofs.refusals.uneven.Goals as goal
 

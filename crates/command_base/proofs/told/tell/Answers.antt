@@ -1,5 +1,4 @@
-use Rattle.std.proofs.Common.{inl, inr, ap}
-use Rattle.std.specs.Prelude.{Err}
+use Rattle.std.proofs.Common.{inl, inr, ap, Err}
 use Rattle.command_base.specs.declared.status.Status.TheVariants.{TooLong}
 use Rattle.command_base.proofs.ToldLaws.{too-long}
 use Rattle.command_base.proofs.told.tell.Goals as goal

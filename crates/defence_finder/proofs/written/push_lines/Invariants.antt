@@ -1,6 +1,5 @@
-use Rattle.std.proofs.Common.{◌≡◌, ◌++◌, take, string_bytes}
-use Rattle.std.specs.List.{flat_map}
-use Rattle.defence_finder.specs.Lines.{point_line}
+use Rattle.std.proofs.Common.{◌≡◌, ◌++◌, take, string_bytes, flat_map}
+use Rattle.defence_finder.proofs.Common.{point_line}
 use Rattle.defence_finder.proofs.written.push_lines.Given as goal
 
 -- the lines so far stand behind the text

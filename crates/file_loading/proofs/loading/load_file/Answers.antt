@@ -1,10 +1,8 @@
-use Rattle.std.proofs.Common.{inl, inr, ap}
+use Rattle.std.proofs.Common.{inl, inr, ap, Err}
 use Rattle.std.proofs.lemmas.Result.{IfOk-weaker}
-use Rattle.std.specs.Prelude.{Err}
 use Rattle.command_base.specs.declared.answer.Answer.{Answer}
 use Rattle.command_base.specs.Runs.{change}
-use Rattle.file_loading.specs.HeldFiles.{IsLoaded}
-use Rattle.file_loading.specs.Loading.{IsLoadedAs, IsLoadedFrom}
+use Rattle.file_loading.proofs.Common.{IsLoaded, IsLoadedAs, IsLoadedFrom}
 use Rattle.file_loading.proofs.HeldFileLaws.{loaded-from, long-file}
 use Rattle.file_loading.proofs.loading.load_file.Goals as goal
 

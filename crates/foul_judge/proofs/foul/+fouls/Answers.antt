@@ -1,6 +1,6 @@
-use Rattle.std.proofs.Common.{rules, ◌≡◌, ◌+◌, ◌*◌, ◌<◌, true, false, ◌&&◌, not, below_more, sym, ap, ◌∙◌, arith}
+use Rattle.std.proofs.Common.{rules, ◌≡◌, ◌+◌, ◌*◌, ◌<◌, true, false, ◌&&◌, not, below_more, sym, ap, ◌∙◌}
+use Rattle.std.proofs.Common.{arith, is_none}
 use Rattle.game_rules.proofs.Common.{Grid, IsBoard, is_empty, empties_of, holds, lift, along, five, black_foul, stone_foul}
-use Rattle.std.specs.Prelude.{is_none}
 use Rattle.game_rules.specs.declared.Side.TheVariants.{Black}
 use Rattle.game_rules.proofs.Boards.{lift-put, is_empty-on, empties_of-put, holds-put_same, answer_at}
 use Rattle.game_rules.proofs.Positions.{IsBoard-put}
@@ -11,11 +11,10 @@ use Rattle.stone_board.proofs.Stones.{put-holds_stone}
 use Rattle.foul_judge.proofs.ThreePlaces.{foul-step, three_by_place, no_three, no_free_three, line_three-empty, free_three-line, not_free}
 use Rattle.foul_judge.proofs.ThreePlaces.{bit_clear}
 use Rattle.foul_judge.proofs.MayFoul.{reaches_of-put, no_foul, few_threes, no_two_threes}
-use Rattle.foul_judge.specs.ShortCut.{reaches_of, may_have_two_threes, may_foul}
-use Rattle.foul_judge.specs.Threes.{free_three}
-use Rattle.foul_judge.proofs.foul.+fouls.Goals as goal
+use Rattle.foul_judge.proofs.Common.{reaches_of, may_have_two_threes, may_foul, free_three}
 use Rattle.foul_judge.proofs.foul.+fouls.Goals.{is_three-else-line_points-place-eq1-via-then-line_points-place-eq1+else-is_free_three}
 use Rattle.foul_judge.proofs.foul.+fouls.Goals.{is_three-else-line_points-place-eq1-via-else-line_points-place-eq1}
+use Rattle.foul_judge.proofs.foul.+fouls.Goals as goal
 
 pub black_foul-stone_foul-result-requires : goal.black_foul-stone_foul-result-requires
 black_foul-stone_foul-result-requires g t c =

@@ -1,7 +1,6 @@
-use Rattle.std.proofs.Common.{◌≡◌}
-use Rattle.std.specs.List.{find}
-use Rattle.game_rules.specs.Grid.{points_of}
-use Rattle.foul_judge.specs.Lawful.{is_on_winning_run}
+use Rattle.std.proofs.Common.{◌≡◌, find}
+use Rattle.game_rules.proofs.Common.{points_of}
+use Rattle.foul_judge.proofs.Common.{is_on_winning_run}
 use Rattle.foul_judge.proofs.position.first_won.Given as goal
 
 -- the first of those left is the first of all

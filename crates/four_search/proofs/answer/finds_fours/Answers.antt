@@ -1,11 +1,9 @@
-use Rattle.std.proofs.Common.{◌≡◌, ◌↔◌, ℕ, ◌≤◌, Bool, true, false, refl, sym, subst, ◌∙◌, arith}
-use Rattle.std.specs.Prelude.{IsTrue}
+use Rattle.std.proofs.Common.{◌≡◌, ◌↔◌, ℕ, ◌≤◌, Bool, true, false, refl, sym, subst, ◌∙◌, arith, IsTrue}
 use Rattle.game_rules.proofs.Common.{Grid, wins_by_fours}
 use Rattle.game_rules.specs.declared.RuleKind.{RuleKind}
 use Rattle.four_search.specs.declared.answer.Sought.{Sought}
 use Rattle.four_search.specs.declared.answer.Sought.TheVariants.{Win, None, Spent}
-use Rattle.four_search.specs.Answers.{IsSoughtOut, is_win}
-use Rattle.four_search.specs.FourGame.{four_cost}
+use Rattle.four_search.proofs.Common.{IsSoughtOut, is_win, four_cost}
 use Rattle.four_search.proofs.Written.{sought-limit}
 use Rattle.four_search.proofs.answer.finds_fours.Goals as goal
 

@@ -1,11 +1,9 @@
-use Rattle.std.proofs.Common.{rules, ◌≡◌, ◌*◌, true, false, Bool, cond, ap, sym, subst, ◌∙◌, arith, refl}
-use Rattle.std.proofs.Common.{Result, Ok, Err, OnErr}
+use Rattle.std.proofs.Common.{rules, ◌≡◌, ◌*◌, true, false, Bool, cond, ap, sym, subst, ◌∙◌, arith, refl, Result, Ok, Err}
+use Rattle.std.proofs.Common.{OnErr}
 use Rattle.game_rules.proofs.Common.{Grid, wins_by_fours}
 use Rattle.strategy_compiler.proofs.Common.{GrowsBy, StandsFor}
 use Rattle.strategy_compiler.proofs.Growing.{grows-more}
-use Rattle.four_search.specs.Answers.{IsSought, IsSoughtOut, IsWithoutFours}
-use Rattle.four_search.specs.Plans.{four_plan}
-use Rattle.four_search.specs.Searching.{four_line}
+use Rattle.four_search.proofs.Common.{IsSought, IsSoughtOut, IsWithoutFours, four_plan, four_line}
 use Rattle.four_search.proofs.Written.{sought-win, sought-limit}
 use Rattle.four_search.proofs.answer.four_search_with.Goals as goal
 

@@ -1,8 +1,7 @@
-use Rattle.std.proofs.Common.{◌≡◌, ℕ, ◌+◌, ◌≤◌, ◌<◌, false}
-use Rattle.std.specs.List.{sum_by, range_with_len}
-use Rattle.game_rules.specs.Games.{wins_by_fours}
-use Rattle.four_search.specs.FourGame.{four_tree}
-use Rattle.four_search.specs.Roots.{TellsRoot}
+use Rattle.std.proofs.Common.{◌≡◌, ℕ, ◌+◌, ◌≤◌, ◌<◌, false, sum_by}
+use Rattle.std.specs.List.{range_with_len}
+use Rattle.game_rules.proofs.Common.{wins_by_fours}
+use Rattle.four_search.proofs.Common.{four_tree, TellsRoot}
 use Rattle.four_search.proofs.answer.seek.Given as goal
 
 -- the view is as before, and what was seen at first is so; there is no win within the depths so far, and what is

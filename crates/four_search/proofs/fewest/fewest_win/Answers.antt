@@ -1,9 +1,7 @@
 use Rattle.std.proofs.Common.{ap, sym, subst, ◌∙◌, arith, List}
 use Rattle.game_rules.specs.declared.Point.{Point}
 use Rattle.game_rules.proofs.Common.{Grid, IsPosition, wins_by_fours}
-use Rattle.four_search.specs.Answers.{IsSought, IsSoughtOut}
-use Rattle.four_search.specs.FewestWins.{IsFourTable}
-use Rattle.four_search.specs.Searching.{four_line}
+use Rattle.four_search.proofs.Common.{IsSought, IsSoughtOut, IsFourTable, four_line}
 use Rattle.four_search.proofs.fewest.fewest_win.Goals as goal
 
 pub returns-in-None-clause-found : goal.returns-in-None-clause-found

@@ -2,13 +2,10 @@ use Rattle.std.proofs.Common.{ℕ, ◌<◌, ap, subst, arith, IfOk, OnOk, List, 
 use Rattle.std.proofs.lemmas.Result.{IfOk-weaker}
 use Rattle.game_rules.proofs.Common.{Grid}
 use Rattle.strategy_graph.specs.declared.Node.{Node}
-use Rattle.strategy_compiler.specs.Nodes.{IsCompiled}
+use Rattle.strategy_compiler.proofs.Common.{IsCompiled, StandsFor}
 use Rattle.strategy_compiler.specs.declared.error.SearchError.{SearchError}
-use Rattle.strategy_compiler.proofs.Common.{StandsFor}
 use Rattle.four_search.specs.declared.fewest.FourTable.{FourTable}
-use Rattle.four_search.specs.Answers.{IsSought}
-use Rattle.four_search.specs.FewestWins.{IsFinished, IsFourTable}
-use Rattle.four_search.specs.Plans.{four_plan}
+use Rattle.four_search.proofs.Common.{IsSought, IsFinished, IsFourTable, four_plan}
 use Rattle.four_search.proofs.FourTables.{table-made}
 use Rattle.four_search.proofs.fewest.plan_table.Goals as goal
 

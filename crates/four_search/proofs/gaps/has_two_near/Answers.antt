@@ -1,5 +1,4 @@
-use Rattle.std.proofs.Common.{◌≡◌, ◌≤◌, false, subst, ap, ◌∙◌, arith, sym}
-use Rattle.std.specs.Prelude.{ℕ, count_ones, nat_le}
+use Rattle.std.proofs.Common.{◌≡◌, ◌≤◌, false, subst, ap, ◌∙◌, arith, sym, ℕ, count_ones, nat_le}
 use Rattle.std.proofs.lemmas.Bool.Decides.{nat_tests}
 use Rattle.stone_board.specs.Lines.{place_on}
 use Rattle.four_search.proofs.NearGaps.{near_bits, two_near}

@@ -1,4 +1,5 @@
-use Rattle.std.proofs.Common.{rules, ◌≡◌, ℕ, ◌+◌, ◌-◌, ◌<◌, true, false, ap, sym, subst, ◌∙◌, arith, IfOk, List, ◌∷◌, map, drop, get_or}
+use Rattle.std.proofs.Common.{rules, ◌≡◌, ℕ, ◌+◌, ◌-◌, ◌<◌, true, false, ap, sym, subst, ◌∙◌, arith, IfOk, List}
+use Rattle.std.proofs.Common.{◌∷◌, map, drop, get_or}
 use Rattle.game_rules.proofs.Common.{Grid, is_empty, IsPosition, after, mover, other, outcome, has_fouls, has_five, five_points}
 use Rattle.game_rules.specs.declared.Outcome.TheVariants.{GoesOn}
 use Rattle.game_rules.proofs.Boards.{and_left, and_right}
@@ -11,16 +12,14 @@ use Rattle.threat_moves.proofs.Fates.{block-alone}
 use Rattle.four_search.specs.declared.search.Found.{Found}
 use Rattle.four_search.specs.declared.search.Found.TheVariants.{NoWin}
 use Rattle.four_search.specs.declared.four_points.FourPoint.{FourPoint}
-use Rattle.four_search.specs.FourPoints.{four_points_of, AfterFour, AfterReply}
+use Rattle.four_search.proofs.Common.{four_points_of, AfterFour, AfterReply, found_trying, found_behind, found_answering, IsDenied}
 use Rattle.four_search.proofs.Listing.{drop-all, drop-next}
 use Rattle.four_search.proofs.Trying.{found-four_points, ruled-out, each-four_point, not_taken, taken-safe, try_all, try_all-none, step_at}
 use Rattle.four_search.proofs.Trying.{step-goes_on, step-ends, found-nothing, answering-no-more, behind-else, block-none, block-threat}
 use Rattle.four_search.proofs.Trying.{block-last, trying-else, trying-goes}
-use Rattle.four_search.specs.Searching.{found_trying, found_behind, found_answering}
-use Rattle.four_search.specs.Remembering.{IsDenied}
 use Rattle.four_search.proofs.Remembering.{denied-found, found-denied}
-use Rattle.four_search.proofs.search.+search.Goals as goal
 use Rattle.four_search.proofs.search.+search.Goals.{try_four_points-then-takes+in_ok-found+in-NoWin, try_four_points-else-takes}
+use Rattle.four_search.proofs.search.+search.Goals as goal
 
 pub after_block-returns-then-limits-eq0-clause-found :
     goal.after_block-returns-then-limits-eq0-clause-found

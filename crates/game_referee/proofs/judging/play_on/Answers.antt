@@ -1,8 +1,6 @@
-use Rattle.std.proofs.Common.{◌≡◌, ◌+◌, List, ◌∷◌, sym, ap, ◌∙◌}
-use Rattle.std.specs.Prelude.{drop, slice_index_or}
+use Rattle.std.proofs.Common.{◌≡◌, ◌+◌, List, ◌∷◌, sym, ap, ◌∙◌, drop, slice_index_or}
 use Rattle.std.proofs.lemmas.List.{drop_more}
-use Rattle.game_rules.specs.Grid.{Grid}
-use Rattle.game_rules.specs.Play.{outcome, after, mover}
+use Rattle.game_rules.proofs.Common.{Grid, outcome, after, mover}
 use Rattle.game_rules.specs.declared.Outcome.TheVariants.{GoesOn}
 use Rattle.game_rules.specs.declared.Point.{Point}
 use Rattle.game_referee.proofs.Playing.{played-end, played-more}

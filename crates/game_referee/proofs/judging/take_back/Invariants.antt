@@ -1,7 +1,6 @@
 use Rattle.std.proofs.Common.{◌-◌}
-use Rattle.game_rules.specs.Grid.{Grid}
-use Rattle.game_rules.specs.Play.{IsPosition}
-use Rattle.game_referee.specs.Played.{WentOn}
+use Rattle.game_rules.proofs.Common.{Grid, IsPosition}
+use Rattle.game_referee.proofs.Common.{WentOn}
 use Rattle.game_referee.proofs.judging.take_back.Given as goal
 
 -- the moves that are not yet taken back, from a position, and from each from which all were played

@@ -1,13 +1,12 @@
-use Rattle.std.proofs.Common.{◌≡◌, ◌≤◌, ℕ, List, length, refl, sym, ap, ◌∙◌, arith}
-use Rattle.std.specs.Prelude.{Option, Some, None, slice_get}
+use Rattle.std.proofs.Common.{◌≡◌, ◌≤◌, ℕ, List, length, refl, sym, ap, ◌∙◌, arith, Option, Some, None, slice_get}
+use Rattle.std.proofs.Common.{option_and_then, option_map}
 use Rattle.game_rules.specs.declared.Point.{Point}
-use Rattle.std.specs.Option.{option_and_then, option_map}
 use Rattle.std.proofs.lemmas.Option.{slice_get_past}
 use Rattle.strategy_graph.specs.declared.Node.{Node}
 use Rattle.strategy_graph.specs.declared.roots.Root.TheVariants.{Attack, Defend}
-use Rattle.strategy_graph.specs.Tables.{answer, answers_of}
+use Rattle.strategy_graph.proofs.Common.{answer, answers_of}
 use Rattle.game_referee.specs.declared.replaying.Turn.{Turn}
-use Rattle.game_referee.specs.Replays.{in_turn, next_turn}
+use Rattle.game_referee.proofs.Common.{in_turn, next_turn}
 use Rattle.game_referee.proofs.replaying.next_turn.Goals as goal
 
 -- the node that answers the reply, where its answers are those of this node

@@ -1,13 +1,9 @@
-use Rattle.std.proofs.Common.{◌≡◌, length, sym, ap, subst, ◌∙◌, arith}
-use Rattle.std.specs.Prelude.{slice_index_or}
-use Rattle.std.specs.Option.{option_and_then}
+use Rattle.std.proofs.Common.{◌≡◌, length, sym, ap, subst, ◌∙◌, arith, slice_index_or, option_and_then}
 use Rattle.std.proofs.lemmas.List.{drop_more}
-use Rattle.game_rules.specs.Grid.{Grid}
-use Rattle.game_rules.specs.Play.{after, outcome}
+use Rattle.game_rules.proofs.Common.{Grid, after, outcome}
 use Rattle.game_rules.specs.declared.Outcome.TheVariants.{GoesOn}
 use Rattle.game_rules.specs.declared.Point.{Point}
-use Rattle.game_referee.specs.Played.{WentOn}
-use Rattle.game_referee.specs.Replays.{in_turn}
+use Rattle.game_referee.proofs.Common.{WentOn, in_turn}
 use Rattle.game_referee.proofs.Playing.{played-few, follows-end, replayed-none, replayed-all, replayed-stray, replayed-over, replayed-end}
 use Rattle.game_referee.proofs.Playing.{replayed-more}
 use Rattle.game_referee.proofs.replaying.play_by.Goals as goal

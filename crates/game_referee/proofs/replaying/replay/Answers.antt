@@ -1,8 +1,6 @@
-use Rattle.std.proofs.Common.{sym, ap, ◌∙◌}
-use Rattle.std.specs.Prelude.{Option}
+use Rattle.std.proofs.Common.{sym, ap, ◌∙◌, Option}
 use Rattle.strategy_graph.specs.declared.roots.Root.{Root}
-use Rattle.game_referee.specs.Replays.{departs_from, replay, strays}
-use Rattle.game_referee.specs.Verdicts.{outcomes}
+use Rattle.game_referee.proofs.Common.{departs_from, replay, strays, outcomes}
 use Rattle.game_referee.proofs.Following.{follower-never-loses}
 use Rattle.game_referee.proofs.replaying.replay.Goals as goal
 

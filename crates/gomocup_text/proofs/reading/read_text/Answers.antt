@@ -1,7 +1,6 @@
 use Rattle.std.proofs.Common.{◌≡◌, ◌∙◌, length, ap, arith}
 use Rattle.std.proofs.lemmas.Bool.Decides.{nat_tests}
-use Rattle.gomocup_text.specs.Commands.{form_of}
-use Rattle.gomocup_text.specs.Words.{word_named}
+use Rattle.gomocup_text.proofs.Common.{form_of, word_named}
 use Rattle.gomocup_text.proofs.TextCommands.{text_command-word}
 use Rattle.gomocup_text.proofs.reading.read_text.Goals as goal
 

@@ -1,16 +1,12 @@
-use Rattle.std.proofs.Common.{rules, ◌≡◌, ℕ, suc, ◌+◌, Bool, true, false, sym, ap, subst, ◌∙◌, arith, IfOk, OnOk, refl, List, Some}
-use Rattle.std.proofs.Common.{None, IfSome, sum_by}
-use Rattle.game_rules.proofs.Common.{Grid, points_of, outcome, after, goes_on_with, has_five, loses_or, if_goes_on}
-use Rattle.game_rules.specs.Games.{behind_replies}
+use Rattle.std.proofs.Common.{rules, ◌≡◌, ℕ, suc, ◌+◌, Bool, true, false, sym, ap, subst, ◌∙◌, arith, IfOk, OnOk, refl}
+use Rattle.std.proofs.Common.{List, Some, None, IfSome, sum_by}
+use Rattle.game_rules.proofs.Common.{Grid, points_of, outcome, after, goes_on_with, has_five, loses_or, if_goes_on, behind_replies}
 use Rattle.game_rules.specs.declared.Outcome.TheVariants.{GoesOn}
 use Rattle.strategy_graph.specs.declared.Node.{Node}
 use Rattle.strategy_compiler.proofs.Common.{Writes}
 use Rattle.game_rules.proofs.Undo.{stone_back, lift_back, unwon_back}
 use Rattle.line_proof.specs.declared.proof.LineAnswer.TheVariants.{Proved}
-use Rattle.line_proof.specs.Lines.{line_wins, line_tree, each_loses}
-use Rattle.line_proof.specs.Answers.{IsTold, IsQuick}
-use Rattle.line_proof.specs.Doubles.{IsDouble}
-use Rattle.line_proof.specs.Replies.{AreAnswers, FindsAnswers, IsAnswered}
+use Rattle.line_proof.proofs.Common.{line_wins, line_tree, each_loses, IsTold, IsQuick, IsDouble, AreAnswers, FindsAnswers, IsAnswered}
 use Rattle.strategy_compiler.proofs.Growing.{grows-not, grows-then, writes-fails, writes-memory, writes-nothing, writes-tells, writes-then}
 use Rattle.strategy_compiler.proofs.Growing.{writes-then-fails}
 use Rattle.strategy_compiler.proofs.Standing.{compiled-lower}

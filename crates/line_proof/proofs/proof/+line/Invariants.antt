@@ -1,10 +1,8 @@
-use Rattle.std.proofs.Common.{◌≡◌, ◌+◌, ◌-◌, ◌*◌, ◌≤◌, ◌++◌, IfSome}
-use Rattle.std.specs.List.{list_all, sum_by}
+use Rattle.std.proofs.Common.{◌≡◌, ◌+◌, ◌-◌, ◌*◌, ◌≤◌, ◌++◌, IfSome, sum_by}
+use Rattle.std.specs.List.{list_all}
 use Rattle.game_rules.proofs.Common.{points_of, outcome, after, loses_or, if_goes_on, behind_replies}
 use Rattle.strategy_compiler.proofs.Common.{GrowsBy, IsCompiled}
-use Rattle.line_proof.specs.Lines.{line_wins, line_tree, each_loses}
-use Rattle.line_proof.specs.Doubles.{IsDouble}
-use Rattle.line_proof.specs.Replies.{AreAnswers, answered, going_on}
+use Rattle.line_proof.proofs.Common.{line_wins, line_tree, each_loses, IsDouble, AreAnswers, answered, going_on}
 use Rattle.line_proof.proofs.proof.+line.Given as goal
 
 abbrev pub decreases-prove_slow : goal.decreases-prove_slow

@@ -3,8 +3,7 @@ use Rattle.game_rules.proofs.Common.{Grid, wins_by_fours}
 use Rattle.strategy_graph.specs.declared.Node.{Node}
 use Rattle.strategy_compiler.proofs.Common.{Writes}
 use Rattle.strategy_compiler.proofs.Growing.{writes-fails, writes-tells}
-use Rattle.line_proof.specs.Answers.{IsTold, IsQuick}
-use Rattle.line_proof.specs.Lines.{line_wins, line_tree}
+use Rattle.line_proof.proofs.Common.{IsTold, IsQuick, line_wins, line_tree}
 use Rattle.line_proof.proofs.Steps.{quick-wins, quick-most}
 use Rattle.line_proof.proofs.proof.prove.Goals as goal
 

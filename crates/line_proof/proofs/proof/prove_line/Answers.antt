@@ -1,5 +1,5 @@
-use Rattle.std.proofs.Common.{◌≡◌, ◌↔◌, ℕ, ◌+◌, ◌<◌, true, false, Bool, refl, sym, subst, ◌∙◌, IfOk, List, length}
-use Rattle.std.specs.Prelude.{IsErrOf}
+use Rattle.std.proofs.Common.{◌≡◌, ◌↔◌, ℕ, ◌+◌, ◌<◌, true, false, Bool, refl, sym, subst, ◌∙◌, IfOk, List}
+use Rattle.std.proofs.Common.{length, IsErrOf}
 use Rattle.std.proofs.lemmas.Result.{IfOk-weaker}
 use Rattle.game_rules.proofs.Common.{Grid}
 use Rattle.game_rules.specs.declared.RuleKind.{RuleKind}
@@ -10,8 +10,7 @@ use Rattle.strategy_compiler.proofs.Common.{IsWrittenWin, GrowsBy}
 use Rattle.threat_moves.specs.declared.threat_list.Threat.{Threat}
 use Rattle.line_proof.specs.declared.proof.LineAnswer.{LineAnswer}
 use Rattle.line_proof.specs.declared.proof.LineAnswer.TheVariants.{Proved, Fails}
-use Rattle.line_proof.specs.Answers.{IsTold, OnProved}
-use Rattle.line_proof.specs.Lines.{line_wins, line_tree}
+use Rattle.line_proof.proofs.Common.{IsTold, OnProved, line_wins, line_tree}
 use Rattle.line_proof.proofs.proof.prove_line.Goals as goal
 
 proved-by : (rule : RuleKind) (n : ℕ) (b : Grid) (t : List Node) (wins : Bool) (a : LineAnswer) → IsTold rule n b t wins a

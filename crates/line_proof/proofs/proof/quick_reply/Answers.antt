@@ -5,8 +5,7 @@ use Rattle.strategy_compiler.specs.declared.wins.WrittenWin.{WrittenWin}
 use Rattle.strategy_compiler.proofs.Common.{IsWrittenWin, Writes}
 use Rattle.strategy_compiler.proofs.Growing.{win-within, writes-fails, writes-tells}
 use Rattle.strategy_compiler.proofs.Standing.{compiled-lower}
-use Rattle.line_proof.specs.Answers.{IsQuick}
-use Rattle.line_proof.specs.Doubles.{IsDouble}
+use Rattle.line_proof.proofs.Common.{IsQuick, IsDouble}
 use Rattle.line_proof.proofs.Doubling.{hint-grown}
 use Rattle.line_proof.proofs.Steps.{five-few, five-quick}
 use Rattle.line_proof.proofs.proof.quick_reply.Goals as goal

@@ -1,6 +1,5 @@
-use Rattle.std.proofs.Common.{inl, inr, ◌≡◌, ◌↔◌, ℕ, ◌≤◌, Bool, true, false, refl, sym, subst, ap, ◌∙◌, arith, List, [], ◌∷◌, ◌++◌}
-use Rattle.std.proofs.Common.{length}
-use Rattle.std.proofs.Common.{min}
+use Rattle.std.proofs.Common.{inl, inr, ◌≡◌, ◌↔◌, ℕ, ◌≤◌, Bool, true, false, refl, sym, subst, ap, ◌∙◌, arith}
+use Rattle.std.proofs.Common.{List, [], ◌∷◌, ◌++◌, length, min}
 use Rattle.std.proofs.lemmas.Bool.{cases_lt}
 use Rattle.game_rules.proofs.Common.{Grid, IsPosition, wins_by_fours}
 use Rattle.game_rules.specs.declared.RuleKind.{RuleKind}

@@ -1,5 +1,4 @@
-use Rattle.std.proofs.Common.{◌≡◌, ◌≤◌, ◌++◌}
-use Rattle.std.specs.List.{filter}
+use Rattle.std.proofs.Common.{◌≡◌, ◌≤◌, ◌++◌, filter}
 use Rattle.game_rules.proofs.Common.{five, five_points}
 use Rattle.line_tables.proofs.tables.listed_fives.Given as goal
 

@@ -1,6 +1,5 @@
-use Rattle.std.proofs.Common.{◌≡◌, ◌++◌}
-use Rattle.std.specs.List.{filter_map}
-use Rattle.position_commands.specs.Fouls.{foul_point, black_fouls}
+use Rattle.std.proofs.Common.{◌≡◌, ◌++◌, filter_map}
+use Rattle.position_commands.proofs.Common.{foul_point, black_fouls}
 use Rattle.position_commands.proofs.fouls.black_fouls.Given as goal
 
 -- the fouls so far and those among the points that are left are all

@@ -1,7 +1,5 @@
-use Rattle.std.proofs.Common.{◌≡◌, ◌++◌, take}
-use Rattle.std.specs.Prelude.{string_bytes}
-use Rattle.std.specs.List.{flat_map}
-use Rattle.position_commands.specs.Fouls.{foul_line}
+use Rattle.std.proofs.Common.{◌≡◌, ◌++◌, take, string_bytes, flat_map}
+use Rattle.position_commands.proofs.Common.{foul_line}
 use Rattle.position_commands.proofs.fouls.push_fouls.Given as goal
 
 -- the lines so far stand behind the text

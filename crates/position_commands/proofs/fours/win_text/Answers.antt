@@ -1,12 +1,11 @@
 use Rattle.std.proofs.Common.{ℕ, sym, subst, arith, IfOk, length}
 use Rattle.std.proofs.lemmas.Result.{IfOk-weaker}
-use Rattle.game_rules.specs.Grid.{Grid}
-use Rattle.strategy_graph.specs.Tables.{TableOnBoard}
-use Rattle.strategy_compiler.specs.Wins.{IsWrittenWin}
-use Rattle.position_files.specs.Tables.{IsTextOfTable}
+use Rattle.game_rules.proofs.Common.{Grid}
+use Rattle.strategy_graph.proofs.Common.{TableOnBoard}
+use Rattle.strategy_compiler.proofs.Common.{IsWrittenWin}
+use Rattle.position_files.proofs.Common.{IsTextOfTable}
 use Rattle.command_base.specs.declared.answer.Answer.{Answer}
-use Rattle.position_commands.specs.Fours.{table_at}
-use Rattle.position_commands.specs.Fours.{IsShortWinText}
+use Rattle.position_commands.proofs.Common.{table_at, IsShortWinText}
 use Rattle.command_base.proofs.PositionLaws.{file_at}
 use Rattle.position_commands.proofs.fours.win_text.Goals as goal
 

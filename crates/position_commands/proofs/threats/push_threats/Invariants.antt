@@ -1,7 +1,5 @@
-use Rattle.std.proofs.Common.{◌≡◌, ◌++◌, take}
-use Rattle.std.specs.Prelude.{string_bytes}
-use Rattle.std.specs.List.{flat_map}
-use Rattle.position_commands.specs.Threats.{threat_line}
+use Rattle.std.proofs.Common.{◌≡◌, ◌++◌, take, string_bytes, flat_map}
+use Rattle.position_commands.proofs.Common.{threat_line}
 use Rattle.position_commands.proofs.threats.push_threats.Given as goal
 
 -- the lines so far stand behind the text

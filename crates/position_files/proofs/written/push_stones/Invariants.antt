@@ -1,7 +1,6 @@
 use Rattle.std.proofs.Common.{◌≡◌, ◌++◌, filter, string_bytes}
-use Rattle.game_rules.specs.Grid.{holds, points_of}
-use Rattle.text_lines.specs.Lines.{Extends}
-use Rattle.text_lines.specs.Spellings.{points_text}
+use Rattle.game_rules.proofs.Common.{holds, points_of}
+use Rattle.text_lines.proofs.Common.{Extends, points_text}
 use Rattle.position_files.proofs.written.push_stones.Given as goal
 
 -- the stones so far, and those among the points that are left, stand behind the text

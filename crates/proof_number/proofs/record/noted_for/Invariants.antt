@@ -1,6 +1,5 @@
-use Rattle.std.proofs.Common.{◌≡◌, drop}
-use Rattle.std.specs.List.{find}
-use Rattle.game_rules.specs.Shapes.{is_same_point}
+use Rattle.std.proofs.Common.{◌≡◌, drop, find}
+use Rattle.game_rules.proofs.Common.{is_same_point}
 use Rattle.proof_number.proofs.record.noted_for.Given as goal
 
 -- the first whose move it is is one of those left

@@ -1,8 +1,7 @@
 use Rattle.std.proofs.Common.{◌≡◌, take, sum_by}
-use Rattle.proof_number.specs.Children.{AreSettled}
-use Rattle.strategy_compiler.specs.Growth.{GrowsBy}
-use Rattle.strategy_compiler.specs.Nodes.{IsCompiled}
-use Rattle.threat_game.specs.Replies.{nodes_for}
+use Rattle.proof_number.proofs.Common.{AreSettled}
+use Rattle.strategy_compiler.proofs.Common.{GrowsBy, IsCompiled}
+use Rattle.threat_game.proofs.Common.{nodes_for}
 use Rattle.proof_number.proofs.search.settle_children.Given as goal
 
 -- the view is as before, the children so far are settled, and the compiler has grown by their nodes

@@ -1,13 +1,11 @@
-use Rattle.std.proofs.Common.{◌≡◌, ℕ, List, arith, inl, refl, sym, subst, ◌∙◌, length}
-use Rattle.std.specs.Prelude.{map, string_bytes}
+use Rattle.std.proofs.Common.{◌≡◌, ℕ, List, arith, inl, refl, sym, subst, ◌∙◌, length, map, string_bytes}
 use Rattle.renju_io.proofs.AskedCalls.{by_each_none}
 use Rattle.renju_cli.specs.declared.commands.Form.{Form}
 use Rattle.renju_cli.specs.declared.commands.Form.TheVariants.{BrainWith, RefereeWith, Bind}
 use Rattle.command_base.specs.Statuses.{status_number}
 use Rattle.command_base.specs.declared.status.Status.TheVariants.{Usage}
 use Rattle.command_base.specs.Runs.{Run, IsDelivered, program_run, change}
-use Rattle.renju_cli.specs.Words.{second_word}
-use Rattle.renju_cli.specs.Commands.{IsForm}
+use Rattle.renju_cli.proofs.Common.{second_word, IsForm}
 use Rattle.renju_cli.proofs.Words.{same-count, word-after, words-after}
 use Rattle.renju_cli.proofs.ReportLaws.{bind-reported, file-reported, game-reported}
 use Rattle.renju_cli.proofs.commands.run.Goals as goal

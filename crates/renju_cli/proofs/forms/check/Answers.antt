@@ -1,5 +1,4 @@
-use Rattle.std.proofs.Common.{◌≡◌, length, arith}
-use Rattle.std.specs.Prelude.{codes, string_bytes}
+use Rattle.std.proofs.Common.{◌≡◌, length, arith, codes, string_bytes}
 use Rattle.std.specs.Fmt.{decimal}
 use Rattle.renju_cli.proofs.Words.{same-count, one-word}
 use Rattle.renju_cli.proofs.FormLaws.{no-work}

@@ -1,6 +1,5 @@
-use Rattle.std.proofs.Common.{◌≡◌, ℕ, List, [], ◌∷◌, length, arith}
-use Rattle.std.specs.Prelude.{string_bytes, codes}
-use Rattle.renju_cli.specs.Commands.{HasForm}
+use Rattle.std.proofs.Common.{◌≡◌, ℕ, List, [], ◌∷◌, length, arith, string_bytes, codes}
+use Rattle.renju_cli.proofs.Common.{HasForm}
 use Rattle.renju_cli.proofs.Words.{same-count}
 use Rattle.renju_cli.proofs.FormLaws.{has-told}
 use Rattle.renju_cli.proofs.forms.foul.Goals as goal

@@ -1,8 +1,7 @@
-use Rattle.std.proofs.Common.{◌≡◌, ℕ, List, [], ◌∷◌, length, get_or, arith}
-use Rattle.std.specs.Prelude.{string_bytes, codes}
+use Rattle.std.proofs.Common.{◌≡◌, ℕ, List, [], ◌∷◌, length, get_or, arith, string_bytes, codes}
 use Rattle.board_symmetry.specs.declared.symmetry.Symmetry.{Symmetry}
 use Rattle.table_commands.specs.Images.{symmetry_word}
-use Rattle.renju_cli.specs.Commands.{HasForm}
+use Rattle.renju_cli.proofs.Common.{HasForm}
 use Rattle.renju_cli.proofs.Words.{same-count}
 use Rattle.renju_cli.proofs.EachCommand.{symmetry_told}
 use Rattle.renju_cli.proofs.FormLaws.{has-told}

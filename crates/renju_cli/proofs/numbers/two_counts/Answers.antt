@@ -1,5 +1,4 @@
-use Rattle.std.proofs.Common.{◌≡◌, length, arith}
-use Rattle.std.specs.Prelude.{string_bytes}
+use Rattle.std.proofs.Common.{◌≡◌, length, arith, string_bytes}
 use Rattle.std.specs.Fmt.{decimal}
 use Rattle.renju_cli.proofs.Words.{same-count, two-words}
 use Rattle.renju_cli.proofs.numbers.two_counts.Goals as goal

@@ -1,7 +1,7 @@
 -- What the statuses of each command show follows from the report of its run.
 use Rattle.std.proofs.Common.{◌≡◌, sym, ap, subst, ℕ, List}
-use Rattle.renju_cli.specs.declared.commands.Form.TheVariants.{Check, Fours, Threats, Solve, Brain, BrainWith, Drill, Image, Book}
-use Rattle.renju_cli.specs.declared.commands.Form.TheVariants.{Referee, RefereeWith, Defend, Bind}
+use Rattle.renju_cli.specs.declared.commands.Form.TheVariants.{Check, Fours, Threats, Solve, Brain, BrainWith, Drill, Image, Book, Referee}
+use Rattle.renju_cli.specs.declared.commands.Form.TheVariants.{RefereeWith, Defend, Bind}
 use Rattle.command_base.specs.Runs.{Run}
 use Rattle.command_base.specs.Forms.{HasWords}
 use Rattle.table_commands.specs.Checks.{ShowsWin}
@@ -10,16 +10,14 @@ use Rattle.position_commands.specs.Threats.{ShowsSequence}
 use Rattle.solve_command.specs.Solves.{ShowsSolution}
 use Rattle.brain_commands.specs.Brains.{brain_with_words, IsBrainWith}
 use Rattle.file_loading.specs.HeldFiles.{IsFileName}
-use Rattle.renju_cli.specs.Words.{second_word}
+use Rattle.renju_cli.proofs.Common.{second_word, words_after, Report}
 use Rattle.brain_commands.specs.Games.{ShowsHeldGames, ShowsOwnGames}
 use Rattle.brain_commands.specs.Drills.{ShowsDrill}
 use Rattle.table_commands.specs.Images.{ShowsImage}
 use Rattle.table_commands.specs.Referees.{referee_with_words, IsRefereeWith, ShowsReferee, ShowsVerdict}
 use Rattle.position_commands.specs.Defends.{ShowsDefence}
 use Rattle.table_commands.specs.Binds.{AreNames, IsBind, ShowsBinding, bind_words}
-use Rattle.renju_cli.specs.Words.{words_after}
 use Rattle.table_commands.specs.Books.{ShowsBook}
-use Rattle.renju_cli.specs.Reports.{Report}
 use Rattle.table_commands.proofs.CheckLaws.{check-won}
 use Rattle.position_commands.proofs.FoursLaws.{fours-searched}
 use Rattle.position_commands.proofs.ThreatsLaws.{threats-searched}

@@ -1,7 +1,5 @@
 use Rattle.std.proofs.Common.{◌+◌, ◌<◌, ◌≤◌, ◌-◌, if◌then◌else◌, length, vec_len}
-use Rattle.renju_io.specs.Faults.{HasStayed}
-use Rattle.renju_io.specs.Asked.{IsAskedAtMost}
-use Rattle.renju_io.specs.Told.{Gives, tells_end}
+use Rattle.renju_io.proofs.Common.{HasStayed, IsAskedAtMost, Gives, tells_end}
 use Rattle.renju_io.proofs.reading.read_all.Given as goal
 
 -- the bytes so far are what the source has given, one at least by each read but the one that told the end, and are not too many

@@ -1,7 +1,6 @@
 use Rattle.std.proofs.Common.{◌≡◌}
 use Rattle.std.specs.Slice.Iter.{chunks_rest, chunks_size}
-use Rattle.renju_io.specs.Asked.{piece_count}
-use Rattle.renju_io.specs.Faults.{HasStayed}
+use Rattle.renju_io.proofs.Common.{piece_count, HasStayed}
 use Rattle.renju_io.specs.declared.TheConstants.{MAX_PIECE_BYTES}
 use Rattle.renju_io.proofs.AskedCalls.{IsAskedUpTo}
 use Rattle.renju_io.proofs.TakenText.{HasTaken}

@@ -1,10 +1,9 @@
-use Rattle.std.proofs.Common.{◌≡◌, ◌+◌, ◌<◌, sym, ap, subst, ◌∙◌, arith}
-use Rattle.std.specs.Prelude.{count_by}
+use Rattle.std.proofs.Common.{◌≡◌, ◌+◌, ◌<◌, sym, ap, subst, ◌∙◌, arith, count_by}
 use Rattle.std.specs.List.{range_with_len}
 use Rattle.game_rules.proofs.Common.{is_on, fours_of, place_stone, place_wins}
 use Rattle.game_rules.proofs.Boards.{and_left}
 use Rattle.game_rules.specs.declared.Side.{Side}
-use Rattle.row_shapes.specs.Gaps.{listed}
+use Rattle.row_shapes.proofs.Common.{listed}
 use Rattle.row_shapes.proofs.Counting.{fours_by_gap, fours_of-gap, fours_listed, no_fours}
 use Rattle.row_shapes.proofs.WindowLaws.{no_fours_on}
 use Rattle.row_shapes.proofs.fours.fours_through.Goals as goal

@@ -1,5 +1,4 @@
-use Rattle.std.proofs.Common.{◌≡◌, sym, ap, refl, ◌∙◌}
-use Rattle.std.specs.Prelude.{bit_and}
+use Rattle.std.proofs.Common.{◌≡◌, sym, ap, refl, ◌∙◌, bit_and}
 use Rattle.stone_board.specs.Lines.{place_on}
 use Rattle.row_shapes.proofs.WindowLaws.{is_zero}
 use Rattle.row_shapes.proofs.NearBits.{moved, none_in_reach}

@@ -1,6 +1,5 @@
-use Rattle.std.proofs.Common.{◌≡◌, ℕ, ◌<◌, vec_len}
-use Rattle.std.specs.Prelude.{slice_get, Some}
-use Rattle.row_shapes.specs.LineShapes.{shape_of}
+use Rattle.std.proofs.Common.{◌≡◌, ℕ, ◌<◌, vec_len, slice_get, Some}
+use Rattle.row_shapes.proofs.Common.{shape_of}
 use Rattle.row_shapes.proofs.shape_table.shapes_of_all_codes.Given as goal
 
 -- the shapes so far are those of their codes

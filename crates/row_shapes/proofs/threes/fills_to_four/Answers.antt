@@ -1,10 +1,9 @@
-use Rattle.std.proofs.Common.{◌≡◌, ◌+◌, true, false, sym, ap, ◌∙◌}
-use Rattle.std.specs.Prelude.{None}
+use Rattle.std.proofs.Common.{◌≡◌, ◌+◌, true, false, sym, ap, ◌∙◌, None}
 use Rattle.game_rules.proofs.Common.{is_empty, is_line_three_at, towards}
 use Rattle.game_rules.proofs.Threes.{taken_three}
 use Rattle.stone_board.specs.Steps.{kept_on}
 use Rattle.stone_board.proofs.Looks.{kept-Some, three-kept}
-use Rattle.row_shapes.specs.Threes.{is_open_four}
+use Rattle.row_shapes.proofs.Common.{is_open_four}
 use Rattle.row_shapes.proofs.ThreePoints.{three_at}
 use Rattle.row_shapes.proofs.threes.fills_to_four.Goals as goal
 

@@ -1,12 +1,11 @@
-use Rattle.std.proofs.Common.{◌≡◌, inl, inr, ◌*◌, ◌%◌, ◌^◌, ◌<◌, sym, ap, ◌∙◌, arith}
-use Rattle.std.specs.Prelude.{bit_or}
+use Rattle.std.proofs.Common.{◌≡◌, inl, inr, ◌*◌, ◌%◌, ◌^◌, ◌<◌, sym, ap, ◌∙◌, arith, bit_or}
 use Rattle.std.specs.Int.{bit_at, w64}
 use Rattle.std.proofs.lemmas.Nat.Bits.{bit_at_set_same, bit_at_set_other}
 use Rattle.std.proofs.lemmas.Bool.{cases_lt, false_from_ne_true, both_ways}
 use Rattle.stone_board.specs.Lines.{line_of}
 use Rattle.row_shapes.proofs.WindowLaws.{wins-on_board}
-use Rattle.row_shapes.proofs.windows.axis_windows.Goals as goal
 use Rattle.row_shapes.proofs.windows.axis_windows.Goals.{then-line_may_win, else-line_may_win}
+use Rattle.row_shapes.proofs.windows.axis_windows.Goals as goal
 
 pub loop-n-init : goal.loop-n-init
 loop-n-init c = λ rule q low bit. false_from_ne_true _ (λ h.

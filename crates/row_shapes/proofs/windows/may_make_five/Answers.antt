@@ -1,12 +1,11 @@
-use Rattle.std.proofs.Common.{◌^◌, ◌≡◌, ℕ, refl, subst, ap, ◌∙◌}
-use Rattle.std.specs.Prelude.{bit_or}
+use Rattle.std.proofs.Common.{◌^◌, ◌≡◌, ℕ, refl, subst, ap, ◌∙◌, bit_or}
 use Rattle.std.specs.Int.{bit_at}
 use Rattle.game_rules.proofs.Common.{put}
 use Rattle.game_rules.proofs.Positions.{IsBoard-put}
 use Rattle.game_rules.specs.declared.Side.{Side}
 use Rattle.stone_board.specs.Lines.{TellsLine, line_of, place_on}
 use Rattle.stone_board.proofs.LineStones.{TellsLine-other}
-use Rattle.row_shapes.specs.Windows.{IsWindow}
+use Rattle.row_shapes.proofs.Common.{IsWindow}
 use Rattle.row_shapes.proofs.WindowLaws.{no_end, rival_clear, zero_clear, is_zero}
 use Rattle.row_shapes.proofs.windows.may_make_five.Goals as goal
 

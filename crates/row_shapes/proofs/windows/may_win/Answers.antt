@@ -1,8 +1,7 @@
-use Rattle.std.proofs.Common.{◌≡◌, ◌^◌, subst, sym, ap, ◌∙◌}
+use Rattle.std.proofs.Common.{◌≡◌, ◌^◌, subst, sym, ap, ◌∙◌, bit_or}
 use Rattle.std.proofs.lemmas.Bool.{both_ways}
-use Rattle.std.specs.Prelude.{bit_or}
 use Rattle.stone_board.specs.Lines.{place_on}
-use Rattle.row_shapes.specs.Windows.{HasRow}
+use Rattle.row_shapes.proofs.Common.{HasRow}
 use Rattle.row_shapes.proofs.WindowLaws.{no_row}
 use Rattle.row_shapes.proofs.windows.may_win.Goals as goal
 

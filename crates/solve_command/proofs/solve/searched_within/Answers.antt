@@ -1,12 +1,9 @@
-use Rattle.std.proofs.Common.{◌<◌, ◌+◌, ◌∙◌, ℕ, inl, inr, subst, ap, List, length, length-append, arith}
-use Rattle.std.specs.Prelude.{Err, min}
+use Rattle.std.proofs.Common.{◌<◌, ◌+◌, ◌∙◌, ℕ, inl, inr, subst, ap, List, length, length-append, arith, Err, min}
 use Rattle.strategy_graph.specs.declared.Node.{Node}
 use Rattle.strategy_graph.specs.declared.TheConstants.{MAX_NODES}
-use Rattle.threat_game.specs.ThreatGame.{threat_tree}
-use Rattle.threat_game.specs.Wins.{IsThreatWin}
-use Rattle.proof_tree.specs.Trees.{numbers_at}
-use Rattle.proof_number.specs.Answers.{OnWin, RootSays}
-use Rattle.proof_number.specs.SearchTrees.{HasNoRoom}
+use Rattle.threat_game.proofs.Common.{threat_tree, IsThreatWin}
+use Rattle.proof_tree.proofs.Common.{numbers_at}
+use Rattle.proof_number.proofs.Common.{OnWin, RootSays, HasNoRoom}
 use Rattle.proof_number.specs.declared.answer.ProofAnswer.{ProofAnswer}
 use Rattle.solve_command.proofs.solve.searched_within.Goals as goal
 

@@ -1,6 +1,5 @@
-use Rattle.std.proofs.Common.{◌≡◌, ◌<◌, ◌^◌, refl, ap, ◌∙◌, length, arith}
-use Rattle.std.specs.Prelude.{slice_index_or}
-use Rattle.stone_board.specs.Lines.{index_of, line_of, turned}
+use Rattle.std.proofs.Common.{◌≡◌, ◌<◌, ◌^◌, refl, ap, ◌∙◌, length, arith, slice_index_or}
+use Rattle.stone_board.proofs.Common.{index_of, line_of, turned}
 use Rattle.stone_board.proofs.Counts.{same_item}
 use Rattle.stone_board.proofs.lines.turn.Goals as goal
 

@@ -1,9 +1,8 @@
 use Rattle.std.proofs.Common.{◌&&◌, not, subst, arith}
 use Rattle.std.proofs.lemmas.List.Sums.{count_by-le-length}
-use Rattle.game_rules.specs.Grid.{IsBoard, points_of}
-use Rattle.game_rules.specs.Play.{outcome, goes_on}
+use Rattle.game_rules.proofs.Common.{IsBoard, points_of, outcome, goes_on}
 use Rattle.game_rules.proofs.Places.{points_few}
-use Rattle.strategy_checker.specs.Walks.{is_apart}
+use Rattle.strategy_checker.proofs.Common.{is_apart}
 use Rattle.strategy_checker.proofs.others.asked_others.Goals as goal
 
 -- no more are counted than there are points

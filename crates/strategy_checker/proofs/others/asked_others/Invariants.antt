@@ -1,8 +1,6 @@
-use Rattle.std.proofs.Common.{◌≡◌, ◌+◌, ◌&&◌, not}
-use Rattle.std.specs.List.{count_by}
-use Rattle.game_rules.specs.Grid.{points_of}
-use Rattle.game_rules.specs.Play.{outcome, goes_on}
-use Rattle.strategy_checker.specs.Walks.{is_apart}
+use Rattle.std.proofs.Common.{◌≡◌, ◌+◌, ◌&&◌, not, count_by}
+use Rattle.game_rules.proofs.Common.{points_of, outcome, goes_on}
+use Rattle.strategy_checker.proofs.Common.{is_apart}
 use Rattle.strategy_checker.proofs.others.asked_others.Given as goal
 
 -- those that are counted, and those among the points left, are all

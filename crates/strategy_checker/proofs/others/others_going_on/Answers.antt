@@ -1,8 +1,6 @@
-use Rattle.std.proofs.Common.{◌≡◌, ◌∙◌, ◌&&◌, not, false, sym, ap}
-use Rattle.std.specs.List.{count_by}
-use Rattle.game_rules.specs.Grid.{Grid, is_empty, points_of}
-use Rattle.game_rules.specs.Play.{mover, has_fouls}
-use Rattle.strategy_checker.specs.Walks.{is_apart}
+use Rattle.std.proofs.Common.{◌≡◌, ◌∙◌, ◌&&◌, not, false, sym, ap, count_by}
+use Rattle.game_rules.proofs.Common.{Grid, is_empty, points_of, mover, has_fouls}
+use Rattle.strategy_checker.proofs.Common.{is_apart}
 use Rattle.strategy_checker.proofs.Counted.{count-going}
 use Rattle.strategy_checker.proofs.others.others_going_on.Goals as goal
 

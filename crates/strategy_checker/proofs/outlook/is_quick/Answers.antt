@@ -1,7 +1,6 @@
 use Rattle.std.proofs.Common.{◌≡◌, ◌∙◌, false, sym, ap, arith}
 use Rattle.std.proofs.lemmas.Bool.{not-true}
-use Rattle.game_rules.specs.Grid.{empties_of}
-use Rattle.game_rules.specs.Play.{mover, has_fouls}
+use Rattle.game_rules.proofs.Common.{empties_of, mover, has_fouls}
 use Rattle.strategy_checker.proofs.Sureness.{quick-going}
 use Rattle.strategy_checker.proofs.outlook.is_quick.Goals as goal
 

@@ -1,8 +1,7 @@
 use Rattle.std.proofs.Common.{◌≡◌, inl, sym, ap, subst}
-use Rattle.strategy_compiler.specs.Walks.{last}
+use Rattle.strategy_compiler.proofs.Common.{last}
 use Rattle.strategy_checker.specs.HeldRoots.{HeldTable}
-use Rattle.strength_drill.specs.DrillGames.{held_at}
-use Rattle.strength_drill.specs.Counts.{AreWithin}
+use Rattle.strength_drill.proofs.Common.{held_at, AreWithin}
 use Rattle.strength_drill.proofs.DrillCounts.{node-below, held-as, holdable-as, plays-as, win-within}
 use Rattle.strength_drill.proofs.drill.try_table.Goals as goal
 

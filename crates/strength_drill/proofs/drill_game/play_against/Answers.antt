@@ -1,12 +1,10 @@
-use Rattle.std.proofs.Common.{◌≡◌, Bool, ◌+◌, refl, sym, ap, subst, ◌∙◌}
-use Rattle.std.specs.Prelude.{Some}
-use Rattle.game_rules.specs.Grid.{Grid}
-use Rattle.game_rules.specs.Play.{after}
+use Rattle.std.proofs.Common.{◌≡◌, Bool, ◌+◌, refl, sym, ap, subst, ◌∙◌, Some}
+use Rattle.game_rules.proofs.Common.{Grid, after}
 use Rattle.gomocup_text.specs.declared.Command.{Command}
 use Rattle.gomocup_text.specs.declared.Command.TheVariants.{Done}
 use Rattle.brain_session.specs.States.{State, new_brain}
 use Rattle.brain_session.specs.Steps.{brain_step}
-use Rattle.strength_drill.specs.DrillGames.{move_said, position_lines, told_all, state_begun, drawn_move, IsGamePlayed}
+use Rattle.strength_drill.proofs.Common.{move_said, position_lines, told_all, state_begun, drawn_move, IsGamePlayed}
 use Rattle.strength_drill.proofs.DrillCourse.{IsOpened, told-as, opened-as, IsAtTurn, turn-as, course-first, course-won, course-one}
 use Rattle.strength_drill.proofs.DrillCourse.{course-ended, course-next, course-on}
 use Rattle.strength_drill.proofs.drill_game.play_against.Goals as goal

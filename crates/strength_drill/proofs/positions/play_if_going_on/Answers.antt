@@ -1,8 +1,7 @@
 use Rattle.std.proofs.Common.{◌≡◌, ℕ, ◌<◌, ◌≤◌, sym, ap, subst, ◌∙◌}
-use Rattle.game_rules.specs.Grid.{Grid}
-use Rattle.game_rules.specs.Play.{after}
+use Rattle.game_rules.proofs.Common.{Grid, after}
 use Rattle.strength_drill.specs.declared.positions.TheConstants.{MOST_STONES}
-use Rattle.strength_drill.specs.Draws.{all_stones}
+use Rattle.strength_drill.proofs.Common.{all_stones}
 use Rattle.strength_drill.proofs.DrillMaking.{point-many, point-not, point-on}
 use Rattle.strength_drill.proofs.positions.play_if_going_on.Goals as goal
 

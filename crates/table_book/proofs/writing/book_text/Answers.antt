@@ -1,7 +1,6 @@
-use Rattle.std.proofs.Common.{ap, ◌∙◌, ◌++◌, List, string_bytes}
-use Rattle.std.specs.List.{flat_map}
-use Rattle.text_lines.specs.Lines.{ended, text_of}
-use Rattle.table_book.specs.Books.{entries_line, entry_lines, nodes_line}
+use Rattle.std.proofs.Common.{ap, ◌∙◌, ◌++◌, List, string_bytes, flat_map}
+use Rattle.text_lines.proofs.Common.{ended, text_of}
+use Rattle.table_book.proofs.Common.{entries_line, entry_lines, nodes_line}
 use Rattle.table_book.specs.declared.Entry.{Entry}
 use Rattle.table_book.proofs.Growth.{book_grown}
 use Rattle.table_book.proofs.writing.book_text.Goals as goal

@@ -1,7 +1,6 @@
-use Rattle.std.proofs.Common.{◌≡◌, ◌++◌, take, string_bytes}
-use Rattle.std.specs.List.{flat_map}
-use Rattle.text_lines.specs.Lines.{text_of}
-use Rattle.table_book.specs.Books.{entry_lines}
+use Rattle.std.proofs.Common.{◌≡◌, ◌++◌, take, string_bytes, flat_map}
+use Rattle.text_lines.proofs.Common.{text_of}
+use Rattle.table_book.proofs.Common.{entry_lines}
 use Rattle.table_book.proofs.writing.push_entries.Given as goal
 
 -- the lines of the entries so far stand behind the text

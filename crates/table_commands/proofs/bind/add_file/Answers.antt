@@ -1,6 +1,5 @@
 -- What the shelf gives is added; else it is told what `brain FILE` tells.
-use Rattle.std.proofs.Common.{inl, inr, ap, arith}
-use Rattle.std.specs.Prelude.{Err}
+use Rattle.std.proofs.Common.{inl, inr, ap, arith, Err}
 use Rattle.renju_io.proofs.AskedCalls.{few_once, none_asked}
 use Rattle.command_base.specs.Runs.{change}
 use Rattle.file_loading.proofs.HeldFileLaws.{long-file}

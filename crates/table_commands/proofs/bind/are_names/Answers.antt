@@ -1,6 +1,5 @@
 -- An empty word is no name.
-use Rattle.std.proofs.Common.{◌≡◌, [], arith, rules}
-use Rattle.std.specs.Prelude.{string_bytes}
+use Rattle.std.proofs.Common.{◌≡◌, [], arith, rules, string_bytes}
 use Rattle.std.proofs.lemmas.Grind.{common_steps}
 use Rattle.table_commands.proofs.BindLaws.{filled-at}
 use Rattle.table_commands.proofs.bind.are_names.Goals as goal

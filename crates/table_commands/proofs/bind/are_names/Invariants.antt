@@ -1,5 +1,4 @@
-use Rattle.std.proofs.Common.{map, take}
-use Rattle.std.specs.Prelude.{string_bytes}
+use Rattle.std.proofs.Common.{map, take, string_bytes}
 use Rattle.std.specs.List.{AllByRecursion}
 use Rattle.file_loading.specs.HeldFiles.{IsFileName}
 use Rattle.table_commands.proofs.bind.are_names.Given as goal

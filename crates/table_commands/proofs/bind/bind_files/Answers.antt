@@ -1,16 +1,13 @@
 -- File by file, up to the first that is not added.
-use Rattle.std.proofs.Common.{◌∙◌, ◌+◌, suc, refl, ap, sym, subst, map, take, drop, ℕ, List, arith}
-use Rattle.std.specs.Prelude.{string_bytes, Option}
+use Rattle.std.proofs.Common.{◌∙◌, ◌+◌, suc, refl, ap, sym, subst, map, take, drop, ℕ, List, arith, string_bytes, Option}
 use Rattle.std.proofs.lemmas.List.{length-map}
 use Rattle.renju_io.specs.Files.{Files}
 use Rattle.renju_io.proofs.AskedCalls.{few_more, few_then}
 use Rattle.command_base.specs.Runs.{change}
 use Rattle.command_base.specs.declared.answer.Answer.{Answer}
-use Rattle.table_commands.specs.Binds.{IsBindable}
-use Rattle.table_commands.specs.Binders.{IsAdded}
+use Rattle.table_commands.proofs.Common.{IsBindable, IsAdded}
 use Rattle.table_commands.proofs.BindLaws.{BoundUpTo, names-are, names-before, names-more, room-left, says-book, says-stop, some-left}
-use Rattle.table_commands.proofs.BindLaws.{told-from}
-use Rattle.table_commands.proofs.BindLaws.{up-to-all, up-to-more}
+use Rattle.table_commands.proofs.BindLaws.{told-from, up-to-all, up-to-more}
 use Rattle.table_commands.proofs.bind.bind_files.Goals as goal
 
 pub add_file-requires : goal.add_file-requires

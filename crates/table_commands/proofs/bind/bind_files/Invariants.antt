@@ -1,5 +1,4 @@
-use Rattle.std.proofs.Common.{◌≡◌, map, take}
-use Rattle.std.specs.Prelude.{string_bytes}
+use Rattle.std.proofs.Common.{◌≡◌, map, take, string_bytes}
 use Rattle.renju_io.specs.Asked.{IsAskedAtMost}
 use Rattle.table_commands.proofs.BindLaws.{BoundUpTo}
 use Rattle.table_commands.proofs.bind.bind_files.Given as goal

@@ -1,7 +1,5 @@
 use Rattle.std.proofs.Common.{◌≡◌, refl, subst, rules}
-use Rattle.game_rules.proofs.Common.{Grid}
-use Rattle.game_rules.specs.Grid.{lift}
-use Rattle.game_rules.specs.Play.{IsUnwon}
+use Rattle.game_rules.proofs.Common.{Grid, lift, IsUnwon}
 use Rattle.tests_of_searches.proofs.remade.undo.Goals as goal
 
 -- the copy without the stone is a position, and so is the board of the view without it

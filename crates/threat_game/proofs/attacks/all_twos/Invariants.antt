@@ -1,7 +1,6 @@
-use Rattle.std.proofs.Common.{◌≡◌, ◌++◌}
-use Rattle.std.specs.List.{filter}
-use Rattle.game_rules.specs.Play.{mover}
-use Rattle.threat_game.specs.NearDoubles.{makes_two, points_of_two}
+use Rattle.std.proofs.Common.{◌≡◌, ◌++◌, filter}
+use Rattle.game_rules.proofs.Common.{mover}
+use Rattle.threat_game.proofs.Common.{makes_two, points_of_two}
 use Rattle.threat_game.proofs.attacks.all_twos.Given as goal
 
 -- the points found, and those of the points left, are all

@@ -1,5 +1,4 @@
-use Rattle.std.proofs.Common.{◌≡◌, true, false, ap, sym, subst, ◌∙◌, Option}
-use Rattle.std.specs.Prelude.{IfNone}
+use Rattle.std.proofs.Common.{◌≡◌, true, false, ap, sym, subst, ◌∙◌, Option, IfNone}
 use Rattle.std.specs.List.{list_any}
 use Rattle.std.proofs.lemmas.Bool.{true≢false}
 use Rattle.std.proofs.lemmas.List.Elements.{All-same, filter_passes}
@@ -8,7 +7,7 @@ use Rattle.game_rules.specs.declared.Side.{Side}
 use Rattle.row_shapes.specs.FivePoints.{in_short}
 use Rattle.row_shapes.proofs.FiveLaws.{has_five-none, none-short}
 use Rattle.threat_game.specs.declared.doubles.DoublePoint.{DoublePoint}
-use Rattle.threat_game.specs.NearDoubles.{makes_two, points_of_two}
+use Rattle.threat_game.proofs.Common.{makes_two, points_of_two}
 use Rattle.threat_game.proofs.attacks.find_attacks.Goals as goal
 
 pub find_double-requires-clause-safe : goal.find_double-requires-clause-safe

@@ -1,14 +1,12 @@
-use Rattle.std.proofs.Common.{◌≡◌, Bool, true, false, ap, sym, ◌∙◌, get_or, Option, Some, None, Result, Ok, Err, IfOk}
-use Rattle.std.specs.Prelude.{IfNone}
+use Rattle.std.proofs.Common.{◌≡◌, Bool, true, false, ap, sym, ◌∙◌, get_or, Option, Some, None, Result, Ok, Err, IfOk, IfNone}
 use Rattle.std.proofs.lemmas.Bool.{true≢false}
 use Rattle.std.proofs.lemmas.List.Elements.{All-get_or}
-use Rattle.game_rules.specs.Grid.{Grid, is_empty}
-use Rattle.game_rules.specs.Play.{mover}
+use Rattle.game_rules.proofs.Common.{Grid, is_empty, mover}
 use Rattle.game_rules.specs.declared.Side.{Side}
 use Rattle.game_rules.specs.declared.Point.{Point}
 use Rattle.game_rules.proofs.Positions.{GoesOn-empty}
 use Rattle.threat_game.specs.declared.doubles.DoublePoint.{DoublePoint}
-use Rattle.threat_game.specs.NearDoubles.{makes_two}
+use Rattle.threat_game.proofs.Common.{makes_two}
 use Rattle.threat_game.proofs.attacks.find_double.Goals as goal
 
 pub double_at-requires : goal.double_at-requires

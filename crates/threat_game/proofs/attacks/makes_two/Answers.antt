@@ -1,11 +1,9 @@
 use Rattle.std.proofs.Common.{◌≡◌, ◌&&◌, true, false, ap, sym, subst, ◌∙◌}
-use Rattle.game_rules.specs.Grid.{is_on}
+use Rattle.game_rules.proofs.Common.{is_on, Grid, is_empty, mover, after, five_points}
 use Rattle.game_rules.specs.declared.Side.{Side}
 use Rattle.game_rules.proofs.Boards.{is_empty-on}
-use Rattle.threat_game.specs.NearDoubles.{AreNearStones}
-use Rattle.game_rules.proofs.Common.{Grid, is_empty, mover, after, five_points}
-use Rattle.row_shapes.specs.FivePoints.{in_short}
-use Rattle.row_shapes.specs.FivePoints.{is_several}
+use Rattle.threat_game.proofs.Common.{AreNearStones}
+use Rattle.row_shapes.specs.FivePoints.{in_short, is_several}
 use Rattle.threat_game.proofs.attacks.makes_two.Goals as goal
 
 pub returns-then-not-is_empty : goal.returns-then-not-is_empty

@@ -1,11 +1,10 @@
 use Rattle.std.proofs.Common.{◌≡◌, true, ◌&&◌, ap, sym, subst, ◌∙◌, take}
-use Rattle.game_rules.specs.Grid.{Grid, is_empty, put}
-use Rattle.game_rules.specs.Games.{five_points, is_double_point}
+use Rattle.game_rules.proofs.Common.{Grid, is_empty, put, five_points, is_double_point}
 use Rattle.game_rules.specs.declared.Point.{Point}
 use Rattle.row_shapes.specs.FivePoints.{in_short, is_several}
 use Rattle.threat_moves.proofs.GainLaws.{double-empty, few-double}
-use Rattle.threat_moves.specs.FreePoints.{StaysFree}
-use Rattle.threat_game.specs.Attacks.{LeavesBoth}
+use Rattle.threat_moves.proofs.Common.{StaysFree}
+use Rattle.threat_game.proofs.Common.{LeavesBoth}
 use Rattle.threat_game.proofs.KeptDoubles.{double-free}
 use Rattle.threat_game.proofs.doubles.kept_at.Goals as goal
 

@@ -2,8 +2,7 @@ use Rattle.std.proofs.Common.{rules, ◌≡◌, true, false, ap, sym, subst, ◌
 use Rattle.std.proofs.lemmas.Grind.{common_steps}
 use Rattle.std.specs.List.{list_any}
 use Rattle.game_rules.proofs.Common.{Grid, points_of, mover, other, has_fouls}
-use Rattle.threat_game.specs.Attacks.{is_last_move}
-use Rattle.threat_game.specs.QuietPoints.{HasTwoQuiet}
+use Rattle.threat_game.proofs.Common.{is_last_move, HasTwoQuiet}
 use Rattle.threat_game.proofs.AttackLaws.{none-last, no_fouls-last}
 use Rattle.threat_game.proofs.QuietLaws.{no_last, white-turn}
 use Rattle.threat_game.proofs.last_moves.last_move.Goals as goal

@@ -1,6 +1,5 @@
-use Rattle.std.proofs.Common.{sym, subst, ◌∙◌}
-use Rattle.std.specs.Prelude.{IfSome}
-use Rattle.threat_game.specs.QuietPoints.{IsQuiet}
+use Rattle.std.proofs.Common.{sym, subst, ◌∙◌, IfSome}
+use Rattle.threat_game.proofs.Common.{IsQuiet}
 use Rattle.threat_game.proofs.quiet_points.has_two_quiet.Goals as goal
 
 pub returns-then-not-is : goal.returns-then-not-is

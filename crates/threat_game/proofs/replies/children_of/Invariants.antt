@@ -1,5 +1,4 @@
-use Rattle.std.proofs.Common.{◌≡◌, ◌≤◌, ◌+◌, ◌*◌, not, take}
-use Rattle.std.specs.List.{filter, sum_by}
+use Rattle.std.proofs.Common.{◌≡◌, ◌≤◌, ◌+◌, ◌*◌, not, take, filter, sum_by}
 use Rattle.threat_game.proofs.Common.{counted_for, is_met, put_first}
 use Rattle.threat_game.proofs.replies.children_of.Given as goal
 

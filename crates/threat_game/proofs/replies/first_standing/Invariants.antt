@@ -1,5 +1,4 @@
-use Rattle.std.proofs.Common.{◌≡◌, drop}
-use Rattle.std.specs.List.{find}
+use Rattle.std.proofs.Common.{◌≡◌, drop, find}
 use Rattle.threat_game.proofs.Common.{is_standing}
 use Rattle.threat_game.proofs.replies.first_standing.Given as goal
 

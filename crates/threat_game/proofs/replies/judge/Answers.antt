@@ -2,8 +2,7 @@ use Rattle.std.proofs.Common.{◌≡◌, true, false, ap, sym, subst, refl, ◌�
 use Rattle.game_rules.proofs.Common.{Grid, has_five, outcome, mover, other, after}
 use Rattle.game_rules.specs.declared.Outcome.TheVariants.{GoesOn}
 use Rattle.game_rules.proofs.Outcomes.{goes_on-is}
-use Rattle.threat_game.specs.Replies.{AreKept}
-use Rattle.threat_game.proofs.Common.{IsJudgement}
+use Rattle.threat_game.proofs.Common.{AreKept, IsJudgement}
 use Rattle.threat_game.specs.declared.replies.Judged.TheVariants.{Five}
 use Rattle.threat_game.proofs.ReplyLaws.{first-beside, none-beside, child-is}
 use Rattle.threat_game.proofs.replies.judge.Goals as goal

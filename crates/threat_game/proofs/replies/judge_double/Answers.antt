@@ -1,15 +1,11 @@
 use Rattle.std.proofs.Common.{ap, sym, subst, ◌∙◌, All}
-use Rattle.game_rules.proofs.Common.{Grid, has_five, mover, other, after}
-use Rattle.game_rules.specs.Grid.{is_on}
+use Rattle.game_rules.proofs.Common.{Grid, has_five, mover, other, after, is_on}
 use Rattle.game_rules.specs.declared.Side.{Side}
 use Rattle.game_rules.proofs.Boards.{is_empty-on}
-use Rattle.threat_game.specs.NearDoubles.{AreNearStones}
+use Rattle.threat_game.proofs.Common.{AreNearStones, IsStillKept, AreStopped, IsBeside, IsJudged}
 use Rattle.game_rules.proofs.Positions.{GoesOn-empty, mover-other}
 use Rattle.row_shapes.proofs.FiveLaws.{has_five-none, none-short}
 use Rattle.game_rules.proofs.Undo.{stone_back, lift_back, unwon_back}
-use Rattle.threat_game.specs.Attacks.{IsStillKept}
-use Rattle.threat_game.specs.Replies.{AreStopped}
-use Rattle.threat_game.proofs.Common.{IsBeside, IsJudged}
 use Rattle.threat_game.proofs.KeptDoubles.{all-still}
 use Rattle.threat_game.proofs.replies.judge_double.Goals as goal
 

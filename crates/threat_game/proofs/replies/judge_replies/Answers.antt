@@ -1,11 +1,10 @@
 use Rattle.std.proofs.Common.{◌≡◌, ap, sym, subst, ◌∙◌, arith, length, List, IfSome, sum_by}
 use Rattle.threat_game.specs.declared.replies.Child.{Child}
-use Rattle.threat_game.proofs.Common.{AreJudged, counted_for, kept_children}
+use Rattle.threat_game.proofs.Common.{AreJudged, counted_for, kept_children, AreKept}
 use Rattle.threat_game.proofs.ReplyLaws.{are-children, judged-short}
 use Rattle.game_rules.proofs.Common.{Grid, five_points, mover, other}
 use Rattle.game_rules.specs.declared.Side.{Side}
 use Rattle.threat_game.specs.declared.doubles.Kept.{Kept}
-use Rattle.threat_game.specs.Replies.{AreKept}
 use Rattle.threat_game.proofs.replies.judge_replies.Goals as goal
 
 pub doubles_for-requires : goal.doubles_for-requires

@@ -1,6 +1,5 @@
 use Rattle.std.proofs.Common.{sym, ◌∙◌}
-use Rattle.game_rules.specs.Grid.{put}
-use Rattle.game_rules.proofs.Common.{other}
+use Rattle.game_rules.proofs.Common.{put, other}
 use Rattle.game_rules.proofs.Outcomes.{no_foul}
 use Rattle.threat_moves.proofs.FarStones.{stays-free}
 use Rattle.threat_moves.proofs.free_points.stays_free.Goals as goal

@@ -1,11 +1,10 @@
 use Rattle.std.proofs.Common.{◌≡◌, ◌≢◌, ℕ, ◌+◌, ◌-◌, List, [], length, ap, sym, ◌∙◌, arith, Option}
-use Rattle.game_rules.specs.Grid.{Grid}
+use Rattle.game_rules.proofs.Common.{Grid}
 use Rattle.game_rules.specs.declared.Point.{Point}
 use Rattle.threat_moves.specs.declared.threat_list.Threat.{Threat}
 use Rattle.threat_moves.proofs.ThreatLists.{after_path}
 use Rattle.threat_space.specs.declared.walk.FoundInLists.TheVariants.{NoSequence}
-use Rattle.threat_space.specs.Sequences.{final_of, lists_of, played_all}
-use Rattle.threat_space.specs.Looking.{looked, answer_of}
+use Rattle.threat_space.proofs.Common.{final_of, lists_of, played_all, looked, answer_of}
 use Rattle.threat_space.proofs.FoundInLists.{length-goes_on, length-stops, length-none, length-ends, answer-all}
 use Rattle.threat_space.proofs.answer.threat_space.Goals as goal
 

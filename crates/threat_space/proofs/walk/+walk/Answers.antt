@@ -1,16 +1,14 @@
-use Rattle.std.proofs.Common.{rules, ◌≡◌, ◌+◌, ◌-◌, ◌*◌, ◌<◌, ◌++◌, true, false, List, [], ◌∷◌, length, ap, sym, subst, ◌∙◌}
-use Rattle.std.proofs.Common.{arith, IfOk, Option}
+use Rattle.std.proofs.Common.{rules, ◌≡◌, ◌+◌, ◌-◌, ◌*◌, ◌<◌, ◌++◌, true, false, List, [], ◌∷◌, length, ap}
+use Rattle.std.proofs.Common.{sym, subst, ◌∙◌, arith, IfOk, Option}
 use Rattle.std.proofs.lemmas.List.{drop_all}
-use Rattle.game_rules.specs.Grid.{Grid, IsBoard}
+use Rattle.game_rules.proofs.Common.{Grid, IsBoard}
 use Rattle.game_rules.proofs.Boards.{and_left, and_right}
 use Rattle.game_rules.specs.declared.Point.{Point}
 use Rattle.game_rules.specs.declared.Side.{Side}
 use Rattle.threat_moves.specs.declared.threat_list.Threat.{Threat}
 use Rattle.threat_moves.proofs.ThreatLists.{after_path, shorter}
-use Rattle.threat_space.specs.Sequences.{final_of, lists_from, lists_of, played, played_all}
-use Rattle.threat_space.specs.Lines.{HasPairsOf, HasPairsAfter}
-use Rattle.threat_space.specs.Looking.{looked}
-use Rattle.threat_space.specs.Barren.{AreBarren, IsBarren, BarrenMemory}
+use Rattle.threat_space.proofs.Common.{final_of, lists_from, lists_of, played, played_all, HasPairsOf, HasPairsAfter, looked, AreBarren}
+use Rattle.threat_space.proofs.Common.{IsBarren, BarrenMemory}
 use Rattle.threat_space.proofs.FarFinals.{pairs-after}
 use Rattle.threat_space.proofs.BarrenLists.{barren-all, barren-any, barren-found, barren-kept, barren-next, barren-none}
 use Rattle.threat_space.proofs.FoundInLists.{from_threats, from_threat, lists-none, lists-zero, played-more, threats-all, threat-goes_on}

@@ -1,6 +1,5 @@
 use Rattle.std.proofs.Common.{◌≡◌, ◌+◌, ◌*◌, true, [], drop}
-use Rattle.threat_space.specs.Sequences.{final_of, lists_of, lists_from}
-use Rattle.threat_space.specs.Barren.{AreBarren}
+use Rattle.threat_space.proofs.Common.{final_of, lists_of, lists_from, AreBarren}
 use Rattle.threat_space.proofs.FoundInLists.{from_threats}
 use Rattle.threat_space.proofs.walk.+walk.Given as goal
 

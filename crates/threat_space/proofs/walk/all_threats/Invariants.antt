@@ -1,6 +1,5 @@
-use Rattle.std.proofs.Common.{◌≡◌, ◌++◌}
-use Rattle.std.specs.List.{flat_map}
-use Rattle.threat_moves.specs.Threats.{threats_at, threats_of}
+use Rattle.std.proofs.Common.{◌≡◌, ◌++◌, flat_map}
+use Rattle.threat_moves.proofs.Common.{threats_at, threats_of}
 use Rattle.threat_space.proofs.walk.all_threats.Given as goal
 
 -- the board is as before; the threats found, and those of the gains left, are all

@@ -1,6 +1,5 @@
 use Rattle.std.proofs.Common.{◌≡◌, take}
-use Rattle.brain_session.specs.States.{empty_board}
-use Rattle.brain_session.specs.Batches.{with_batch_stones}
+use Rattle.brain_session.proofs.Common.{empty_board, with_batch_stones}
 use Rattle.brain_session.proofs.BatchGames.{Waits}
 use Rattle.brain_session.proofs.batch.BatchReader.board.Given as goal
 

@@ -1,9 +1,5 @@
-use Rattle.std.proofs.Common.{◌≡◌, ap, subst}
-use Rattle.std.specs.Prelude.{None, IfSome}
-use Rattle.brain_session.specs.States.{State}
-use Rattle.brain_session.specs.Batches.{game_from}
-use Rattle.brain_session.specs.Steps.{board_in}
-use Rattle.brain_session.specs.Kept.{IsBegun, place_in}
+use Rattle.std.proofs.Common.{◌≡◌, ap, subst, None, IfSome}
+use Rattle.brain_session.proofs.Common.{State, game_from, board_in, IsBegun, place_in}
 use Rattle.brain_session.proofs.Takings.{none-begun}
 use Rattle.brain_session.proofs.brain.Brain.board_from_batch.Goals as goal
 

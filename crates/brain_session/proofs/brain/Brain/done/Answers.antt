@@ -1,10 +1,6 @@
-use Rattle.std.proofs.Common.{◌≡◌, true, ap, sym, subst, ◌∙◌}
-use Rattle.std.specs.Prelude.{Option, Some, IfSome, is_some}
-use Rattle.brain_session.specs.States.{Batch, Place, State}
-use Rattle.brain_session.specs.Batches.{game_from}
-use Rattle.brain_session.specs.Steps.{board_in, done_row, placed, rule_of}
+use Rattle.std.proofs.Common.{◌≡◌, true, ap, sym, subst, ◌∙◌, Option, Some, IfSome, is_some}
+use Rattle.brain_session.proofs.Common.{Batch, Place, State, game_from, board_in, done_row, placed, rule_of, IsBegun, Takes, place_in}
 use Rattle.brain_session.specs.declared.Reaction.{Reaction}
-use Rattle.brain_session.specs.Kept.{IsBegun, Takes, place_in}
 use Rattle.brain_session.proofs.Takings.{done-row}
 use Rattle.brain_session.proofs.brain.Brain.done.Goals as goal
 

@@ -1,6 +1,5 @@
-use Rattle.std.proofs.Common.{refl, sym, subst}
-use Rattle.std.specs.Prelude.{IsNone}
-use Rattle.brain_session.specs.States.{State}
+use Rattle.std.proofs.Common.{refl, sym, subst, IsNone}
+use Rattle.brain_session.proofs.Common.{State}
 use Rattle.brain_session.proofs.Takings.{placed-running}
 use Rattle.brain_session.proofs.brain.Brain.restart.Goals as goal
 

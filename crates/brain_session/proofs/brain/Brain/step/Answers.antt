@@ -1,10 +1,5 @@
-use Rattle.std.proofs.Common.{◌≡◌, ap, sym, ◌∙◌}
-use Rattle.std.specs.Prelude.{Option}
-use Rattle.brain_session.specs.States.{Batch, State}
-use Rattle.brain_session.specs.Batches.{spoiled}
-use Rattle.std.specs.Option.{option_map}
-use Rattle.brain_session.specs.Steps.{Step}
-use Rattle.brain_session.specs.Kept.{place_in}
+use Rattle.std.proofs.Common.{◌≡◌, ap, sym, ◌∙◌, Option, option_map}
+use Rattle.brain_session.proofs.Common.{Batch, State, spoiled, Step, place_in}
 use Rattle.brain_session.proofs.Takings.{spoiled-step}
 use Rattle.brain_session.proofs.brain.Brain.step.Goals as goal
 

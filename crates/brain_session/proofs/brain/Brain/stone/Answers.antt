@@ -1,7 +1,5 @@
 use Rattle.std.proofs.Common.{◌≡◌, sym, subst}
-use Rattle.brain_session.specs.States.{State, point_at}
-use Rattle.brain_session.specs.Steps.{board_in}
-use Rattle.brain_session.specs.Kept.{IsPointOn, place_in}
+use Rattle.brain_session.proofs.Common.{State, point_at, board_in, IsPointOn, place_in}
 use Rattle.brain_session.proofs.BatchRoom.{room-for}
 use Rattle.brain_session.proofs.Takings.{stone-running}
 use Rattle.brain_session.proofs.brain.Brain.stone.Goals as goal

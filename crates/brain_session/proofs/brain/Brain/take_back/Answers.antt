@@ -1,8 +1,5 @@
-use Rattle.std.proofs.Common.{◌≡◌, ap, subst, ◌∙◌}
-use Rattle.std.specs.Prelude.{is_some}
-use Rattle.brain_session.specs.States.{State}
-use Rattle.brain_session.specs.Running.{IsPlace}
-use Rattle.brain_session.specs.Kept.{place_in}
+use Rattle.std.proofs.Common.{◌≡◌, ap, subst, ◌∙◌, is_some}
+use Rattle.brain_session.proofs.Common.{State, IsPlace, place_in}
 use Rattle.brain_session.proofs.Takings.{placed-running}
 use Rattle.brain_session.proofs.brain.Brain.take_back.Goals as goal
 

@@ -1,8 +1,5 @@
-use Rattle.std.proofs.Common.{◌≡◌, ap, sym, subst, ◌∙◌}
-use Rattle.std.specs.Prelude.{IsNone, IfOk, is_some}
-use Rattle.brain_session.specs.States.{Place, State, point_at}
-use Rattle.brain_session.specs.Steps.{board_in, turn_row}
-use Rattle.brain_session.specs.Kept.{IsPointOn, Takes, place_in}
+use Rattle.std.proofs.Common.{◌≡◌, ap, sym, subst, ◌∙◌, IsNone, IfOk, is_some}
+use Rattle.brain_session.proofs.Common.{Place, State, point_at, board_in, turn_row, IsPointOn, Takes, place_in}
 use Rattle.brain_session.proofs.Takings.{turn-takes}
 use Rattle.brain_session.proofs.brain.Brain.turn.Goals as goal
 

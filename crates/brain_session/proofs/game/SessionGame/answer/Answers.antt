@@ -1,8 +1,7 @@
 use Rattle.std.proofs.Common.{ap, sym, subst, ◌∙◌}
-use Rattle.game_rules.specs.Play.{mover}
+use Rattle.game_rules.proofs.Common.{mover}
 use Rattle.game_rules.proofs.Positions.{GoesOn-empty}
-use Rattle.brain_session.specs.States.{board_after}
-use Rattle.brain_session.specs.Kept.{Moves, IsReady}
+use Rattle.brain_session.proofs.Common.{board_after, Moves, IsReady}
 use Rattle.brain_session.proofs.SessionGames.{reply-mover, reply-ready}
 use Rattle.brain_session.proofs.game.SessionGame.answer.Goals as goal
 

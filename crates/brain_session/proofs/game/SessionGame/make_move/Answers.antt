@@ -1,9 +1,8 @@
 use Rattle.std.proofs.Common.{◌≡◌, not, ◌∷◌, ap, sym, subst, ◌∙◌}
-use Rattle.game_rules.specs.Play.{outcome, goes_on}
+use Rattle.game_rules.proofs.Common.{outcome, goes_on}
 use Rattle.game_rules.specs.declared.Outcome.{Outcome}
 use Rattle.brain_session.specs.declared.game.SessionGame.{SessionGame}
-use Rattle.brain_session.specs.States.{board_after}
-use Rattle.brain_session.specs.Kept.{Moves, IsKeptUp, game_of}
+use Rattle.brain_session.proofs.Common.{board_after, Moves, IsKeptUp, game_of}
 use Rattle.brain_session.proofs.SessionGames.{MovesBy, kept-moved, chosen-moves}
 use Rattle.brain_session.proofs.game.SessionGame.make_move.Goals as goal
 

@@ -1,8 +1,6 @@
 use Rattle.std.proofs.Common.{ap, sym, subst, ◌∙◌}
 use Rattle.brain_session.specs.declared.game.SessionGame.{SessionGame}
-use Rattle.brain_session.specs.Running.{GoesOnAlong}
-use Rattle.brain_session.specs.ChosenMoves.{chosen_anew}
-use Rattle.brain_session.specs.Kept.{game_of}
+use Rattle.brain_session.proofs.Common.{GoesOnAlong, chosen_anew, game_of}
 use Rattle.brain_session.proofs.SessionGames.{chosen-anew, chosen-followed}
 use Rattle.brain_session.proofs.game.SessionGame.next_move.Goals as goal
 

@@ -1,9 +1,8 @@
-use Rattle.std.proofs.Common.{◌≡◌, List, sym, subst}
-use Rattle.std.specs.Prelude.{Some, slice_get}
+use Rattle.std.proofs.Common.{◌≡◌, List, sym, subst, Some, slice_get}
 use Rattle.strategy_graph.specs.declared.Node.{Node}
-use Rattle.strategy_graph.specs.Tables.{IsTable}
+use Rattle.strategy_graph.proofs.Common.{IsTable}
 use Rattle.brain_session.specs.declared.guide.Guide.{Guide}
-use Rattle.brain_session.specs.Kept.{nodes_of}
+use Rattle.brain_session.proofs.Common.{nodes_of}
 use Rattle.brain_session.proofs.Guiding.{held-moves, own-moves}
 use Rattle.brain_session.proofs.guide.Guide.attack.Goals as goal
 

@@ -1,7 +1,5 @@
 use Rattle.std.proofs.Common.{ap, ◌∙◌}
-use Rattle.brain_session.specs.States.{board_after}
-use Rattle.brain_session.specs.ChosenMoves.{same_board}
-use Rattle.brain_session.specs.Kept.{Moves}
+use Rattle.brain_session.proofs.Common.{board_after, same_board, Moves}
 use Rattle.brain_session.proofs.PlayedMoves.{same_board-told}
 use Rattle.brain_session.proofs.moves_on_board.MovesOnBoard.is_at.Goals as goal
 

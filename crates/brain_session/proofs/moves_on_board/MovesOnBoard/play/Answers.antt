@@ -1,7 +1,6 @@
 use Rattle.std.proofs.Common.{◌≡◌, true, ap, reverse, ◌∙◌}
-use Rattle.game_rules.specs.Grid.{Grid, is_empty}
-use Rattle.brain_session.specs.States.{board_after}
-use Rattle.brain_session.specs.Kept.{Moves}
+use Rattle.game_rules.proofs.Common.{Grid, is_empty}
+use Rattle.brain_session.proofs.Common.{board_after, Moves}
 use Rattle.brain_session.proofs.PlayedMoves.{kept-room, kept-pushed}
 use Rattle.brain_session.proofs.moves_on_board.MovesOnBoard.play.Goals as goal
 

@@ -1,8 +1,5 @@
-use Rattle.std.proofs.Common.{◌≡◌, ap, sym, reverse, ◌∙◌}
-use Rattle.std.specs.Prelude.{Some}
-use Rattle.brain_session.specs.States.{board_after}
-use Rattle.brain_session.specs.ChosenMoves.{same_board, last_move}
-use Rattle.brain_session.specs.Kept.{Moves, without_last}
+use Rattle.std.proofs.Common.{◌≡◌, ap, sym, reverse, ◌∙◌, Some}
+use Rattle.brain_session.proofs.Common.{board_after, same_board, last_move, Moves, without_last}
 use Rattle.brain_session.proofs.PlayedMoves.{last-cons, kept-as, kept-stone, kept-lift, kept-again, same_board-told}
 use Rattle.brain_session.proofs.moves_on_board.MovesOnBoard.was_at.Goals as goal
 

@@ -1,13 +1,9 @@
-use Rattle.std.proofs.Common.{◌≡◌, ap, sym, subst, ◌∙◌}
-use Rattle.std.specs.Prelude.{Some, Option}
-use Rattle.game_rules.specs.Grid.{is_on}
-use Rattle.game_rules.specs.Play.{outcome}
+use Rattle.std.proofs.Common.{◌≡◌, ap, sym, subst, ◌∙◌, Some, Option}
+use Rattle.game_rules.proofs.Common.{is_on, outcome}
 use Rattle.game_rules.specs.declared.RuleKind.{RuleKind}
 use Rattle.game_rules.specs.declared.Side.TheVariants.{White}
-use Rattle.brain_session.specs.States.{Game, Place, InGame, board_of}
-use Rattle.brain_session.specs.Steps.{board_in, move_row, placed, turn_row}
-use Rattle.brain_session.specs.Memory.{is_game}
-use Rattle.brain_session.specs.Kept.{in_place, IsRow, IsStateOf, Takes, game_of, place_of}
+use Rattle.brain_session.proofs.Common.{Game, Place, InGame, board_of, board_in, move_row, placed, turn_row, is_game, in_place, IsRow}
+use Rattle.brain_session.proofs.Common.{IsStateOf, Takes, game_of, place_of}
 use Rattle.brain_session.proofs.SessionBoards.{new-game, no-game, session_board-kept, first-taken}
 use Rattle.brain_session.proofs.session_board.SessionBoard.begin_by_turn.Goals as goal
 

@@ -1,9 +1,7 @@
 use Rattle.std.proofs.Common.{ap, sym, ◌∙◌}
-use Rattle.game_rules.specs.Grid.{IsBoard}
-use Rattle.game_rules.specs.Play.{mover}
+use Rattle.game_rules.proofs.Common.{IsBoard, mover}
 use Rattle.brain_session.specs.declared.game.SessionGame.{SessionGame}
-use Rattle.brain_session.specs.States.{board_after, empty_board}
-use Rattle.brain_session.specs.Kept.{Moves}
+use Rattle.brain_session.proofs.Common.{board_after, empty_board, Moves}
 use Rattle.brain_session.proofs.SessionBoards.{board-sized}
 use Rattle.brain_session.proofs.BatchGames.{batch-to_move}
 use Rattle.brain_session.proofs.session_board.SessionBoard.from_batch.Goals as goal

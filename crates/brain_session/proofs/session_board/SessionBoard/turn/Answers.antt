@@ -1,13 +1,11 @@
-use Rattle.std.proofs.Common.{◌≡◌, true, false, ap, sym, subst, ◌∙◌}
-use Rattle.std.specs.Prelude.{None, Option, IfSome, IfOk}
-use Rattle.game_rules.specs.Grid.{is_on}
+use Rattle.std.proofs.Common.{◌≡◌, true, false, ap, sym, subst, ◌∙◌, None, Option, IfSome, IfOk}
+use Rattle.game_rules.proofs.Common.{is_on}
 use Rattle.game_rules.specs.declared.Point.{Point}
 use Rattle.gomocup_text.specs.declared.Answer.TheVariants.{Error}
 use Rattle.gomocup_text.specs.declared.ErrorText.TheVariants.{BadMove}
 use Rattle.brain_session.specs.declared.Reaction.TheVariants.{Says}
-use Rattle.brain_session.specs.States.{Game, Place, InGame, State}
-use Rattle.brain_session.specs.Steps.{board_in, placed, turn_row}
-use Rattle.brain_session.specs.Kept.{IsPointOn, IsSessionBoard, IsStateOf, Takes, game_of, place_of, turn_refusal}
+use Rattle.brain_session.proofs.Common.{Game, Place, InGame, State, board_in, placed, turn_row, IsPointOn, IsSessionBoard, IsStateOf, Takes}
+use Rattle.brain_session.proofs.Common.{game_of, place_of, turn_refusal}
 use Rattle.brain_session.proofs.SessionBoards.{turn-off, turn-taken, session_board-after}
 use Rattle.brain_session.proofs.session_board.SessionBoard.turn.Goals as goal
 

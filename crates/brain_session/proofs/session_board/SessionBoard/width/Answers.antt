@@ -1,8 +1,6 @@
 use Rattle.std.proofs.Common.{◌≡◌, ap, sym, ◌∙◌}
-use Rattle.brain_session.specs.States.{Place}
-use Rattle.brain_session.specs.Steps.{board_in}
-use Rattle.brain_session.specs.Kept.{place_of}
-use Rattle.game_rules.specs.Grid.{Grid}
+use Rattle.brain_session.proofs.Common.{Place, board_in, place_of}
+use Rattle.game_rules.proofs.Common.{Grid}
 use Rattle.brain_session.proofs.SessionBoards.{board_in-place, width-after}
 use Rattle.brain_session.proofs.session_board.SessionBoard.width.Goals as goal
 

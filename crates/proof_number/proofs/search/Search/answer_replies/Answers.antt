@@ -1,19 +1,18 @@
 use Rattle.std.proofs.Common.{rules, ◌≡◌, ◌∙◌, ◌+◌, ◌≤◌, ℕ, false, sym, ap, subst, arith, List, IfNone, Some, None}
 use Rattle.std.proofs.Common.{get_or, Option, sum_by}
 use Rattle.std.proofs.lemmas.List.{get_or_default}
-use Rattle.game_rules.specs.Grid.{Grid}
+use Rattle.game_rules.proofs.Common.{Grid}
 use Rattle.game_rules.specs.declared.RuleKind.{RuleKind}
-use Rattle.proof_tree.specs.Trees.{Tree}
+use Rattle.proof_tree.proofs.Common.{Tree}
 use Rattle.proof_tree.proofs.SumLaws.{fresh-numbers}
 use Rattle.strategy_graph.specs.declared.Node.{Node}
 use Rattle.proof_number.specs.declared.notes.Note.{Note}
 use Rattle.threat_game.specs.declared.replies.Child.{Child}
 use Rattle.threat_game.specs.declared.replies.Children.{Children}
 use Rattle.proof_number.specs.declared.search.Search.{Search}
-use Rattle.strategy_compiler.specs.Growth.{GrowsBy}
-use Rattle.proof_number.specs.Notes.{no_note, note_at}
-use Rattle.proof_number.specs.Searches.{StandsAt}
-use Rattle.threat_game.specs.Replies.{AreChildren, AreReplies, HasEscape, nodes_for}
+use Rattle.strategy_compiler.proofs.Common.{GrowsBy}
+use Rattle.proof_number.proofs.Common.{no_note, note_at, StandsAt}
+use Rattle.threat_game.proofs.Common.{AreChildren, AreReplies, HasEscape, nodes_for}
 use Rattle.proof_number.proofs.Steps.{attacked-few, leaf-board, leaf-is, leaf-noted, root-open, settled-at, writes-no_memory, writes-none}
 use Rattle.proof_number.proofs.Defending.{all-fresh, defend-moves, defend-no_five, defend-reply, each-is, each-same, escape-grows, few-new}
 use Rattle.proof_number.proofs.Defending.{replies-few, replies-grow, replies-no_room, replies-room, replies-spent, settled-same, some-new}

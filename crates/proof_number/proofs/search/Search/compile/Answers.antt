@@ -1,12 +1,11 @@
 use Rattle.std.proofs.Common.{◌≡◌, ◌∙◌, refl, sym, ap, arith, List, length, take, drop}
 use Rattle.std.proofs.lemmas.List.{get_or_default}
-use Rattle.proof_tree.specs.Trees.{link_at}
+use Rattle.proof_tree.proofs.Common.{link_at}
 use Rattle.proof_tree.specs.declared.Link.{Link}
 use Rattle.proof_number.specs.declared.notes.Note.{Note}
-use Rattle.proof_number.specs.Notes.{no_note, note_at}
-use Rattle.proof_number.proofs.Compiling.{compile-below, compile-few, compile-fits, compile-here, compile-inside}
-use Rattle.proof_number.proofs.Compiling.{compile-keeps, compile-kids, compile-noted, compile-room, compile-searches, compile-some}
-use Rattle.proof_number.proofs.Compiling.{compile-won}
+use Rattle.proof_number.proofs.Common.{no_note, note_at}
+use Rattle.proof_number.proofs.Compiling.{compile-below, compile-few, compile-fits, compile-here, compile-inside, compile-keeps}
+use Rattle.proof_number.proofs.Compiling.{compile-kids, compile-noted, compile-room, compile-searches, compile-some, compile-won}
 use Rattle.proof_number.proofs.Recording.{keeps-all}
 use Rattle.strategy_compiler.proofs.Growing.{writes-fails, writes-more}
 use Rattle.proof_number.proofs.search.Search.compile.Goals as goal

@@ -1,15 +1,13 @@
 use Rattle.std.proofs.Common.{rules, ◌≡◌, ◌∙◌, inl, inr, ◌*◌, ◌≤◌, ℕ, refl, sym, ap, subst, arith, length, min}
-use Rattle.proof_tree.specs.Combining.{is_settled}
-use Rattle.proof_tree.specs.Trees.{Tree, numbers_at}
+use Rattle.proof_tree.proofs.Common.{is_settled, Tree, numbers_at}
 use Rattle.strategy_compiler.proofs.Growing.{writes-fails, writes-tells}
-use Rattle.threat_game.specs.ThreatGame.{threat_tree}
-use Rattle.proof_number.specs.Searches.{HasStepped, IsOverBudget}
+use Rattle.threat_game.proofs.Common.{threat_tree}
+use Rattle.proof_number.proofs.Common.{HasStepped, IsOverBudget, HasRunOut, IsSearchTree}
 use Rattle.proof_number.proofs.Ending.{begun-room, closed-few, leaves-told, root-noted, steps-write, told-denial, told-lost, told-none}
 use Rattle.proof_number.proofs.Ending.{told-proved, told-tree, told-win}
 use Rattle.proof_number.proofs.StepLaws.{on-done, on-spent, searched-tree}
 use Rattle.proof_number.proofs.Opening.{searching-facts}
 use Rattle.proof_number.proofs.RunningOut.{answer-room, begun-full, out-aim, room-aim, same-error, so-far-tree, tree-aim}
-use Rattle.proof_number.proofs.Common.{HasRunOut, IsSearchTree}
 use Rattle.proof_number.proofs.search.Search.run.Goals as goal
 
 pub returns-in_err-begin-clause-told : goal.returns-in_err-begin-clause-told

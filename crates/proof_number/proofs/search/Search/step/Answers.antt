@@ -1,8 +1,7 @@
 use Rattle.std.proofs.Common.{rules, ◌∙◌}
 use Rattle.proof_number.proofs.StepLaws.{back-done, back-fails, grown-aim, grown-parts, grown-place, grown-searches, searched-game}
-use Rattle.proof_number.proofs.StepLaws.{searched-tree}
-use Rattle.proof_number.proofs.StepLaws.{spent-stays, spent-step, stands-there, stayed-board, stayed-game, stayed-inside, stayed-place}
-use Rattle.proof_number.proofs.StepLaws.{stayed-root, stayed-step, stayed-tree}
+use Rattle.proof_number.proofs.StepLaws.{searched-tree, spent-stays, spent-step, stands-there, stayed-board, stayed-game, stayed-inside}
+use Rattle.proof_number.proofs.StepLaws.{stayed-place, stayed-root, stayed-step, stayed-tree}
 use Rattle.proof_number.proofs.search.Search.step.Goals as goal
 
 pub go_to-requires-clause-tree : goal.go_to-requires-clause-tree

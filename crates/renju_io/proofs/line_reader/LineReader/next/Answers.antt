@@ -1,10 +1,9 @@
 use Rattle.std.proofs.Common.{ℕ, ◌≢◌, ◌≤◌, ◌∙◌, length, ap, sym, subst, inl, inr, Some, Ok, Result, arith}
-use Rattle.renju_io.specs.Lines.{HasNoLineFeed, ReaderState, told_lines}
+use Rattle.renju_io.proofs.Common.{HasNoLineFeed, ReaderState, told_lines}
 use Rattle.renju_io.specs.declared.TheConstants.{MAX_SESSION_BYTES}
 use Rattle.renju_io.proofs.AskedCalls.{within_more, within_asked}
 use Rattle.renju_io.proofs.LinesSoFar.{Ended, ReadSoFar, Reading-read, Ended-read, KeepsLine-failed, lines_left-told, IsExhausted-past}
-use Rattle.renju_io.proofs.LinesSoFar.{open_until_last}
-use Rattle.renju_io.proofs.LinesSoFar.{not_exhausted_line, not_exhausted_last, open_after, ends_as_before, some_kept}
+use Rattle.renju_io.proofs.LinesSoFar.{open_until_last, not_exhausted_line, not_exhausted_last, open_after, ends_as_before, some_kept}
 use Rattle.renju_io.specs.declared.line_reader.Line.{Line}
 use Rattle.renju_io.specs.declared.line_reader.Line.TheVariants.{Text}
 use Rattle.renju_io.specs.declared.line_reader.ReadError.{ReadError}

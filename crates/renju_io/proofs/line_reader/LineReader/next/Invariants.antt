@@ -1,8 +1,5 @@
 use Rattle.std.proofs.Common.{◌≡◌, false, ◌+◌, ◌-◌}
-use Rattle.renju_io.specs.Asked.{IsAskedWithin}
-use Rattle.renju_io.specs.Faults.{HasStayed}
-use Rattle.renju_io.specs.Lines.{reads_for}
-use Rattle.renju_io.specs.LineReads.{ReadsNoFurther}
+use Rattle.renju_io.proofs.Common.{IsAskedWithin, HasStayed, reads_for, ReadsNoFurther}
 use Rattle.renju_io.specs.declared.TheConstants.{MAX_SESSION_BYTES}
 use Rattle.renju_io.proofs.LinesSoFar.{Reading}
 use Rattle.renju_io.proofs.line_reader.LineReader.next.Given as goal

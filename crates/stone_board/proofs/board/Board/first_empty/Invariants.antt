@@ -1,6 +1,5 @@
-use Rattle.std.proofs.Common.{◌≡◌}
-use Rattle.std.specs.List.{find}
-use Rattle.game_rules.specs.Grid.{is_empty}
+use Rattle.std.proofs.Common.{◌≡◌, find}
+use Rattle.game_rules.proofs.Common.{is_empty}
 use Rattle.stone_board.proofs.board.Board.first_empty.Given as goal
 
 -- the first empty point of those left is the first of all

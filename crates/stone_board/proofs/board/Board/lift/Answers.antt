@@ -3,8 +3,7 @@ use Rattle.game_rules.proofs.Common.{Grid, is_on, is_stone_of, cell_at, place_of
 use Rattle.game_rules.specs.declared.Cell.TheVariants.{Empty, Black as BlackStone, White as WhiteStone}
 use Rattle.game_rules.specs.declared.Side.TheVariants.{Black, White}
 use Rattle.game_rules.proofs.Boards.{and_left, place_fits}
-use Rattle.stone_board.specs.Kept.{IsKept}
-use Rattle.stone_board.specs.Steps.{holds_stone}
+use Rattle.stone_board.proofs.Common.{IsKept, holds_stone}
 use Rattle.stone_board.proofs.Counts.{same_item, lift-black, lift-white}
 use Rattle.stone_board.proofs.board.Board.lift.Goals as goal
 

@@ -1,15 +1,11 @@
-use Rattle.std.proofs.Common.{◌≡◌, ◌∙◌, ℕ, sym, subst}
-use Rattle.std.specs.Prelude.{Some, IfSome, Ok, Err}
+use Rattle.std.proofs.Common.{◌≡◌, ◌∙◌, ℕ, sym, subst, Some, IfSome, Ok, Err}
 use Rattle.std.proofs.lemmas.Result.{err_from_is_err_and}
-use Rattle.game_rules.specs.Grid.{Grid}
-use Rattle.game_rules.specs.Play.{outcome}
+use Rattle.game_rules.proofs.Common.{Grid, outcome}
 use Rattle.game_rules.specs.declared.Outcome.TheVariants.{GoesOn}
 use Rattle.game_rules.specs.declared.RuleKind.{RuleKind}
-use Rattle.strategy_graph.specs.Tables.{answer}
-use Rattle.strategy_graph.specs.Acceptance.{Accepted, Meets}
-use Rattle.strategy_graph.specs.Leads.{LeadsStart}
+use Rattle.strategy_graph.proofs.Common.{answer, Accepted, Meets, LeadsStart}
 use Rattle.strategy_graph.proofs.Steps.{arrivals-answer, met-answer}
-use Rattle.strategy_checker.specs.Walks.{IsSure, Walked}
+use Rattle.strategy_checker.proofs.Common.{IsSure, Walked}
 use Rattle.strategy_checker.proofs.Sureness.{sure-accepted}
 use Rattle.strategy_checker.proofs.Walking.{taken}
 use Rattle.strategy_checker.proofs.walk.Walk.ask.Goals as goal

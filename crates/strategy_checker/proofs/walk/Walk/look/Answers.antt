@@ -1,10 +1,9 @@
-use Rattle.std.proofs.Common.{◌≡◌, ℕ, inl, ap}
-use Rattle.std.specs.Prelude.{Option, Some, None, IfSome}
+use Rattle.std.proofs.Common.{◌≡◌, ℕ, inl, ap, Option, Some, None, IfSome}
 use Rattle.position_table.specs.Packing.{packed}
 use Rattle.position_table.specs.Remembering.{value_under}
 use Rattle.position_table.specs.Lateness.{Late}
 use Rattle.position_table.proofs.Remembering.{true-found, true-looked}
-use Rattle.strategy_checker.specs.Walks.{IsWalked}
+use Rattle.strategy_checker.proofs.Common.{IsWalked}
 use Rattle.strategy_checker.proofs.walk.Walk.look.Goals as goal
 
 pub returns-else-is_soon_won-clause-found : goal.returns-else-is_soon_won-clause-found

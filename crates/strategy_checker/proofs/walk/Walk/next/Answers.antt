@@ -1,10 +1,9 @@
-use Rattle.std.proofs.Common.{◌≡◌, ◌<◌, arith, ◌∷◌, ◌∙◌, ℕ, false, length, sym, ap}
-use Rattle.std.specs.Prelude.{Option, Some, None, IfSome, Ok}
+use Rattle.std.proofs.Common.{◌≡◌, ◌<◌, arith, ◌∷◌, ◌∙◌, ℕ, false, length, sym, ap, Option, Some, None, IfSome, Ok}
 use Rattle.std.proofs.lemmas.Result.{err_from_is_err_and}
-use Rattle.game_rules.specs.Grid.{Grid, is_empty}
-use Rattle.strategy_graph.specs.Tables.{Answers, answer}
+use Rattle.game_rules.proofs.Common.{Grid, is_empty}
+use Rattle.strategy_graph.proofs.Common.{Answers, answer}
 use Rattle.strategy_graph.proofs.Answering.{answer-below}
-use Rattle.strategy_checker.specs.Meetings.{Asked}
+use Rattle.strategy_checker.proofs.Common.{Asked}
 use Rattle.strategy_checker.proofs.Owing.{owes-on, owes-stops}
 use Rattle.strategy_checker.proofs.Walking.{refused-reply}
 use Rattle.strategy_checker.proofs.walk.Walk.next.Goals as goal

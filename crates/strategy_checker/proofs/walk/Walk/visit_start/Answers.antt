@@ -1,25 +1,20 @@
-use Rattle.std.proofs.Common.{◌≡◌, ◌∷◌, [], ◌∙◌, ℕ, length, refl, sym, ap, arith}
-use Rattle.std.specs.Prelude.{Option, Result, Ok, Err}
+use Rattle.std.proofs.Common.{◌≡◌, ◌∷◌, [], ◌∙◌, ℕ, length, refl, sym, ap, arith, Option, Result, Ok, Err}
 use Rattle.std.proofs.lemmas.Bool.{not-true}
 use Rattle.std.proofs.lemmas.Result.{err_from_is_err_and}
-use Rattle.game_rules.specs.Grid.{Grid}
-use Rattle.game_rules.specs.Games.{has_five}
-use Rattle.game_rules.specs.Play.{after}
+use Rattle.game_rules.proofs.Common.{Grid, has_five, after}
 use Rattle.game_rules.specs.declared.Point.{Point}
 use Rattle.game_rules.specs.declared.RuleKind.{RuleKind}
-use Rattle.strategy_graph.specs.Tables.{Answers}
-use Rattle.strategy_graph.specs.Leads.{LeadsStart}
+use Rattle.strategy_graph.proofs.Common.{Answers, LeadsStart}
 use Rattle.strategy_graph.proofs.Answering.{answer-below}
 use Rattle.strategy_graph.proofs.Steps.{arrivals-answer, arrivals-positive, met-all}
 use Rattle.strategy_checker.specs.declared.meeting.Course.{Course}
 use Rattle.strategy_checker.specs.declared.walk.Walk.{Walk}
-use Rattle.strategy_checker.specs.Walks.{WalkedReply}
-use Rattle.strategy_checker.specs.Meetings.{Advanced, all_to_ask, owed}
+use Rattle.strategy_checker.proofs.Common.{WalkedReply, Advanced, all_to_ask, owed}
 use Rattle.strategy_checker.proofs.Owing.{owes-done, owes-on, owes-short, owes-stops, owes-then}
 use Rattle.strategy_checker.proofs.Walking.{taken-ready}
 use Rattle.strategy_checker.specs.declared.walk.Stop.{Stop}
-use Rattle.strategy_checker.proofs.walk.Walk.visit_start.Goals as goal
 use Rattle.strategy_checker.proofs.walk.Walk.visit_start.Goals.{After-next}
+use Rattle.strategy_checker.proofs.walk.Walk.visit_start.Goals as goal
 
 pub loop-next-init : goal.loop-next-init
 loop-next-init g c =

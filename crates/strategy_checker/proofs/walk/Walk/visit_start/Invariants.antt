@@ -1,8 +1,6 @@
 use Rattle.std.proofs.Common.{◌≡◌}
-use Rattle.strategy_graph.specs.Acceptance.{AcceptedStart}
-use Rattle.strategy_graph.specs.Arrivals.{start_arrivals}
-use Rattle.strategy_checker.specs.Walks.{IsOutlook}
-use Rattle.strategy_checker.specs.Meetings.{Owes, all_to_ask}
+use Rattle.strategy_graph.proofs.Common.{AcceptedStart, start_arrivals}
+use Rattle.strategy_checker.proofs.Common.{IsOutlook, Owes, all_to_ask}
 use Rattle.strategy_checker.proofs.walk.Walk.visit_start.Given as goal
 
 -- the position stays, and the replies are met one after another

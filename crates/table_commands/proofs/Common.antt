@@ -1,0 +1,10 @@
+-- The words of table_commands, all in one place for the files of laws.
+pub use Rattle.table_commands.specs.Binders.{BindsMore, IsAdded, IsAddedText}
+pub use Rattle.table_commands.specs.Binds.{AreBindable, AreFew, AreNames, BindSays, HasBound, IsBind, IsBindable, IsUnhinderedBind}
+pub use Rattle.table_commands.specs.Binds.{ShowsBinding, ShowsBound, StopsAt, TellsBook, bind_words, of_file}
+pub use Rattle.table_commands.specs.Books.{AreWithin, BookSays, EntriesSay, IsWonBook, IsWonEntry, ShowsBook, book_command}
+pub use Rattle.table_commands.specs.Checks.{CheckSays, IsAcceptedInput, IsAcceptedTable, ShowsWin, TableSays, accepted_line, check_command}
+pub use Rattle.table_commands.specs.Images.{ImageSays, ImagedFileSays, IsImage, IsImagedInput, ShowsImage, image_command, symmetry_word}
+pub use Rattle.table_commands.specs.Referees.{ComparesSays, HasGameFault, HeldSays, IsGameAt, IsJudgedInput, IsRefereeWith, RefereeSays}
+pub use Rattle.table_commands.specs.Referees.{RefereesByFile, ShowsGame, ShowsReferee, ShowsVerdict, TellsTable, compares_command, of_game}
+pub use Rattle.table_commands.specs.Referees.{referee_command, referee_with_words, replay_line, verdict_on}
