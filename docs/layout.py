@@ -110,11 +110,16 @@ class Claim(Place):
     std: set = field(default_factory=set)
 
 
+def run_of(call):
+    """What the clauses of a call are said of: what stands in brackets after the first word of its first one."""
+    return call.clauses[0][2].partition(" ")[2][1:-1]
+
+
 def claims_of(repository, call):
     """The claims in the order of the clauses, those that speak of every command at the end."""
-    found = []
+    found, run = [], run_of(call)
     for keyword, name, text in call.clauses:
-        claim = Claim(name, f"`{name}`", call.comments.get(name, ""), clause=f"{keyword} {name} {{ {text} }}")
+        claim = Claim(name, f"`{name}`", call.comments.get(name, ""), clause=f"{keyword} {name} {{ {text.replace(f'({run})', 'run')} }}")
         claim.rests = repository.closure(repository.in_call(call, lambda it: it == name))
         claim.std = repository.std_of_clauses(call, lambda it: it == name)
         found.append(claim)
@@ -127,7 +132,7 @@ class Layout:
     def __init__(self, repository):
         self.repository = repository
         self.call = repository.call(*CALL)
-        self.claims = claims_of(repository, self.call)
+        self.claims, self.run = claims_of(repository, self.call), run_of(self.call)
         self.chapters, self.home = [Chapter(*it[:3], rooms=it[3]) for it in CHAPTERS], {}
         shared = self.place_alone()
         self.place_words([it for it in shared if isinstance(it, Word)])

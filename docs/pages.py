@@ -2,11 +2,10 @@
 command. What those rest on, and what no claim does, is told on demand. What a claim says in words stands in docs/claims.txt.
 """
 import re
-import textwrap
 
 import toolchain
 from layout import CALL, LAST, Layout
-from reading import TOP, Unread, Word, sentence, tokens_of
+from reading import NAME, TOP, Unread, Word, sentence, tokens_of
 
 LIST, FOLDER, CLAIMS = "docs/DEFINITIONS.md", "docs/definitions", "docs/claims.txt"
 # The part of docs/claims.txt that is about no claim.
@@ -14,6 +13,9 @@ UNSAID = "what no clause says"
 # So many names of what a claim needs of a chapter, or doesn't, are listed.
 FEW = 6
 NO_COMMENT = "(it has no comment)"
+# What begins a line of a definition and matters to proofs alone, and how the first line of one begins on a page.
+FOR_PROOFS = re.compile(r"^( *)(?:(?:abbrev|unfoldable) )?(?:pub )?")
+BEGUN = re.compile(rf"\n\n    (?:(?:record|data) )?({NAME}) |^- `([^`]+)`: ", re.M)
 
 
 def of_words(found):
@@ -26,8 +28,14 @@ def lines_of(words):
     return sum(len([line for line in it.lines if line.strip()]) for it in words)
 
 
-def counted(found):
+def counts(found):
     """How many definitions these are, and in how many lines."""
+    words = of_words(found)
+    return f"{len(words):,}", f"{lines_of(words):,}"
+
+
+def counted(found):
+    """The same in words."""
     words = of_words(found)
     return f"{many(len(words), 'definition')} in {many(lines_of(words), 'line')}"
 
@@ -62,18 +70,14 @@ def limit(it):
 
 
 def in_full(word):
-    """A definition: its comment, and its text as it stands."""
-    return [f"**`{word.name}`**: {word.comment or NO_COMMENT}", "", "```", *(line.rstrip() for line in word.lines if line.strip()), "```", ""]
+    """A definition: its comment, and its text without what matters to proofs alone."""
+    lines = [FOR_PROOFS.sub(r"    \1", line.rstrip()) for line in word.lines if line.strip()]
+    return [word.comment or NO_COMMENT, "", *lines, ""]
 
 
 def in_short(word):
     """A definition: its comment alone."""
     return [f"- `{word.name}`: {word.comment or NO_COMMENT}"]
-
-
-def block(text):
-    """A text as a block of code, in lines that can be read."""
-    return ["```", *textwrap.wrap(text, 110, subsequent_indent="    ", break_long_words=False), "```", ""]
 
 
 def quoted(names):
@@ -98,6 +102,7 @@ class Pages:
     def __init__(self, repository):
         self.repository, self.layout = repository, Layout(repository)
         self.public_std = repository.public_std()
+        self.claims_std = {word for it in self.layout.claims for word in repository.std_of(it.rests) | it.std}
         names = [it.name for it in self.layout.home]
         self.of_several = {name for name in names if names.count(name) > 1}
         self.said, wanted = claims_in_words(), {*(it.name for it in self.layout.claims), UNSAID}
@@ -122,20 +127,20 @@ class Pages:
     def unread(self):
         """The definitions that no document has, kept or on demand."""
         texts = [*self.write().values(), *("\n".join(lines()) for lines in self.on_demand().values())]
-        told = [name for text in texts for name in re.findall(r"^(?:\*\*|- )`([^`]+)`(?:\*\*)?: ", text, re.M)]
+        told = [here or there for text in texts for here, there in BEGUN.findall(text)]
         words = [it for crate in self.repository.crates.values() for words in crate.words.values() for it in words]
         names = [it.name for it in words]
         return [it for it in words if told.count(it.name) < names.count(it.name)]
 
     def overview(self):
         """The list of claims and chapters, and how they are read."""
-        claims = [(listed(it), it.about, counted(it.rests), str(len(of_words(it.found)))) for it in self.layout.claims]
+        claims = [(listed(it), it.about, *counts(it.rests), str(len(of_words(it.found)))) for it in self.layout.claims]
         last = [line for name in LAST for line in [f"**`{name}`**. {self.said[name]}", ""]]
-        chapters = [(listed(it), it.about, counted(it.found), quoted(self.readers(it))) for it in self.layout.chapters]
+        chapters = [(listed(it), it.about, *counts(it.found)) for it in self.layout.chapters]
         return [
-            *HEAD.format(call=CALL[1], place=f"crates/{CALL[0]}/src").strip().splitlines(),
+            *HEAD.format(call=CALL[1], place=f"crates/{CALL[0]}/src", run=self.layout.run).strip().splitlines(),
             "",
-            *table(("Claim", "What it says", "It rests on", "On its page"), claims),
+            *table(("Claim", "What it says", "Definitions", "Lines", "On its page"), claims),
             *LAST_HEAD.format(last=" and ".join(f"`{it}`" for it in LAST), first=LAST[0]).strip().splitlines(),
             "",
             *last,
@@ -145,44 +150,20 @@ class Pages:
             "",
             *CHAPTERS_HEAD.format(last=" and ".join(f"`{it}`" for it in LAST)).strip().splitlines(),
             "",
-            *table(("Chapter", "What it has", "In all", "Needed for"), chapters),
+            *table(("Chapter", "What it has", "Definitions", "Lines"), chapters),
             *TAIL.strip().splitlines(),
         ]
 
-    def readers(self, chapter):
-        """The claims that need something of a chapter, but for those that speak of every command."""
-        return [it.name for it in self.layout.claims if it.name not in LAST and chapter in self.layout.read_before(it)]
-
     def chapter(self, chapter):
         """A chapter: its definitions in full."""
-        before = [f"[{it.title}]({it.name}.md)" for it in self.layout.chapters if it in self.layout.stands_on(chapter)]
-        return [
-            f"# {chapter.title}",
-            "",
-            f"{chapter.about} {counted(chapter.found)}.".strip(),
-            "",
-            *([f"Read before: {', '.join(before)}.", ""] if before else []),
-            *self.section(chapter.found, in_full),
-        ]
+        return [f"# {chapter.title}", "", *self.section(chapter.found, in_full)]
 
     def claim(self, claim):
         """The page of a claim: its clause, what is read before, and its own definitions in full."""
-        before = [self.before(claim, place) for place in self.layout.read_before(claim)]
-        std = self.repository.std_of(claim.rests) | claim.std
-        return [
-            f"# The claim {claim.title}",
-            "",
-            self.said[claim.name],
-            "",
-            *block(claim.clause),
-            f"It rests on {counted(claim.rests)}, and on {many(len(std), 'word')} and signs of the toolchain. Read before:",
-            "",
-            *before,
-            "",
-            f"And here, {counted(claim.found)}. `docs/definitions.py --text {claim.name}` prints all of them, one after the other.",
-            "",
-            *self.section(claim.found, in_full),
-        ]
+        places = self.layout.read_before(claim)
+        head = [f"# The claim {claim.title}", "", self.said[claim.name], "", f"    {claim.clause}", ""]
+        before = ["Read before:", "", *(self.before(claim, it) for it in places), ""] if places else []
+        return [*head, *before, *self.section(claim.found, in_full, [it for place in places for it in of_words(place.found)])]
 
     def before(self, claim, place):
         """What a claim needs of a chapter, or of another claim's page; by name where that is short."""
@@ -198,11 +179,12 @@ class Pages:
             return f"{link}: {len(words)} of {len(all_words)}, all but {quoted(left)}"
         return f"{link}: {len(words)} of {len(all_words)}" + (f", {quoted(it.name for it in words)}" if len(words) <= FEW else "")
 
-    def section(self, found, shown):
-        """What is found of each crate, lowest first."""
-        return [line for crate in self.repository.crates.values() for line in self.of_crate(crate, found, shown)]
+    def section(self, found, shown, read=()):
+        """What is found of each crate, lowest first. What a crate or a module is about is not told again after what is read before."""
+        names, known = {}, {(it.crate, it.module) for it in read}
+        return [line for crate in self.repository.crates.values() for line in self.of_crate(crate, found, shown, known, names)]
 
-    def of_crate(self, crate, found, shown):
+    def of_crate(self, crate, found, shown, known, names):
         """What is found of a crate: its types and limits, and then its definitions, module by module."""
         types = [it for it in crate.types.values() if it in found]
         limits = [it for it in crate.consts.values() if it in found]
@@ -210,38 +192,46 @@ class Pages:
         modules = [(module, words) for module, words in modules if words]
         if not (types or limits or modules):
             return
-        yield from [f"## `{crate.name}`: {crate.title}", ""]
+        yield from [f"## `{crate.name}`" + ("" if crate.name in {name for name, _ in known} else f": {crate.title}"), ""]
         if types or limits:
-            yield from ["Types and limits:", "", *(line for it in types for line in spelled(it)), *(limit(it) for it in limits), ""]
+            yield from [*(line for it in types for line in spelled(it)), *(limit(it) for it in limits), ""]
         for module, words in modules:
-            yield from [f"`specs/{module}.antt`. {crate.headers[module]}", ""]
-            yield from self.names(words) if shown is in_full else []
+            yield from [f"`specs/{module}.antt`. {'' if (crate.name, module) in known else crate.headers[module]}".rstrip(), ""]
+            yield from self.names(words, names) if shown is in_full else []
             yield from [line for it in words for line in shown(it)] + ([""] if shown is in_short else [])
 
-    def names(self, words):
-        """A line on the names that these words of a module have under another one, or that several definitions have."""
-        said = []
+    def names(self, words, known):
+        """A line on the names that these words of a module have under another one, or that several definitions have, where the last
+        that was told of the name is something else."""
+        said = {}
         for here, there, owner in dict.fromkeys(self.repository.renamed(words)):
-            said.append(f"`{here}` is `{there}` of `{owner}`" if there else f"`{here}` stands before the cases of `{owner}`")
+            said[here] = f"`{here}` is `{there}` of `{owner}`" if there else f"`{here}` stands before the cases of `{owner}`"
         for it in dict.fromkeys(it for word in words for it in self.repository.cites(word) if it.name in tokens_of(word.text())):
             place = (it.crate, it.module) if isinstance(it, Word) else (it.crate,)
-            if it.name in self.of_several and place != (words[0].crate, words[0].module):
-                said.append(f"`{it.name}` is that of `{'.'.join(place)}`")
-        return [f"Here {'; '.join(said)}.", ""] if said else []
+            if it.name in self.of_several:
+                is_own = place == (words[0].crate, words[0].module)
+                said[it.name] = "" if is_own else f"`{it.name}` is that of `{'.'.join(place)}`"
+        new = [text for name, text in said.items() if text and known.get(name) != text]
+        known.update(said)
+        return [f"Here {'; '.join(new)}.", ""] if new else []
 
     def toolchain(self):
         """How a definition is written, and what the toolchain's words mean."""
         lines = NOTATION.strip().splitlines()
-        for title, words in toolchain.shown(self.public_std):
-            rows = [("`" + form.replace("|", "\\|") + "`", meaning) for form, meaning in words]
-            lines += ["", f"## {title}", "", *table(("Word", "Meaning"), rows)[:-1]]
+        for title, words in toolchain.shown(self.claims_std):
+            lines += ["", f"## {title}", "", *(f"- `{form}`: {meaning}" for form, meaning in words)]
         return lines
 
     def of_crates(self):
         """What the public contracts of the crates cite beyond the claims, in short."""
         public = self.repository.closure([it for crate in self.repository.crates.values() for it in self.repository.public_roots(crate)])
         found = {it: None for it in public if it not in self.layout.home}
-        return [*CRATES.format(counted=counted(found)).strip().splitlines(), "", *self.section(found, in_short)]
+        lines = [*CRATES.format(counted=counted(found)).strip().splitlines(), "", *self.section(found, in_short)]
+        known = [line for _, words in toolchain.shown(self.claims_std) for line in words]
+        for title, words in toolchain.shown(self.public_std):
+            more = [f"{form}: {meaning}" for form, meaning in words if (form, meaning) not in known]
+            lines += [f"## The toolchain's words: {title}", "", *more, ""] if more else []
+        return lines
 
     def private(self):
         """What private contracts alone cite, and what no contract does, in short."""
@@ -273,20 +263,18 @@ What an answer of `renju` says is said by clauses, and the clauses by definition
 
 To read a claim:
 
-1. Take its page in the table below. It says the claim in words, has the clause, and names the chapters that come before it, with how many of their definitions it rests on, by name where these or the others are few.
-2. Read these chapters from top to bottom, in their order. Each definition stands with its comment and its text, after the definitions that it uses; two that use each other stand together.
-3. Then read the page: what this claim adds to the chapters.
+1. Take its page in the table below. It has the claim in words, its clause, and the chapters that come before it, with how many of their definitions it rests on, by name where these or the others are few. In a clause `run` stands for `{run}`.
+2. Read these chapters from top to bottom, in their order. Each definition stands below its comment, after those that it uses; two that use each other stand together.
+3. Then read the page: what this claim adds to the chapters. No other claim's page is needed, but where a page names one.
 
-How definitions are written is in [toolchain.md](definitions/toolchain.md), with a line on each word of the toolchain: what no page defines. Where a name is defined, ``grep -rn '^..`NAME`' docs/definitions`` tells. Begin with `won`, of which the chapters are the ones that most claims need. `docs/definitions.py --text CLAUSE` prints all that a claim rests on as one text, the clause first, with types and limits as they stand in the sources.
-
-Nothing else has to be read to believe a claim: no other claim's page, but where a page names one; no body and no proof. Other definitions are printed on demand: by `docs/definitions.py --text crates` those of which only a crate that is used alone speaks, by `docs/definitions.py --text private` those of private contracts and of proofs. The words `pub`, `abbrev` and `unfoldable` before a definition matter to proofs alone.
+How definitions are written is in [toolchain.md](definitions/toolchain.md), with a line on each word of the toolchain that they have. Where a name is defined, ``grep -rnE '^( {{4}}(record |data )?|- `)NAME\\b' docs/definitions`` tells. Begin with `won`, of which the chapters are the ones that most claims need. `docs/definitions.py --text CLAUSE` prints all that a claim rests on as one text, as it stands in the sources; the pages leave out `pub`, `abbrev` and `unfoldable`, which matter to proofs alone. `--text crates` prints the definitions of which only a crate that is used alone speaks, `--text private` those of private contracts and of proofs.
 
 Contracts speak of plain values: a board is a width, a height and a list of cells; a table is a list of nodes; a text is a list of bytes; numbers are whole numbers without limit. Sources: the RIF Rules of Renju for fours, straight fours, threes, overlines and fouls; Allis, van den Herik and Huntjens, "Go-Moku and Threat-Space Search", for wins by fours and by threats. Which double-threes are allowed to stand is this program's own rule, and its definition (`is_three`) says so.
 
 ## The claims
 """
 LAST_HEAD = """
-{last} speak of every command, and so rest on most of what there is; each other claim says what one command shows, or the devices do. These two have no page here: `docs/definitions.py --text {first}` prints what one of them rests on.
+{last} speak of every command, and rest on most of what there is. They have no page: `docs/definitions.py --text {first}` prints what one of them rests on.
 """
 CHAPTERS_HEAD = """
 ## The chapters
@@ -296,25 +284,23 @@ What two claims or more rest on, where {last} don't count. A chapter comes after
 TAIL = """
 ## How it is kept
 
-These pages are worked out by `docs/definitions.py` from the specs, the sources and `docs/claims.txt`, and the tests of the repository compare them. It follows each name from the clauses on, and fails where a definition is in none of the documents, kept or on demand. What several claims rest on stands in the chapter of its crate and module, by one table in `docs/layout.py`; what one claim alone does stands on its page. A crate that comes later has a chapter of its own until that table names it. The definitions themselves are in `crates/NAME/specs`, a module a file.
+`docs/definitions.py` works these pages out from the specs, the sources and `docs/claims.txt`, and the tests of the repository compare them. It follows each name from the clauses on, and fails where a definition is in none of the documents, kept or on demand. A table in `docs/layout.py` names the chapter of a crate or a module; a crate that it doesn't name has one of its own.
 """
 NOTATION = """
 # How definitions are written
 
-| Written | It says |
-|---|---|
-| `f : A → B → C` | f takes a value of A and one of B, and answers one of C; `f a b` is its answer. Where C is `Type 0`, the answer is a fact |
-| `f x [] = ..`, `f x (y ∷ ys) = ..` | what f answers, case by case: the first line that fits decides |
-| `record R .. where`, and lines `field : A` | a value with these fields, `r.field` each; where it is a fact, its fields are facts that all hold |
-| `record { a = x; b = y }`, `record r { a = x }` | the value with these fields, and r with this field in place of its own |
-| `data D .. where`, and lines `case : A → D` | a value, or a fact, that has one of these forms; a fact holds in no other way |
-| `{A : Type 0}`, `f {x = e}` | an argument that is mostly left out, since the others tell it |
-| `let x = e in ..` | x stands for e |
-| `x` or `p` on the left | a name for what stands there; `_` is whatever does |
+- `f : A → B → C`: f takes a value of A and one of B, and answers one of C; `f a b` is its answer. Where C is `Type 0`, the answer is a fact.
+- `f x [] = ..`, `f x (y ∷ ys) = ..`: what f answers, case by case: the first line that fits decides.
+- `record R .. where`, and lines `field : A`: a value with these fields, `r.field` each; where it is a fact, its fields are facts that all hold.
+- `record { a = x; b = y }`, `record r { a = x }`: the value with these fields, and r with this field in place of its own.
+- `data D .. where`, and lines `case : A → D`: a value, or a fact, that has one of these forms; a fact holds in no other way.
+- `{A : Type 0}`, `f {x = e}`: an argument that is mostly left out, since the others tell it.
+- `let x = e in ..`: x stands for e.
+- `x` or `p` on the left: a name for what stands there; `_` is whatever does.
 
-In a clause `x.now` is what a reference holds, `x.old` and `x.new` what one that may change holds before and after the call, and `result` what the call answers. A field of a trait, as `I.left`, is what the device of that kind tells to clauses.
+In a clause `x.now` is what a reference holds, `x.old` and `x.new` what one that may change holds before and after the call, and `result` what the call answers. A field of a trait, as `I.left`, is what the device of that kind tells to clauses. A list at the head of a crate has its types and limits, which stand in its `src`; a crate NAME is the folder `crates/NAME`, and `specs/F.antt` a file there.
 
-The words below are the toolchain's own: those that a public clause of the repository rests on. They mean what its library defines them to be; in the folder of a crate `rt lemma WORD` shows the definition.
+The words below are the toolchain's own: those that the claims rest on. They mean what its library defines them to be; in the folder of a crate `rt lemma WORD` shows the definition.
 """
 CRATES = """
 # The words of each crate
