@@ -99,7 +99,6 @@ GROUPS = (
             "IsErrOf": ("IsErrOf r e", "r is the error e"),
             "IfOk": ("IfOk r P", "where r has a value, P holds of it"),
             "IfErr": ("IfErr r P", "where r has an error, P holds of it"),
-            "MatchResult": ("MatchResult r P Q", "where r has a value, P holds of it; where it has an error, Q holds of that"),
             "OnOk": ("OnOk r A", "where r has a value, the fact A holds"),
             "OnErr": ("OnErr r A", "where r has an error, the fact A holds"),
         },
