@@ -1,7 +1,7 @@
 -- What is known of one move: by its outcome, by a five point that it leaves, or by a search after it.
 use Rattle.std.proofs.Common.{◌≡◌, ◌↔◌, inl, inr, ℕ, zero, suc, unwrap_or, ◌-◌, ◌<◌, ◌≤◌, Bool, true, false}
 use Rattle.std.proofs.Common.{◌&&◌, not, refl, sym, ap, subst, ◌∙◌, arith, List, [], ◌∷◌, Some, Option, IfSome, find}
-use Rattle.std.proofs.Common.{nat_lt, slice_get, lt-ltb}
+use Rattle.std.proofs.Common.{nat_lt, slice_get}
 use Rattle.std.proofs.lemmas.Bool.{cases_lt, le-ltb}
 use Rattle.game_rules.proofs.Common.{Grid, IsPosition, points_of, is_same_point, five, mover, other, outcome, after, goes_on, has_five}
 use Rattle.game_rules.proofs.Common.{five_points, wins_by_fours}
@@ -26,7 +26,7 @@ use Rattle.four_search.specs.declared.answer.FourAnswer.TheVariants.{Win, Spent}
 use Rattle.four_search.specs.Plans.{four_plan}
 use Rattle.four_search.proofs.Costs.{five-cost}
 use Rattle.four_search.proofs.Planning.{plan-leaf}
-use Rattle.defence_finder.proofs.Common.{holds_or, is_spent, IsPlanned, IsSettled}
+use Rattle.defence_finder.proofs.Common.{holds_or, IsPlanned, IsSettled}
 
 module _ (rule : RuleKind) (n budget : ℕ) (b : Grid) (q : Point) where
   module _ (on : outcome rule b q ≡ GoesOn) where
@@ -43,12 +43,6 @@ module _ (rule : RuleKind) (n budget : ℕ) (b : Grid) (q : Point) where
       twice : (r : Bool) → not (not r) ≡ r
       twice true = refl
       twice false = refl
-
-    -- and where it does not
-    pub spent-on : budget < four_cost rule n (after b q) → is_spent rule n budget b q ≡ true
-    spent-on more =
-        ap (λ (o : Outcome). goes_on o && nat_lt budget (four_cost rule n (after b q))) on
-        ∙ lt-ltb budget (four_cost rule n (after b q)) more
 
 -- ---- a five point that is left
 

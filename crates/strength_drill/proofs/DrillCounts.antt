@@ -103,11 +103,6 @@ win-holdable rule b lawful wide high moves found t table =
 
 -- ---- each game is won
 
--- the state of the definition is that of its last step
-begun-is : (h : HeldTable) (rule : RuleKind) (b : Grid)
-    → (brain_step (told_all (new_brain h) (position_lines rule b)) Done).next ≡ state_begun h rule b
-begun-is h rule b = refl
-
 -- after so many turns, none of which found the game ended, the brain has made a move by the table, or the game is over
 AtOrOver : HeldTable → RuleKind → Grid → ℕ → ℕ → Type 0
 AtOrOver h rule b n k =

@@ -189,10 +189,6 @@ module _ (h : HeldTable) (rule : RuleKind) (b : Grid) (n : ℕ) where
     course-one not_won not_on = elim (attacks h rule s turns t.playing)
         [ inl wins ↦ not_won (outcome-at ∙ wins) | inr on ↦ not_on (outcome-at ∙ on) ]
 
-    -- there is room for each turn
-    pub course-room : turns < 113
-    course-room = let few = t.playing.few in omega (arith, few)
-
     -- its move goes on, and the opponent's is drawn
     module _ (on : outcome rule c at ≡ GoesOn) (c1 : Grid) (board : c1 ≡ after c at) (u v : ℕ) (next : u ≡ next_number number)
         (draw : v ≡ drawn u) (q : Point) (point : q ≡ drawn_move c1 v) where

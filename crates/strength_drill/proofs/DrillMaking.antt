@@ -22,9 +22,6 @@ unfolding number_after
 number-next s k = rw add-one refl
 
 module _ (rule : RuleKind) (b : Grid) (p : Point) where
-  by_tests : (few on : Bool) → Grid
-  by_tests few on = cond (few && on) (after b p) b
-
   point-by : (few on : Bool) → nat_lt (all_stones b) MOST_STONES ≡ few → goes_on (outcome rule b p) ≡ on
       → with_point rule b p ≡ cond (few && on) (after b p) b
   unfolding with_point

@@ -1,6 +1,6 @@
 -- How many stones stand around a point, by the bits of its line: each of them sets one of the nine bits around the point's place.
-use Rattle.std.proofs.Common.{◌≡◌, ℕ, zero, suc, ◌+◌, ◌-◌, ◌*◌, ◌/◌, ◌%◌, ◌^◌, ◌≤◌, Bool, true, false}
-use Rattle.std.proofs.Common.{cond, length, refl, sym, ap, subst, ◌∙◌, arith, Option, Some, None, bit_and, count_ones, filter}
+use Rattle.std.proofs.Common.{◌≡◌, ℕ, zero, suc, ◌+◌, ◌-◌, ◌*◌, ◌/◌, ◌%◌, ◌^◌, ◌≤◌, Bool, true}
+use Rattle.std.proofs.Common.{cond, length, refl, sym, ap, subst, ◌∙◌, arith, Option, Some, None, bit_and, count_ones, filter, rules}
 use Rattle.std.specs.Int.{bit_at}
 use Rattle.std.specs.List.{range_with_len}
 use Rattle.std.proofs.Math.Nat.{div-div-eq-div-mul}
@@ -81,8 +81,7 @@ module _ (b : Grid) (s : Side) (d : Axis) (p : Point) (bits : ℕ) (ok : IsBoard
       (r, steps.place, stone_bit b s d (line_of d p) bits ok tells r steps.line mine)
 
   one_at_most : (r : Bool) (m : ℕ) → (r ≡ true → m ≡ 1) → cond r 1 0 ≤ m
-  one_at_most true m h = let e = h refl in omega (arith, e)
-  one_at_most false m h = omega arith
+  one_at_most r m h = search rules
 
   ahead : (k : ℕ) → cond (stone_at b s (towards Ahead d p k)) 1 0 ≤ bit_at (nine bits (place_on d p)) (4 + k)
   ahead k = one_at_most _ _ (λ mine.

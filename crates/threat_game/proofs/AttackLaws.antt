@@ -2,7 +2,7 @@
 -- or by a last move, to which each reply fouls. The moves that have to be tried are enough: where there is a win by threats, one of them
 -- wins.
 use Rattle.std.proofs.Common.{◌≡◌, Bool, true, false, cond, ◌&&◌, ◌||◌, not, refl, sym, ap, ◌∙◌, ℕ, suc, subst, IsTrue, zero, ◌≤◌, arith}
-use Rattle.std.proofs.Common.{List, [], Contains, ◌⊎◌, inl, inr}
+use Rattle.std.proofs.Common.{List, [], Contains, ◌⊎◌, inl, inr, rules}
 use Rattle.std.specs.List.{list_any, list_all}
 use Rattle.std.proofs.Math.Bool.{and-true, and-false}
 use Rattle.game_rules.specs.declared.RuleKind.{RuleKind}
@@ -10,7 +10,7 @@ use Rattle.game_rules.specs.declared.Outcome.{Outcome}
 use Rattle.game_rules.specs.declared.Outcome.TheVariants.{Refused, Wins, Fouls, Draws, GoesOn}
 use Rattle.game_rules.specs.declared.Point.{Point}
 use Rattle.game_rules.proofs.Common.{Grid, is_empty, points_of, five, IsPosition, outcome, mover, other, after, goes_on_with, goes_on}
-use Rattle.game_rules.proofs.Common.{saves, has_five, has_threat, is_double_point, has_fouls, WinsOr, LosesOr, WinsByThreats, loses_or}
+use Rattle.game_rules.proofs.Common.{saves, has_five, has_threat, has_fouls, WinsOr, LosesOr, WinsByThreats, loses_or}
 use Rattle.game_rules.proofs.Common.{is_on}
 use Rattle.game_rules.proofs.Boards.{is_empty-on, and_left, and_right}
 use Rattle.game_rules.proofs.Positions.{GoesOn-empty, GoesOn-on, mover-then}
@@ -32,8 +32,7 @@ use Rattle.threat_game.proofs.Common.{IsAttempt, OthersFail, LosesToThreats, tri
 module _ (rule : RuleKind) (b : Grid) (p : Point) where
   threat-split : is_threat_move rule b p ≡ (is_four_move rule b p || is_three_move rule b p)
   unfolding is_threat_move is_four_move is_three_move
-  threat-split = goes_on-split (outcome rule b p) (has_five rule (after b p) (mover b))
-      (list_any (is_double_point rule (after b p) (mover b)) (points_of (after b p)))
+  threat-split = search (rules, goes_on-split)
 
   pub four-threat : is_four_move rule b p ≡ true → true ≡ is_threat_move rule b p
   four-threat h = sym (threat-split ∙ ap (λ r. r || is_three_move rule b p) h)
@@ -75,27 +74,15 @@ module _ (rule : RuleKind) (c : Grid) where
 
   best-goes_on : best_reply rule c ≡ SomeGoesOn → has_reply rule c ≡ true
   unfolding best_reply
-  best-goes_on h = by_tests (has_reply rule c) (has_saving rule c) h where
-    by_tests : (r s : Bool) → cond r SomeGoesOn (cond s Saves EachFouls) ≡ SomeGoesOn → r ≡ true
-    by_tests true s h = refl
-    by_tests false true h = cc
-    by_tests false false h = cc
+  best-goes_on h = search rules
 
   best-saves : best_reply rule c ≡ Saves → (has_reply rule c ≡ false) × (has_saving rule c ≡ true)
   unfolding best_reply
-  best-saves h = by_tests (has_reply rule c) (has_saving rule c) h where
-    by_tests : (r s : Bool) → cond r SomeGoesOn (cond s Saves EachFouls) ≡ Saves → (r ≡ false) × (s ≡ true)
-    by_tests true s h = cc
-    by_tests false true h = (refl, refl)
-    by_tests false false h = cc
+  best-saves h = search rules
 
   best-fouls : best_reply rule c ≡ EachFouls → (has_reply rule c ≡ false) × (has_saving rule c ≡ false)
   unfolding best_reply
-  best-fouls h = by_tests (has_reply rule c) (has_saving rule c) h where
-    by_tests : (r s : Bool) → cond r SomeGoesOn (cond s Saves EachFouls) ≡ EachFouls → (r ≡ false) × (s ≡ false)
-    by_tests true s h = cc
-    by_tests false true h = cc
-    by_tests false false h = (refl, refl)
+  best-fouls h = search rules
 
   -- where none goes on or saves, each fouls
   pub best-all_foul : best_reply rule c ≡ EachFouls → all_foul rule c ≡ true
@@ -122,20 +109,14 @@ module _ (rule : RuleKind) (b : Grid) (p : Point) where
 
   pub stopped-last : goes_on (outcome rule b p) ≡ false → false ≡ is_last_move rule b p
   unfolding is_last_move is_threat_move
-  stopped-last h = sym (by_outcome (outcome rule b p) (has_threat rule (after b p) (mover b)) (all_foul rule (after b p)) h) where
-    by_outcome : (o : Outcome) (r f : Bool) → goes_on o ≡ false → (goes_on_with o r && f) ≡ false
-    by_outcome GoesOn r f h = cc
-    by_outcome _ r f h = refl
+  stopped-last h = search rules
 
 -- ---- what is to be done with a move
 
 module _ (rule : RuleKind) (b : Grid) (p : Point) where
   pub no_threat-passed : is_threat_move rule b p ≡ false → IsAttempt rule b p Passed
   unfolding is_tried is_settled_move
-  no_threat-passed h = (
-    ap (λ r. r && not (has_five rule (after b p) (other (mover b))) && has_reply rule (after b p)) h,
-    ap (λ r. not r || is_tried rule b p || has_saving rule (after b p)) h,
-  )
+  no_threat-passed h = search rules
 
   -- a five point of the other side saves it
   saved-by-five : IsPosition rule b → is_threat_move rule b p ≡ true → has_five rule (after b p) (other (mover b)) ≡ true
@@ -150,17 +131,13 @@ module _ (rule : RuleKind) (b : Grid) (p : Point) where
       (ap saves (five-outcome rule (after b p) found.0 found.1))
 
   or_last : (a c : Bool) → (a || c || true) ≡ true
-  or_last true c = refl
-  or_last false true = refl
-  or_last false false = refl
+  or_last a c = search rules
 
   or_middle : (a c : Bool) → (a || true || c) ≡ true
-  or_middle true c = refl
-  or_middle false c = refl
+  or_middle a c = search rules
 
   and_never : (a c : Bool) → (a && false && c) ≡ false
-  and_never true c = refl
-  and_never false c = refl
+  and_never a c = search rules
 
   -- a move that leaves the other side a five point need not be tried
   pub unsafe-passed : IsPosition rule b → (is_empty b p ≡ true → has_five rule (after b p) (other (mover b)) ≡ true)
@@ -208,12 +185,7 @@ module _ (rule : RuleKind) (b : Grid) (p : Point) where
   settled-fails : is_settled_move rule b p ≡ true → is_threat_move rule b p ≡ true → is_tried rule b p ≡ false
       → has_saving rule (after b p) ≡ true
   unfolding is_settled_move
-  settled-fails settled threat untried = by_tests (is_threat_move rule b p) (is_tried rule b p) (has_saving rule (after b p)) settled threat
-      untried where
-        by_tests : (r t s : Bool) → (not r || t || s) ≡ true → r ≡ true → t ≡ false → s ≡ true
-        by_tests true false s h e f = h
-        by_tests true true s h e f = cc
-        by_tests false t s h e f = cc
+  settled-fails settled threat untried = search rules
 
 -- where that is so of all points, all moves that need not be tried fail
 pub others-fail : (rule : RuleKind) (b : Grid) → list_all (is_settled_move rule b) (points_of b) ≡ true → OthersFail rule b
@@ -300,9 +272,7 @@ tried-or-saved rule b others p threat = by_test (is_tried rule b p) refl where
 
 -- where a reply wins or fills the board the attacker does not win whatever the reply
 pub saving-saves : (rule : RuleKind) (n : ℕ) (c : Grid) → has_saving rule c ≡ true → LosesToThreats rule n c → ⊥
-saving-saves rule n c some loses =
-    let saving = any_witness (λ q. saves (outcome rule c q)) (points_of c) some in
-    saved (outcome rule c saving.0) (WinsByThreats rule n (after c saving.0)) saving.1 (loses saving.0)
+saving-saves rule n c some loses = search (rules, any_witness, saved)
 
 pub tried-enough : (rule : RuleKind) (n : ℕ) (b : Grid) → has_five rule b (mover b) ≡ false → OthersFail rule b
     → WinsByThreats rule (suc n) b → (p : Point) × Contains (tried_moves rule b) p × LosesToThreats rule n (after b p)
@@ -339,5 +309,4 @@ none-tried rule (suc n) b none others empty some win =
 
 -- where a reply leaves no win the attacker does not win whatever the reply
 pub escape-saves : (rule : RuleKind) (n : ℕ) (c : Grid) → HasEscape rule n c → LosesToThreats rule n c → ⊥
-escape-saves rule n c escape loses = escape.no_win
-    (subst (λ (o : Outcome). LosesOr o (WinsByThreats rule n (after c escape.reply))) escape.on (loses escape.reply))
+escape-saves rule n c escape loses = search rules

@@ -3,7 +3,7 @@
 -- and its node a win by threats. Where no point makes two five points, a stone makes double points only on the lines through it: in the
 -- runs of any other point it plays no part.
 use Rattle.std.proofs.Common.{◌≡◌, ℕ, ◌≤◌, Bool, true, false, cond, ◌&&◌, sym, ap, ◌∙◌, arith, List, [], ◌∷◌, length, get_or, ◌+◌, not}
-use Rattle.std.proofs.Common.{refl}
+use Rattle.std.proofs.Common.{refl, rules}
 use Rattle.std.specs.List.{list_any, list_all, filter, AllByRecursion}
 use Rattle.game_rules.specs.declared.RuleKind.{RuleKind}
 use Rattle.game_rules.specs.declared.Side.{Side}
@@ -24,8 +24,6 @@ use Rattle.game_rules.proofs.Games.{WinsUnder-more, WinsByFours-WinsByThreats, t
 use Rattle.game_rules.proofs.PointLists.{still-found, any-filter, other_first}
 use Rattle.game_rules.proofs.Outcomes.{five-outcome, goes_on-is, never-goes_on, always-goes_on}
 use Rattle.row_shapes.specs.FivePoints.{in_short}
-use Rattle.row_shapes.specs.declared.fives.FivePoints.{FivePoints}
-use Rattle.row_shapes.specs.declared.fives.FivePoints.TheVariants.{None as NoPoint, One, Several}
 use Rattle.row_shapes.proofs.FiveLaws.{has_five-none, has_five-one, has_five-several}
 use Rattle.strategy_compiler.proofs.Common.{IsDoubleThreat, double_nodes}
 use Rattle.threat_moves.specs.declared.block.BlockAnswer.TheVariants.{Lost, Won}
@@ -34,7 +32,7 @@ use Rattle.threat_moves.proofs.BlockLaw.{block_decides}
 use Rattle.threat_moves.proofs.FourLaws.{two-won}
 use Rattle.threat_game.specs.declared.doubles.DoublePoint.{DoublePoint}
 use Rattle.threat_game.proofs.TreeLaws.{double-five, still-safe}
-use Rattle.threat_game.proofs.Common.{LeavesBoth, IsDoubleWin, answer_nodes, one_if, replies_at, is_threat_move, is_some_point}
+use Rattle.threat_game.proofs.Common.{LeavesBoth, IsDoubleWin, answer_nodes, replies_at, is_threat_move, is_some_point}
 use Rattle.threat_game.proofs.ReplyLaws.{beside-five}
 
 -- ---- the first two of the five points that a stone leaves
@@ -110,11 +108,7 @@ module _ (rule : RuleKind) (b : Grid) (d : DoublePoint) (lawful : IsPosition rul
 -- the nodes that answer the replies, and its own
 pub nodes-are : (rule : RuleKind) (b : Grid) (d : DoublePoint)
     → double_nodes d.first (replies_at rule (after b d.at)) ≡ 1 + answer_nodes rule b d
-nodes-are rule b d =
-    let g : Point → Bool = λ q. goes_on (outcome rule (after b d.at) q) in
-    let first = ap one_if (any-filter g (λ q. is_same_point q d.first) (points_of (after b d.at))) in
-    let beside = ap one_if (any-filter g (λ q. not (is_same_point q d.first)) (points_of (after b d.at))) in
-    omega (arith, first, beside)
+nodes-are rule b d = search (rules, any-filter)
 
 module _ (rule : RuleKind) (b : Grid) (d : DoublePoint) (lawful : IsPosition rule b) (wins : IsDoubleWin rule b d) where
   lawful_c : IsPosition rule (after b d.at)
@@ -177,11 +171,7 @@ module _ (rule : RuleKind) (b : Grid) (d : DoublePoint) (lawful : IsPosition rul
 -- ---- five points in short, and threats
 
 pub some-five : (rule : RuleKind) (b : Grid) (s : Side) → is_some_point (in_short (five_points rule b s)) ≡ has_five rule b s
-some-five rule b s = by_told (in_short (five_points rule b s)) refl where
-  by_told : (t : FivePoints) → in_short (five_points rule b s) ≡ t → is_some_point (in_short (five_points rule b s)) ≡ has_five rule b s
-  by_told NoPoint e = ap is_some_point e ∙ sym (has_five-none rule b s e)
-  by_told (One w) e = ap is_some_point e ∙ sym (has_five-one rule b s w e)
-  by_told Several e = ap is_some_point e ∙ sym (has_five-several rule b s e)
+some-five rule b s = search (rules, has_five-none, has_five-one, has_five-several)
 
 -- ---- moves of the game of threats
 

@@ -1,6 +1,6 @@
 -- The double points that are kept before the replies are the first ones, and what a reply stops of them.
 use Rattle.std.proofs.Common.{◌≡◌, true, false, cond, Bool, ℕ, ◌<◌, ◌≤◌, refl, sym, ap, subst, ◌∙◌, arith, List, []}
-use Rattle.std.proofs.Common.{◌∷◌, ◌++◌, map, length, get_or, take, All, Contains, append_assoc, length-append, append-nil}
+use Rattle.std.proofs.Common.{◌∷◌, ◌++◌, map, length, get_or, take, All, Contains, append_assoc, length-append, append-nil, rules}
 use Rattle.std.proofs.Common.{filter}
 use Rattle.std.proofs.lemmas.List.{get_or-map, length-map, map-append, take-append-le, take_all}
 use Rattle.std.proofs.lemmas.List.Elements.{All-push}
@@ -25,12 +25,7 @@ pub record FirstSoFar (rule : RuleKind) (b : Grid) (s : Side) (found : List Kept
 
 -- a double point is its point and its two five points
 one-double : (d e : DoublePoint) → d.at ≡ e.at → d.first ∷ d.second ∷ [] ≡ e.first ∷ e.second ∷ [] → d ≡ e
-one-double d e at fives =
-    let first : d.first ≡ e.first = ap (λ (ps : List Point). get_or ps 0 d.at) fives in
-    let second : d.second ≡ e.second = ap (λ (ps : List Point). get_or ps 1 d.at) fives in
-    let own : DoublePoint → Point → Point → Point → DoublePoint = λ x p q r. record { at = p; first = q; second = r } in
-    ap (λ (p : Point). own d p d.first d.second) at ∙ ap (λ (p : Point). own d e.at p d.second) first
-    ∙ ap (λ (p : Point). own d e.at e.first p) second
+one-double d e at fives = search rules
 
 module _ (rule : RuleKind) (b : Grid) (s : Side) where
   abbrev at : Kept → Point
@@ -39,20 +34,9 @@ module _ (rule : RuleKind) (b : Grid) (s : Side) where
   abbrev test : Point → Bool
   test = is_double_point rule b s
 
-  pub first-none : FirstSoFar rule b s [] (points_of b)
-  first-none = record { few = omega arith; each = λ k d low. absurd (omega (arith, low)); points = refl }
-
   module _ (found : List Kept) (p : Point) (rest left : List Point) (next : left ≡ p ∷ rest) (so_far : FirstSoFar rule b s found left) where
     old : FirstSoFar rule b s found (p ∷ rest)
     old = subst (λ (ps : List Point). FirstSoFar rule b s found ps) next so_far
-
-    -- the next point is no double point
-    pub first-passed : test p ≡ false → FirstSoFar rule b s found rest
-    first-passed none = record {
-      few = old.few;
-      each = old.each;
-      points = ap (λ r. take MOST_KEPT (map at found ++ cond r (p ∷ filter test rest) (filter test rest))) (sym none) ∙ old.points;
-    }
 
     -- it is one, and is kept
     pub first-more : (kept : Kept) → IsKeptAt rule b s p kept → length found < MOST_KEPT → (more : List Kept) → more ≡ found ++ kept ∷ []
@@ -73,13 +57,7 @@ module _ (rule : RuleKind) (b : Grid) (s : Side) where
   -- enough are kept
   pub first-enough : (found : List Kept) (left : List Point) → FirstSoFar rule b s found left → MOST_KEPT ≤ length found
       → FirstSoFar rule b s found []
-  first-enough found left so_far many = record {
-    few = so_far.few;
-    each = so_far.each;
-    points = front [] ∙ sym (front (filter test left)) ∙ so_far.points;
-  } where
-    front : (qs : List Point) → take MOST_KEPT (map at found ++ qs) ≡ take MOST_KEPT (map at found)
-    front qs = let long = length-map found at in take-append-le MOST_KEPT (map at found) qs (omega (arith, long, many))
+  first-enough found left so_far many = search (rules, length-map, take-append-le)
 
   -- no point is left
   pub first-all : (found : List Kept) → FirstSoFar rule b s found [] → AreKept rule b s found

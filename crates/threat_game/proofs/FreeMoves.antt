@@ -1,15 +1,15 @@
 -- Where an escape meets each move that has to be tried, there is no win by threats. Where each move on an empty point goes on, and what
 -- that tells of the replies.
-use Rattle.std.proofs.Common.{◌≡◌, ℕ, suc, Bool, false, subst, List, IfOk, IsTrue, Result, Ok, Err, All, ◌≤◌, true, ◌&&◌, not, refl, sym}
-use Rattle.std.proofs.Common.{ap, ◌∙◌, arith, nat_eq, Option, None}
+use Rattle.std.proofs.Common.{◌≡◌, ℕ, suc, Bool, false, subst, List, IfOk, IsTrue, Result, Ok, Err, All, ◌≤◌, true, ◌&&◌, not}
+use Rattle.std.proofs.Common.{ap, ◌∙◌, arith, nat_eq, Option, None, rules}
 use Rattle.std.proofs.lemmas.List.Elements.{All-contains, All-from_get_or}
 use Rattle.std.proofs.lemmas.Bool.Decides.{nat_tests}
 use Rattle.game_rules.specs.declared.RuleKind.{RuleKind}
 use Rattle.game_rules.specs.declared.Outcome.TheVariants.{GoesOn}
 use Rattle.game_rules.specs.declared.Point.{Point}
 use Rattle.game_rules.specs.declared.Foul.{Foul}
-use Rattle.game_rules.proofs.Common.{Grid, outcome, mover, after, WinsByThreats, has_five, is_empty, empties_of, points_of, five}
-use Rattle.game_rules.proofs.Common.{is_same_point, IsPosition, outcome_by, has_fouls, foul_of, goes_on}
+use Rattle.game_rules.proofs.Common.{Grid, outcome, mover, after, WinsByThreats, has_five, is_empty, empties_of, five}
+use Rattle.game_rules.proofs.Common.{IsPosition, outcome_by, has_fouls, foul_of, goes_on}
 use Rattle.game_rules.proofs.Boards.{and_left, and_right}
 use Rattle.game_rules.proofs.Positions.{GoesOn-on, mover-then}
 use Rattle.game_rules.proofs.Points.{points-found, any_witness, taken_refused, is_same_point-itself, is_same_point-same}
@@ -61,38 +61,19 @@ each-goes_on rule b none calm many = record {
 
 -- then whether a move goes on is whether its point is empty
 pub free-tells : (rule : RuleKind) (b : Grid) → EachGoesOn rule b → (q : Point) → is_empty b q ≡ goes_on (outcome rule b q)
-free-tells rule b each q = by_test (is_empty b q) refl where
-  by_test : (r : Bool) → is_empty b q ≡ r → is_empty b q ≡ goes_on (outcome rule b q)
-  by_test true e = e ∙ sym (ap goes_on (each.on q e))
-  by_test false e = e ∙ sym (ap goes_on (taken_refused rule b q e))
+free-tells rule b each q = search (rules, taken_refused)
 
 -- a test and no other
 pub other-same : (a r : Bool) → r ≡ true → false ≡ (a && not r)
-other-same true r h = ap (λ t. not t) (sym h)
-other-same false r h = refl
+other-same a r h = search rules
 
 pub other-apart : (a r : Bool) → r ≡ false → a ≡ (a && not r)
-other-apart true r h = ap (λ t. not t) (sym h)
-other-apart false r h = refl
+other-apart a r h = search rules
 
 -- the reply on a point goes on exactly where one on it does
 pub reply-at : (rule : RuleKind) (c : Grid) (w : Point) → goes_on (outcome rule c w) ≡ has_reply_at rule c w
-reply-at rule c w = by_test (goes_on (outcome rule c w)) refl where
-  others : (q : Point) → (goes_on (outcome rule c q) && is_same_point q w) ≡ true → goes_on (outcome rule c w) ≡ true
-  others q h = cc (is_same_point-same q w (and_right (goes_on (outcome rule c q)) _ h), and_left (goes_on (outcome rule c q)) _ h)
-
-  by_some : (s : Bool) → has_reply_at rule c w ≡ s → goes_on (outcome rule c w) ≡ false → false ≡ has_reply_at rule c w
-  by_some false k e = sym k
-  by_some true k e =
-      let found = any_witness (λ q. goes_on (outcome rule c q) && is_same_point q w) (points_of c) k in
-      let bad : false ≡ true = sym e ∙ others found.0 found.1 in cc
-
-  by_test : (r : Bool) → goes_on (outcome rule c w) ≡ r → goes_on (outcome rule c w) ≡ has_reply_at rule c w
-  by_test true e =
-      e ∙ sym (points-found c (λ q. goes_on (outcome rule c q) && is_same_point q w) w
-      (GoesOn-on rule c w (goes_on-is (outcome rule c w) e))
-      (ap (λ r. r && is_same_point w w) e ∙ is_same_point-itself w))
-  by_test false e = e ∙ by_some (has_reply_at rule c w) refl e
+reply-at rule c w =
+    search (rules, is_same_point-same, and_right, and_left, any_witness, points-found, GoesOn-on, goes_on-is, is_same_point-itself)
 
 -- after a double point that wins the other side has no five point
 pub double-safe : (rule : RuleKind) (b : Grid) (d : DoublePoint) → IsPosition rule b → IsDoubleWin rule b d

@@ -1,6 +1,6 @@
 -- One reply stands for others: what is kept of all that is judged, and the win that is compiled for the one.
-use Rattle.std.proofs.Common.{◌≡◌, ℕ, ◌≤◌, ◌<◌, Bool, true, false, cond, ◌&&◌, ◌||◌, not, refl, sym, ap, subst, ◌∙◌, arith, List, []}
-use Rattle.std.proofs.Common.{◌∷◌, map, length, All, Option, Some, None, IfSome, nat_eq}
+use Rattle.std.proofs.Common.{◌≡◌, ℕ, ◌≤◌, ◌<◌, Bool, true, false, ◌&&◌, ◌||◌, not, refl, sym, ap, subst, ◌∙◌, arith, List, []}
+use Rattle.std.proofs.Common.{◌∷◌, map, length, All, Option, Some, None, IfSome, nat_eq, rules}
 use Rattle.std.specs.List.{find, filter, list_any, sum_by, AllByRecursion}
 use Rattle.std.proofs.lemmas.Bool.{and_parts, eqb-true}
 use Rattle.std.proofs.lemmas.List.Elements.{All-filter, All-from_recursion, recursion_from_All}
@@ -28,19 +28,10 @@ pub double-itself : (d : DoublePoint) → is_same_double d d ≡ true
 double-itself d = rw (is_same_point-itself d.at, is_same_point-itself d.first, is_same_point-itself d.second) refl
 
 pub stands-itself : (judged : Judged) → is_standing judged ≡ true → stands_for judged judged ≡ true
-stands-itself (Five w) h = is_same_point-itself w
-stands-itself (DoubleWins d nodes) h = rw (h, double-itself d) refl
-stands-itself (Last p) h = cc
-stands-itself Open h = cc
+stands-itself judged h = search (rules, is_same_point-itself, double-itself)
 
 pub stands-standing : (first judged : Judged) → stands_for first judged ≡ true → is_standing first ≡ true
-stands-standing (Five w) judged h = refl
-stands-standing (DoubleWins d nodes) (DoubleWins e more) h = (and_parts (nat_eq nodes 2) (is_same_double d e) h).0
-stands-standing (DoubleWins d nodes) (Five v) h = cc
-stands-standing (DoubleWins d nodes) (Last p) h = cc
-stands-standing (DoubleWins d nodes) Open h = cc
-stands-standing (Last p) judged h = cc
-stands-standing Open judged h = cc
+stands-standing first judged h = search (rules, and_parts)
 
 -- ---- sums over what is kept
 
@@ -50,23 +41,7 @@ stands child = is_standing child.judged
 first-within : (f : Child → ℕ) (s : Child) (xs : List Child) → find stands xs ≡ Some s
     → f s ≤ sum_by f (filter (λ x. stands_for s.judged x.judged) xs)
 first-within f s [] e = cc
-first-within f s (x ∷ xs) e = by_test (stands x) refl e (first-within f s xs) where
-  met : Child → Bool
-  met y = stands_for s.judged y.judged
-
-  by_met : (r : Bool) → met x ≡ r → f s ≤ sum_by f (filter met xs) → f s ≤ sum_by f (cond r (x ∷ filter met xs) (filter met xs))
-  by_met true h low = omega (arith, low, sum_by-cons f x (filter met xs))
-  by_met false h low = low
-
-  by_test : (r : Bool) → stands x ≡ r → cond r (Some x) (find stands xs) ≡ Some s
-      → (find stands xs ≡ Some s → f s ≤ sum_by f (filter met xs))
-      → f s ≤ sum_by f (cond (met x) (x ∷ filter met xs) (filter met xs))
-  by_test true h found later =
-      let same : x ≡ s = cc in
-      let own : met x ≡ true = subst (λ (y : Child). stands_for y.judged x.judged ≡ true) same (stands-itself x.judged h) in
-      let here : f x ≡ f s = ap f same in
-      rw own (omega (arith, here, sum_by-cons f x (filter met xs)))
-  by_test false h found later = by_met (met x) refl (later found)
+first-within f s (x ∷ xs) e = search (rules, sum_by-cons, stands-itself, first-within f s xs)
 
 -- no more than over all
 pub kept-sum : (f : Child → ℕ) (xs : List Child) → sum_by f (kept_children xs) ≤ sum_by f xs
@@ -86,10 +61,7 @@ kept-sum f xs = by_first (find stands xs) refl where
 
 found-all : (P : Child → Type 0) (s : Child) (xs : List Child) → AllByRecursion P xs → find stands xs ≡ Some s → P s
 found-all P s [] all e = cc
-found-all P s (x ∷ xs) all e = by_test (stands x) e (found-all P s xs all.1) where
-  by_test : (r : Bool) → cond r (Some x) (find stands xs) ≡ Some s → (find stands xs ≡ Some s → P s) → P s
-  by_test true found later = let same : x ≡ s = cc in subst P same all.0
-  by_test false found later = later found
+found-all P s (x ∷ xs) all e = search (rules, found-all P s xs all.1)
 
 pub kept-each : (P : Child → Type 0) (xs : List Child) → All P xs → All P (kept_children xs)
 kept-each P xs all = by_first (find stands xs) refl where
@@ -132,21 +104,7 @@ filtered-out : (P : Child → Type 0) (q : Point) (r : Child → Bool) (xs : Lis
     → list_any (is_same_point q) (map (λ child. child.at) xs) ≡ true
     → list_any (is_same_point q) (map (λ child. child.at) (filter r xs)) ≡ false → (x : Child) × (x.at ≡ q) × P x × (r x ≡ false)
 filtered-out P q r [] all found none = cc
-filtered-out P q r (x ∷ xs) all found none = by_test (is_same_point q x.at) refl (r x) refl found none (filtered-out P q r xs all.1) where
-  by_test : (s : Bool) → is_same_point q x.at ≡ s → (k : Bool) → r x ≡ k
-      → (s || list_any (is_same_point q) (map (λ child. child.at) xs)) ≡ true
-      → list_any (is_same_point q) (map (λ child. child.at) (cond k (x ∷ filter r xs) (filter r xs))) ≡ false
-      → (list_any (is_same_point q) (map (λ child. child.at) xs) ≡ true
-      → list_any (is_same_point q) (map (λ child. child.at) (filter r xs)) ≡ false
-      → (y : Child) × (y.at ≡ q) × P y × (r y ≡ false))
-      → (y : Child) × (y.at ≡ q) × P y × (r y ≡ false)
-  by_test true same true kept found none later =
-      let bad : (true || list_any (is_same_point q) (map (λ child. child.at) (filter r xs))) ≡ false =
-      ap (λ b. b || list_any (is_same_point q) (map (λ child. child.at) (filter r xs))) (sym same) ∙ none in cc
-  by_test true same false out found none later = (x, sym (is_same_point-same q x.at same), all.0, out)
-  by_test false apart true kept found none later =
-      later found (ap (λ b. b || list_any (is_same_point q) (map (λ child. child.at) (filter r xs))) (sym apart) ∙ none)
-  by_test false apart false out found none later = later found none
+filtered-out P q r (x ∷ xs) all found none = search (rules, is_same_point-same, filtered-out P q r xs all.1)
 
 pub kept-covers : (rule : RuleKind) (moves : ℕ) (c : Grid) (judged : List Child) → AreJudged rule moves c judged → (q : Point)
     → outcome rule c q ≡ GoesOn
@@ -197,13 +155,7 @@ five-stands rule b w (Last p) h is = cc
 five-stands rule b w Open h is = cc
 
 double-same : (d e : DoublePoint) → is_same_double d e ≡ true → e ≡ d
-double-same d e h =
-    let parts = and_parts (is_same_point d.at e.at && is_same_point d.first e.first) (is_same_point d.second e.second) h in
-    let more = and_parts (is_same_point d.at e.at) (is_same_point d.first e.first) parts.0 in
-    let at : e.at ≡ d.at = sym (is_same_point-same d.at e.at more.0) in
-    let first : e.first ≡ d.first = sym (is_same_point-same d.first e.first more.1) in
-    let second : e.second ≡ d.second = sym (is_same_point-same d.second e.second parts.1) in
-    λ i. record { at = at i; first = first i; second = second i }
+double-same d e h = search (rules, and_parts, is_same_point-same)
 
 -- and the double point wins here
 pub double-stands : (rule : RuleKind) (b : Grid) (d : DoublePoint) (nodes : ℕ) (judged : Judged)

@@ -1,14 +1,13 @@
 -- Double points that are kept to settle replies by: each stays what it is after a stone of the other side beside it. The replies to a
 -- double point that wins.
-use Rattle.std.proofs.Common.{◌≡◌, ◌≤◌, true, false, ◌&&◌, not, refl, sym, ap, ◌∙◌, arith, List, All, Option, Some}
-use Rattle.std.proofs.Common.{None, is_none, nat_eq}
+use Rattle.std.proofs.Common.{◌≡◌, ◌≤◌, true, false, ◌&&◌, not, refl, sym, ap, ◌∙◌, arith, List, All}
+use Rattle.std.proofs.Common.{None, rules}
 use Rattle.std.proofs.lemmas.Bool.{not-true}
 use Rattle.game_rules.specs.declared.RuleKind.{RuleKind}
 use Rattle.game_rules.specs.declared.Side.{Side}
-use Rattle.game_rules.specs.declared.Foul.{Foul}
 use Rattle.game_rules.specs.declared.Outcome.TheVariants.{GoesOn}
 use Rattle.game_rules.specs.declared.Point.{Point}
-use Rattle.game_rules.proofs.Common.{Grid, IsPosition, is_empty, put, outcome, outcome_by, mover, other, after, five, foul_of, empties_of}
+use Rattle.game_rules.proofs.Common.{Grid, IsPosition, is_empty, put, outcome, mover, other, after, five, foul_of, empties_of}
 use Rattle.game_rules.proofs.Common.{has_five, has_fouls, is_same_point, is_double_point, goes_on}
 use Rattle.game_rules.proofs.Boards.{and_left, and_right, empties_of-put, is_empty-on, other-other}
 use Rattle.game_rules.proofs.Fives.{five-empty}
@@ -26,11 +25,7 @@ use Rattle.threat_game.proofs.ReplyLaws.{both-kept}
 -- a double point is no foul
 double-none : (rule : RuleKind) (b : Grid) (s : Side) (p : Point) → is_double_point rule b s p ≡ true → foul_of rule b s p ≡ None
 unfolding is_double_point
-double-none rule b s p double = none_of (foul_of rule b s p)
-    (and_right (is_empty b p && not (five rule b s p)) _ (and_left _ _ double)) where
-      none_of : (o : Option Foul) → is_none o ≡ true → o ≡ None
-      none_of None h = refl
-      none_of (Some f) h = cc
+double-none rule b s p double = search (rules, and_right, and_left)
 
 -- and where the point stays free it stays none
 pub double-free : (rule : RuleKind) (b : Grid) (s : Side) (p : Point) → is_double_point rule b s p ≡ true → StaysFree rule b s p
@@ -58,11 +53,7 @@ module _ (rule : RuleKind) (c : Grid) (q : Point) (lawful : IsPosition rule c) (
 pub still-goes_on : (rule : RuleKind) (b : Grid) (p : Point) → is_empty b p ≡ true → has_five rule b (mover b) ≡ false
     → foul_of rule b (mover b) p ≡ None → 2 ≤ empties_of b → outcome rule b p ≡ GoesOn
 unfolding outcome
-still-goes_on rule b p empty none free many =
-    ap (λ e. outcome_by e (five rule b (mover b) p) (foul_of rule b (mover b) p) (nat_eq (empties_of b) 1)) empty
-    ∙ ap (λ f. outcome_by true f (foul_of rule b (mover b) p) (nat_eq (empties_of b) 1)) (no_five rule b (mover b) p none)
-    ∙ ap (λ (o : Option Foul). outcome_by true false o (nat_eq (empties_of b) 1)) free
-    ∙ ap (λ l. outcome_by true false None l) (not_one (empties_of b) many)
+still-goes_on rule b p empty none free many = search (rules, no_five, not_one)
 
 -- where the other side has no fouls and enough points are empty, both replies to a double point that wins are there
 pub both-replies : (rule : RuleKind) (b : Grid) (d : DoublePoint) → IsPosition rule b → IsDoubleWin rule b d

@@ -3,13 +3,13 @@
 -- five point, so at least two more are.
 use Rattle.std.proofs.Common.{◌≡◌, ◌≢◌, ◌⊎◌, inl, inr, ℕ, zero, suc, ◌+◌, ◌-◌, ◌≤◌, ◌<◌, Bool, true}
 use Rattle.std.proofs.Common.{false, cond, ◌&&◌, ◌||◌, not, length, List, [], ◌∷◌, refl, sym, ap, subst, ◌∙◌, arith}
-use Rattle.std.proofs.Common.{nat_le, Option, Some, None, unwrap_or, filter, find}
+use Rattle.std.proofs.Common.{nat_le, Option, Some, None, unwrap_or, filter, find, rules}
 use Rattle.std.specs.List.{list_any, range_with_len}
 use Rattle.std.proofs.lemmas.Bool.{cases_lt, false_from_ne_true, both_ways, not-true}
 use Rattle.std.proofs.lemmas.Bool.Decides.{nat_tests}
 use Rattle.std.proofs.lemmas.List.Sums.{length-filter, sum_by-le-sum_by}
 use Rattle.game_rules.proofs.Common.{Grid, IsBoard, is_on, is_empty, put, along, points_of, holds, same_line, stone_at, wins_on, five}
-use Rattle.game_rules.proofs.Common.{is_same_point, go, towards, opposite, stones_towards, run_end, has_five, five_points, has_threat}
+use Rattle.game_rules.proofs.Common.{go, towards, opposite, stones_towards, run_end, has_five, five_points, has_threat}
 use Rattle.game_rules.proofs.Common.{is_double_point}
 use Rattle.game_rules.specs.declared.RuleKind.{RuleKind}
 use Rattle.game_rules.specs.declared.Side.{Side}
@@ -38,7 +38,7 @@ use Rattle.game_rules.proofs.Ways.{run_before_end}
 use Rattle.game_rules.proofs.Wins.{wins_on-ways, no_win, row_wins-five}
 use Rattle.row_shapes.specs.FivePoints.{in_short, is_several}
 use Rattle.row_shapes.specs.FiveEnds.{end_five, with_more}
-use Rattle.row_shapes.specs.declared.fives.FivePoints.TheVariants.{None as NoPoint, One, Several}
+use Rattle.row_shapes.specs.declared.fives.FivePoints.TheVariants.{None as NoPoint}
 use Rattle.row_shapes.proofs.NewFives.{end_wins}
 use Rattle.row_shapes.proofs.FiveLaws.{none-short}
 use Rattle.threat_moves.proofs.Common.{has_double_point}
@@ -58,43 +58,17 @@ among f = length (filter f (range_with_len 1 4))
 among-ones : (f : ℕ → Bool) → among f ≡ 0 + one (f 1) + one (f 2) + one (f 3) + one (f 4)
 among-ones f = length-filter f (range_with_len 1 4)
 
-once : (r : Bool) → one r ≤ 1
-once true = omega arith
-once false = omega arith
-
 same_one : (f g : ℕ → Bool) (k : ℕ) → f k ≡ g k → one (f k) ≡ one (g k)
 same_one f g k e = ap one e
 
 module _ (f g : ℕ → Bool) where
   -- two that are the same of them hold of as many
   among-same : ((k : ℕ) → 1 ≤ k → k ≤ 4 → f k ≡ g k) → among f ≡ among g
-  among-same h =
-      let a = among-ones f in
-      let b = among-ones g in
-      let c1 = same_one f g 1 (h 1 (omega arith) (omega arith)) in
-      let c2 = same_one f g 2 (h 2 (omega arith) (omega arith)) in
-      let c3 = same_one f g 3 (h 3 (omega arith) (omega arith)) in
-      let c4 = same_one f g 4 (h 4 (omega arith) (omega arith)) in
-      omega (arith, a, b, c1, c2, c3, c4)
+  among-same h = search (rules, among-ones, same_one)
 
   -- and two that are so but at one number, of as many but for one
   among-more : (t : ℕ) → ((k : ℕ) → 1 ≤ k → k ≢ t → f k ≡ g k) → among f ≤ among g + 1
-  among-more t h =
-      let a = among-ones f in
-      let b = among-ones g in
-      let c1 = part 1 (omega arith) in
-      let c2 = part 2 (omega arith) in
-      let c3 = part 3 (omega arith) in
-      let c4 = part 4 (omega arith) in
-      sums (one (f 1)) (one (f 2)) (one (f 3)) (one (f 4)) (one (g 1)) (one (g 2)) (one (g 3)) (one (g 4))
-      (once (f 1)) (once (f 2)) (once (f 3)) (once (f 4)) c1 c2 c3 c4 (among f) (among g) a b where
-        part : (k : ℕ) → 1 ≤ k → k ≢ t → one (f k) ≡ one (g k)
-        part k low other = same_one f g k (h k low other)
-
-        sums : (a b c d u v w x : ℕ) → a ≤ 1 → b ≤ 1 → c ≤ 1 → d ≤ 1
-            → (1 ≢ t → a ≡ u) → (2 ≢ t → b ≡ v) → (3 ≢ t → c ≡ w) → (4 ≢ t → d ≡ x)
-            → (m n : ℕ) → m ≡ 0 + a + b + c + d → n ≡ 0 + u + v + w + x → m ≤ n + 1
-        sums a b c d u v w x la lb lc ld ea eb ec ed m n em en = grind arith
+  among-more t h = search (rules, among-ones, same_one)
 
 -- ---- a run through a point that has three more stones and one empty point
 
@@ -114,25 +88,7 @@ module _ (y z : ℕ → Bool) (n b m : ℕ) (three : 3 ≤ n + b + m) (near : (j
       (ap y (let e : 1 + n + (k - (1 + n)) ≡ k = omega arith in sym e) ∙ past (k - (1 + n)) (omega arith) (omega arith))
 
   at_least : 3 ≤ among y + among z
-  at_least =
-      let a = among-ones y in
-      let e = among-ones z in
-      let n1 = near_at 1 (omega arith) in
-      let n2 = near_at 2 (omega arith) in
-      let n3 = near_at 3 (omega arith) in
-      let b1 = back_at 1 (omega arith) in
-      let b2 = back_at 2 (omega arith) in
-      let b3 = back_at 3 (omega arith) in
-      let p2 = past_at 2 in
-      let p3 = past_at 3 in
-      let p4 = past_at 4 in
-      sums (one (y 1)) (one (y 2)) (one (y 3)) (one (y 4)) (one (z 1)) (one (z 2)) (one (z 3)) (one (z 4))
-      n1 n2 n3 b1 b2 b3 p2 p3 p4 (among y) (among z) a e where
-        sums : (a c d e u v w x : ℕ) → (1 ≤ n → a ≡ 1) → (2 ≤ n → c ≡ 1) → (3 ≤ n → d ≡ 1)
-            → (1 ≤ b → u ≡ 1) → (2 ≤ b → v ≡ 1) → (3 ≤ b → w ≡ 1)
-            → (2 + n ≤ 2 → 2 ≤ 1 + n + m → c ≡ 1) → (2 + n ≤ 3 → 3 ≤ 1 + n + m → d ≡ 1) → (2 + n ≤ 4 → 4 ≤ 1 + n + m → e ≡ 1)
-            → (s t : ℕ) → s ≡ 0 + a + c + d + e → t ≡ 0 + u + v + w + x → 3 ≤ s + t
-        sums a c d e u v w x n1 n2 n3 b1 b2 b3 p2 p3 p4 s t es et = grind arith
+  at_least = search (rules, among-ones, near_at, back_at, past_at)
 
 -- ---- a stone that makes a five point
 
@@ -181,8 +137,7 @@ module _ (rule : RuleKind) (b : Grid) (s : Side) (p w : Point) (d : Axis) (ok : 
 -- stones on both sides of a point, whichever way is first
 around : (b : Grid) (s : Side) (d : Axis) (p : Point) (v : Way) (n : ℕ)
     → n ≤ among (λ k. stone_at b s (go v d p k 0)) + among (λ k. stone_at b s (go v d p 0 k)) → n ≤ stones_around b s d p
-around b s d p Ahead n h = h
-around b s d p Behind n h = omega (arith, h)
+around b s d p v n h = search rules
 
 -- a stone that makes a five point, where its side has none, has three others within four steps on some axis
 pub crowded : (rule : RuleKind) (b : Grid) (s : Side) (p : Point) → IsBoard b → is_empty b p ≡ true → has_five rule b s ≡ false
@@ -212,14 +167,7 @@ steps_to Down p q h = (q.x, p.x, OnLine-along Down p q.x p.x q (omega arith, gri
 steps_to Up p q h = (q.x, p.x, OnLine-along Up p q.x p.x q (omega arith, grind (arith, nat_tests)))
 
 steps_bounded : (v : Way) (d : Axis) (p q : Point) (k : ℕ) → IsNear p → IsNear q → go v d p k 0 ≡ Some q → k ≤ 31
-steps_bounded Ahead d p q k near close at =
-    let there = (along-places d p q k 0 near close at).place in
-    let low = place_low d q close in
-    omega (arith, there, low)
-steps_bounded Behind d p q k near close at =
-    let there = (along-places d p q 0 k near close at).place in
-    let low = place_low d p near in
-    omega (arith, there, low)
+steps_bounded v d p q k near close at = search (rules, along-places, place_low)
 
 steps_by : (v : Way) (d : Axis) (p q : Point) → same_line d p q ≡ true → (x : ℕ) × (y : ℕ) × (go v d p x y ≡ Some q)
 steps_by Ahead d p q h = steps_to d p q h
@@ -227,14 +175,7 @@ steps_by Behind d p q h = let s = steps_to d p q h in (s.1, s.0, s.2)
 
 -- one of two ends that is kept is a five point
 some_made : (o e : Option Point) (w : Point) → (o ≡ Some w) ⊎ (e ≡ Some w) → is_some_point (with_more (with_more NoPoint o) e) ≡ true
-some_made None None w (inl h) = cc
-some_made None None w (inr h) = cc
-some_made None (Some q) w h = refl
-some_made (Some v) None w h = refl
-some_made (Some v) (Some q) w h = by_test (is_same_point v q) where
-  by_test : (r : Bool) → is_some_point (cond r (One v) Several) ≡ true
-  by_test true = refl
-  by_test false = refl
+some_made o e w h = search rules
 
 -- ---- a stone on p, and then one on q
 
@@ -469,15 +410,7 @@ module _ (rule : RuleKind) (b : Grid) (s : Side) (p q : Point) (ok : IsBoard b) 
 
   two_before : makes_two rule b s q ≡ false → nat_le 2 (length (five_points rule full s)) ≡ true
       → list_any new_there (points_of b) ≡ true
-  two_before quiet two = by_test (list_any new_there (points_of b)) refl where
-    by_test : (r : Bool) → list_any new_there (points_of b) ≡ r → list_any new_there (points_of b) ≡ true
-    by_test true e = e
-    by_test false lone =
-        let count = more_then lone in
-        let still : nat_le 2 (length (five_points rule with_q s)) ≡ true = grind (arith, nat_tests) in
-        let here : makes_two rule b s q ≡ true = ap (λ r. r && is_several (in_short (five_points rule with_q s))) beside.1
-        ∙ several (five_points rule with_q s) ∙ still in
-        absurd (both_ways _ quiet here)
+  two_before quiet two = search (rules, more_then, several, both_ways)
 
   pub near_when : makes_two rule b s q ≡ false → is_several (in_short (five_points rule full s)) ≡ true → IsInReach rule with_p s p q
   near_when quiet two =
@@ -523,36 +456,22 @@ pick Down r t u v = u
 pick Up r t u v = v
 
 some_of : (d : Axis) (r t u v : Bool) → pick d r t u v ≡ true → (r || t || u || v) ≡ true
-some_of d true t u v h = refl
-some_of d false true u v h = refl
-some_of d false false true v h = refl
-some_of d false false false true h = refl
-some_of Row false false false false h = h
-some_of Column false false false false h = h
-some_of Down false false false false h = h
-some_of Up false false false false h = h
+some_of d r t u v h = search rules
 
 test_of : (d : Axis) (near : NearStones) (n : ℕ) → n ≤ near_on near d
     → pick d (nat_le n near.row) (nat_le n near.column) (nat_le n near.down) (nat_le n near.up) ≡ true
-test_of Row near n h = grind (arith, nat_tests)
-test_of Column near n h = grind (arith, nat_tests)
-test_of Down near n h = grind (arith, nat_tests)
-test_of Up near n h = grind (arith, nat_tests)
+test_of d near n h = search rules
 
 reach-more : (m n : ℕ) → m ≤ n → reach m ≤ reach n
 reach-more m n h = grind (arith, nat_tests)
 
 module _ (b : Grid) (s : Side) (p : Point) (near : NearStones) (are : AreNearStones b s p near) where
   at_most : (d : Axis) → stones_around b s d p ≤ near_on near d
-  at_most Row = are.row
-  at_most Column = are.column
-  at_most Down = are.down
-  at_most Up = are.up
+  at_most d = search rules
 
   -- where an axis has so many stones, some number says so
   pub some-on : (d : Axis) (n : ℕ) → n ≤ stones_around b s d p → some_has near n ≡ true
-  some-on d n many = some_of d (nat_le n near.row) (nat_le n near.column) (nat_le n near.down) (nat_le n near.up)
-      (test_of d near n (let low = at_most d in omega (arith, many, low)))
+  some-on d n many = search (rules, some_of, test_of, at_most)
 
   -- where no double point was found as near as it may be, there is none
   pub none-near : (rule : RuleKind) → ((q : Point) → is_double_point rule b s q ≡ true → IsInReach rule b s p q)
@@ -617,8 +536,7 @@ no_five-no_double rule b s q none = few-double rule b s q (ap is_several (none-s
 
 -- not both where the second is not
 second_no : (r t : Bool) → t ≡ false → (r && t) ≡ false
-second_no true t h = h
-second_no false t h = refl
+second_no r t h = search rules
 
 -- where it is taken it is no double point
 pub taken-no_double : (rule : RuleKind) (b : Grid) (s : Side) (d : Axis) (q : Point) → is_empty b q ≡ false
@@ -627,34 +545,22 @@ taken-no_double rule b s d q taken = sym (second_no (makes_on rule b s d q) _ (n
 
 -- nor where it is off the board
 pub at-none : (rule : RuleKind) (b : Grid) (s : Side) (d : Axis) (o : Option Point) → kept_on b o ≡ None → false ≡ is_double_on rule b s d o
-at-none rule b s d None h = refl
-at-none rule b s d (Some q) h = by_test (is_on b q) refl h where
-  by_test : (r : Bool) → is_on b q ≡ r → cond r (Some q) None ≡ None → false ≡ (makes_on rule b s d q && is_double_point rule b s q)
-  by_test true e h = cc
-  by_test false e h = taken-no_double rule b s d q (false_from_ne_true _ (λ empty. both_ways _ e (is_empty-on b q empty)))
+at-none rule b s d o h = search (rules, taken-no_double, false_from_ne_true, both_ways, is_empty-on)
 
 pub at-some : (rule : RuleKind) (b : Grid) (s : Side) (d : Axis) (o : Option Point) (q : Point) → kept_on b o ≡ Some q
     → (makes_on rule b s d q && is_double_point rule b s q) ≡ is_double_on rule b s d o
-at-some rule b s d None q h = cc
-at-some rule b s d (Some p) q h = ap (λ r. makes_on rule b s d r && is_double_point rule b s r) (sym (kept_by b p q (is_on b p) refl h).0)
+at-some rule b s d o q h = search (rules, kept_by)
 
 -- one that is a double point is found
 pub at-found : (rule : RuleKind) (b : Grid) (s : Side) (d : Axis) (o : Option Point) → is_double_on rule b s d o ≡ true
     → has_double_point rule b s ≡ true
-at-found rule b s d None h = cc
-at-found rule b s d (Some q) h =
-    let double = and_right (makes_on rule b s d q) _ h in
-    points-found b (is_double_point rule b s) q (is_empty-on b q (double-empty rule b s q double)) double
+at-found rule b s d o h = search (rules, and_right, points-found, is_empty-on, double-empty)
 
 -- where one of some points is a double point, the side has one
 pub some-found : (rule : RuleKind) (b : Grid) (s : Side) (points : List Point) → list_any (is_double_point rule b s) points ≡ true
     → true ≡ has_double_point rule b s
 some-found rule b s [] h = cc
-some-found rule b s (q ∷ more) h = by_test (is_double_point rule b s q) refl h (some-found rule b s more) where
-  by_test : (r : Bool) → is_double_point rule b s q ≡ r → (r || list_any (is_double_point rule b s) more) ≡ true
-      → (list_any (is_double_point rule b s) more ≡ true → true ≡ has_double_point rule b s) → true ≡ has_double_point rule b s
-  by_test true e h rest = sym (points-found b (is_double_point rule b s) q (is_empty-on b q (double-empty rule b s q e)) e)
-  by_test false e h rest = rest h
+some-found rule b s (q ∷ more) h = search (rules, points-found, is_empty-on, double-empty, some-found rule b s more)
 
 -- no point on the axis as near as that is a double point whose stone makes a five point on the axis
 abbrev pub NoneOn : RuleKind → Grid → Side → Point → Axis → ℕ → Type 0

@@ -1,11 +1,11 @@
 -- Quiet points: Black's stone there neither wins nor fouls, and a stone of White on another point leaves it so. So where two points are
 -- quiet, White has no move to which each reply fouls.
+use Rattle.std.proofs.Common.{rules}
 use Rattle.std.proofs.Common.{◌≡◌, ℕ, ◌≤◌, ◌<◌, Bool, true, false, cond, refl, sym, ap, ◌∙◌, arith, nat_eq, nat_le, Option, None}
 use Rattle.std.specs.List.{count_by, list_any}
 use Rattle.std.proofs.lemmas.Bool.{false_from_ne_true, both_ways}
 use Rattle.std.proofs.lemmas.Bool.Decides.{nat_tests}
 use Rattle.game_rules.specs.declared.RuleKind.{RuleKind}
-use Rattle.game_rules.specs.declared.RuleKind.TheVariants.{Freestyle, Exact, Renju}
 use Rattle.game_rules.specs.declared.Side.{Side}
 use Rattle.game_rules.specs.declared.Side.TheVariants.{Black, White}
 use Rattle.game_rules.specs.declared.Axis.{Axis}
@@ -14,7 +14,7 @@ use Rattle.game_rules.specs.declared.Way.TheVariants.{Ahead}
 use Rattle.game_rules.specs.declared.Foul.{Foul}
 use Rattle.game_rules.specs.declared.Outcome.TheVariants.{GoesOn}
 use Rattle.game_rules.specs.declared.Point.{Point}
-use Rattle.game_rules.proofs.Common.{Grid, IsBoard, IsPosition, is_empty, is_on, put, axes, outcome, outcome_by, mover, other, after}
+use Rattle.game_rules.proofs.Common.{Grid, IsBoard, IsPosition, is_empty, is_on, put, axes, outcome, outcome_by, mover, other}
 use Rattle.game_rules.proofs.Common.{five, wins_on, foul_of, black_foul, has_fouls, empties_of, goes_on, loses_or, points_of, is_same_point}
 use Rattle.game_rules.proofs.Axes.{some_axis, fewer_axes}
 use Rattle.game_rules.proofs.Boards.{other-other, and_right, is_empty-on, is_empty-put, holds-put_same}
@@ -36,18 +36,14 @@ use Rattle.threat_game.proofs.FreeMoves.{not_one}
 
 -- the side that has fouls is Black
 pub fouls-black : (rule : RuleKind) (s : Side) → has_fouls rule s ≡ true → s ≡ Black
-fouls-black Freestyle s h = cc
-fouls-black Exact s h = cc
-fouls-black Renju Black h = refl
-fouls-black Renju White h = cc
+fouls-black rule s h = search rules
 
 -- and then White is to move, if the other side has fouls
 pub white-turn : (rule : RuleKind) (s : Side) → has_fouls rule (other s) ≡ true → s ≡ White
 white-turn rule s h = sym (other-other s) ∙ ap other (fouls-black rule (other s) h)
 
 no_one-fouls : (r : Bool) → ◌≡◌ {A = Option Foul} (cond r None None) None
-no_one-fouls true = refl
-no_one-fouls false = refl
+no_one-fouls r = search rules
 
 -- ---- too few stones within reach for two threes
 
@@ -82,9 +78,6 @@ module _ (rule : RuleKind) (b : Grid) (p : Point) (ok : IsBoard b) (empty : is_e
       ∙ no_one-fouls (has_fouls rule Black)
 
 module _ (rule : RuleKind) (b : Grid) (q : Point) (ok : IsBoard b) (quiet : IsQuiet b q) where
-  on_q : is_on b q ≡ true
-  on_q = is_empty-on b q quiet.empty
-
   low : (d : Axis) (n : ℕ) → 2 ≤ n → nat_le n (stones_in_reach b Black d q) ≡ false
   low d n least = let few = quiet.few d in grind (arith, nat_tests)
 
@@ -140,18 +133,13 @@ module _ (rule : RuleKind) (b : Grid) (q : Point) (ok : IsBoard b) (quiet : IsQu
 
     -- then not each reply fouls
     pub quiet-reply : mover white ≡ Black → all_foul rule white ≡ false
-    quiet-reply turn = false_from_ne_true _ (λ all.
-        both_ways _ (still_stays turn)
-        (all_at white (λ x. loses_or (outcome rule white x) false) q all (is_empty-on white q still_empty)))
+    quiet-reply turn = search (rules, false_from_ne_true, both_ways, still_stays, all_at, is_empty-on, still_empty)
 
 -- ---- two quiet points
 
 module _ (rule : RuleKind) (b : Grid) (lawful : IsPosition rule b) (turn : mover b ≡ White) (two : HasTwoQuiet b) where
   not_by : (p q : Point) → outcome rule b p ≡ GoesOn → IsQuiet b q → is_same_point p q ≡ false → false ≡ is_last_move rule b p
-  not_by p q on quiet apart =
-      let same : after b p ≡ put b White p = ap (λ (s : Side). put b s p) turn in
-      let then : mover (put b White p) ≡ Black = ap mover (sym same) ∙ mover-then rule b p lawful on ∙ ap other turn in
-      unfouled-last rule b p (ap (all_foul rule) same ∙ quiet-reply rule b q lawful.board quiet p (GoesOn-empty rule b p on) apart then)
+  not_by p q on quiet apart = search (rules, mover-then, unfouled-last, quiet-reply, GoesOn-empty)
 
   -- a move leaves one of them, so no move is a last one
   pub quiet-no_last : (p : Point) → false ≡ is_last_move rule b p
@@ -167,6 +155,4 @@ module _ (rule : RuleKind) (b : Grid) (lawful : IsPosition rule b) (turn : mover
 
   -- of no list of points is one a last move
   pub no_last : false ≡ list_any (is_last_move rule b) (points_of b)
-  no_last = sym (false_from_ne_true _ (λ h.
-      let found = any_witness (is_last_move rule b) (points_of b) h in
-      both_ways _ (sym (quiet-no_last found.0)) found.1))
+  no_last = search (rules, false_from_ne_true, any_witness, both_ways, quiet-no_last)

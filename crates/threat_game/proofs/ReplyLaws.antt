@@ -1,7 +1,7 @@
 -- What a reply leaves of the five points and the double points of the attacker. The replies that go on, one after another, and what is
 -- judged of them.
 use Rattle.std.proofs.Common.{◌≡◌, true, false, ◌&&◌, not, sym, ap, subst, ◌∙◌, List, Some, None, All, ℕ, ◌≤◌, ◌<◌, Bool, cond}
-use Rattle.std.proofs.Common.{refl, arith, [], ◌∷◌, ◌++◌, map, length, get_or, append_assoc}
+use Rattle.std.proofs.Common.{refl, arith, [], ◌∷◌, ◌++◌, map, length, append_assoc, rules}
 use Rattle.std.specs.List.{list_all, find, list_any, filter, sum_by, AllByRecursion}
 use Rattle.std.proofs.lemmas.Bool.{not-true}
 use Rattle.std.proofs.lemmas.List.Filters.{length-filter_both}
@@ -102,8 +102,7 @@ module _ (rule : RuleKind) (c : Grid) (q : Point) (lawful : IsPosition rule c) (
 -- ---- few are counted for each
 
 one-few : (r : Bool) → one_if r ≤ 1
-one-few true = omega arith
-one-few false = omega arith
+one-few r = search rules
 
 pub counted-three : (rule : RuleKind) (b : Grid) (judged : Judged) → IsJudged rule b judged → counted_for judged ≤ 3
 counted-three rule b (Five w) h = omega arith
@@ -121,10 +120,7 @@ pub record SoFar (rule : RuleKind) (moves : ℕ) (c : Grid) (all : List Child) (
 
 -- where no point is left, it is judged of all replies
 pub all-judged : (rule : RuleKind) (moves : ℕ) (c : Grid) (all : List Child) → SoFar rule moves c all [] → AreJudged rule moves c all
-all-judged rule moves c all so_far = record {
-  points = sym (points-append_nil (map (λ (child : Child). child.at) all)) ∙ so_far.points;
-  each = All-from_recursion (IsChild rule moves c) all so_far.each;
-}
+all-judged rule moves c all so_far = search (rules, points-append_nil, All-from_recursion)
 
 -- one more reply
 pub step-more : (rule : RuleKind) (moves : ℕ) (c d : Grid) → d ≡ c → (all : List Child) (q : Point) (left before : List Point)
@@ -159,8 +155,7 @@ judged-short rule moves c ok judged are =
 
 pub judged-three : (rule : RuleKind) (moves : ℕ) (c : Grid) (judged : List Child) → AreJudged rule moves c judged
     → All (λ child. counted_for child.judged ≤ 3) judged
-judged-three rule moves c judged are k x low = counted-three rule (after c (get_or judged k x).at) (get_or judged k x).judged
-    (are.each k x low).judged
+judged-three rule moves c judged are k x low = search (rules, counted-three)
 
 some-listed : (g : Point → Bool) (ps : List Point) (items : List Child) → map (λ (child : Child). child.at) items ≡ filter g ps
     → list_any g ps ≡ true → 0 < length items
@@ -190,23 +185,12 @@ module _ (rule : RuleKind) (moves : ℕ) (c : Grid) (q : Point) (on : outcome ru
   -- a child, where what is judged of the position after it is true
   pub child-is : (d : Grid) (judged : Judged) (k : ℕ) → d ≡ after c q → IsJudged rule d judged → moves_for judged ≤ k → k ≤ moves
       → (is_open judged ≡ true → StopsDoubles rule c q) → IsChild rule moves c (record { at = q; judged = judged })
-  child-is d judged k played is enough l stopped = record {
-    on = on;
-    judged = subst (λ (e : Grid). IsJudged rule e judged) played is;
-    enough = omega (arith, enough, l);
-    stopped = stopped;
-  }
+  child-is d judged k played is enough l stopped = search rules
 
   -- an escape, where after it there is no win within the moves that are left
   pub escape-is : (d : Grid) (n : ℕ) → moves ≡ n → d ≡ after c q → (WinsByThreats rule n d → ⊥) → EscapesBy rule moves c q
-  escape-is d n left played none = record {
-    on = on;
-    no_win = λ win. none (subst (λ (e : Grid). WinsByThreats rule n e) (sym played)
-        (subst (λ (k : ℕ). WinsByThreats rule k (after c q)) left win));
-  }
+  escape-is d n left played none = search rules
 
 -- an escape by one reply
 pub escape-has : (rule : RuleKind) (moves : ℕ) (c d : Grid) (q : Point) → d ≡ c → EscapesBy rule moves d q → HasEscape rule moves c
-escape-has rule moves c d q same escape =
-    let here : EscapesBy rule moves c q = subst (λ (e : Grid). EscapesBy rule moves e q) same escape in
-    record { reply = q; on = here.on; no_win = here.no_win }
+escape-has rule moves c d q same escape = search rules

@@ -1,7 +1,7 @@
 -- How many positions of the game of threats stand behind what is counted. How many positions of the game of threats stand behind the moves
 -- that are tried, and behind the replies.
 use Rattle.std.proofs.Common.{◌≡◌, ℕ, zero, suc, ◌+◌, ◌≤◌, Bool, true, false, cond, ◌&&◌, ◌||◌, not, refl, sym, ap, subst, ◌∙◌, arith, List}
-use Rattle.std.proofs.Common.{[], ◌∷◌, map, All, ◌<◌, length, get_or, ◌-◌, Option, Some, None, IfSome, IsTrue}
+use Rattle.std.proofs.Common.{[], ◌∷◌, map, All, ◌<◌, length, get_or, ◌-◌, Option, IfSome, IsTrue, rules}
 use Rattle.std.specs.List.{list_any, filter, sum_by, list_all}
 use Rattle.std.proofs.lemmas.List.Sums.{sum_by-cons, sum_by-le-sum_by}
 use Rattle.std.proofs.lemmas.Bool.{and_parts, not-true}
@@ -32,47 +32,30 @@ use Rattle.threat_game.proofs.AttackLaws.{threat-by}
 -- ---- sums over points
 
 one-or : (a r : Bool) → one_if (a || r) ≤ one_if a + one_if r
-one-or true true = omega arith
-one-or true false = omega arith
-one-or false r = omega arith
+one-or a r = search rules
 
 one-split : (g a : Bool) (k : ℕ) → (g ≡ true → 1 ≤ k) → one_if (g && a) + one_if (g && not a) ≤ k
-one-split true true k low = low refl
-one-split true false k low = low refl
-one-split false a k low = omega arith
+one-split g a k low = search rules
 
 -- a reply on a point, and one beside it, are two of the replies
 sum-two : (f : Point → ℕ) (g a : Point → Bool) → ((q : Point) → g q ≡ true → 1 ≤ f q) → (ps : List Point)
     → one_if (list_any (λ q. g q && a q) ps) + one_if (list_any (λ q. g q && not (a q)) ps) ≤ sum_by f ps
 sum-two f g a low [] = omega arith
-sum-two f g a low (p ∷ ps) =
-    let first = one-or (g p && a p) (list_any (λ q. g q && a q) ps) in
-    let second = one-or (g p && not (a p)) (list_any (λ q. g q && not (a q)) ps) in
-    omega (arith, one-split (g p) (a p) (f p) (low p), sum-two f g a low ps, sum_by-cons f p ps, first, second)
+sum-two f g a low (p ∷ ps) = search (rules, one-or, one-split, sum_by-cons, sum-two f g a low ps)
 
 -- ---- the game of threats has at least as many positions
 
 tree_by : (r : Bool) (k : ℕ) → 1 ≤ cond r 1 (1 + k)
-tree_by true k = omega arith
-tree_by false k = omega arith
+tree_by r k = search rules
 
 pub tree-positive : (rule : RuleKind) (n : ℕ) (b : Grid) → 1 ≤ threat_tree rule n b
 unfolding threat_tree
-tree-positive rule zero b = omega arith
-tree-positive rule (suc zero) b = omega arith
-tree-positive rule (suc (suc n)) b =
-    tree_by (has_five rule b (mover b))
-    (sum_by (λ p. cond (is_safe_threat rule b p) (behind_replies rule (threat_tree rule (suc n)) (after b p)) 0) (points_of b))
+tree-positive rule n b = search (rules, tree_by)
 
 -- within more moves it has no fewer
 replies-more : (rule : RuleKind) (f g : Grid → ℕ) → ((c : Grid) → f c ≤ g c) → (c : Grid)
     → behind_replies rule f c ≤ behind_replies rule g c
-replies-more rule f g more c =
-    sum_by-le-sum_by (λ q. if_goes_on (outcome rule c q) (f (after c q))) (λ q. if_goes_on (outcome rule c q) (g (after c q))) (points_of c)
-    (λ q. by_outcome (outcome rule c q) (f (after c q)) (g (after c q)) (more (after c q))) where
-      by_outcome : (o : Outcome) (k l : ℕ) → k ≤ l → if_goes_on o k ≤ if_goes_on o l
-      by_outcome GoesOn k l h = h
-      by_outcome _ k l h = omega arith
+replies-more rule f g more c = search (rules, sum_by-le-sum_by)
 
 moves-more : (rule : RuleKind) (f g : Grid → ℕ) → ((c : Grid) → f c ≤ g c) → (b : Grid) → cond (has_five rule b (mover b)) 1
     (1 + sum_by (λ p. cond (is_safe_threat rule b p) (behind_replies rule f (after b p)) 0) (points_of b))
@@ -214,17 +197,7 @@ pub record IsTriedMove (rule : RuleKind) (b : Grid) (p : Point) : Type 0 where
 
 pub tried-is : (rule : RuleKind) (b : Grid) (p : Point) → is_tried rule b p ≡ true → IsTriedMove rule b p
 unfolding is_tried is_threat_move
-tried-is rule b p h =
-    let parts = and_parts (is_safe_threat rule b p) (has_reply rule (after b p)) h in
-    let more = and_parts (is_threat_move rule b p) (not (has_five rule (after b p) (other (mover b)))) parts.0 in
-    let moves = goes_on_with-parts (outcome rule b p) (has_threat rule (after b p) (mover b)) more.0 in
-    record {
-      on = moves.0;
-      threat = moves.1;
-      safe = not-true (has_five rule (after b p) (other (mover b))) more.1;
-      reply = parts.1;
-      is_safe = parts.0;
-    }
+tried-is rule b p h = search (rules, and_parts, goes_on_with-parts, not-true)
 
 passes-at : (f : Point → Bool) (ps : List Point) → list_all f ps ≡ true → (k : ℕ) → k < length ps → f (get_or ps k nowhere) ≡ true
 passes-at f [] h k low = absurd (omega arith)
@@ -251,9 +224,7 @@ tried-behind rule n b none =
 -- ---- replies
 
 pub replies-positive : (rule : RuleKind) (n : ℕ) (c : Grid) → has_reply rule c ≡ true → 1 ≤ behind_replies rule (threat_tree rule n) c
-replies-positive rule n c some =
-    some-counts (λ q. goes_on (outcome rule c q)) (λ q. if_goes_on (outcome rule c q) (threat_tree rule n (after c q)))
-    (λ q h. if_goes_on-one (outcome rule c q) (threat_tree rule n (after c q)) (tree-positive rule n (after c q)) h) (points_of c) some
+replies-positive rule n c some = search (rules, some-counts, if_goes_on-one, tree-positive)
 
 -- a win within the depth has few moves
 pub few-moves : (rule : RuleKind) (n : ℕ) (b : Grid) (c : List Node) (win : WrittenWin) → n ≤ 60 → IsThreatWin rule n b c win
@@ -264,9 +235,7 @@ few-moves rule n b c win low is = let m = is.written.within in omega (arith, low
 pub moves-few : (rule : RuleKind) (left least : ℕ) (b : Grid) (t : List Node) (win : Option WrittenWin) → least ≤ left → left < 256
     → IfSome win (λ (found : WrittenWin). (moves : ℕ) → least ≤ moves → IsThreatWin rule moves b t found)
     → IfSome win (λ (found : WrittenWin). found.moves < 256)
-moves-few rule left least b t None enough fits h = tt
-moves-few rule left least b t (Some found) enough fits h = let is = h left enough in let within =
-    is.written.within in omega (arith, within, fits)
+moves-few rule left least b t win enough fits h = search rules
 
 pub by_move : (rule : RuleKind) (n : ℕ) (b : Grid) (p : Point) → outcome rule b p ≡ GoesOn → has_threat rule (after b p) (mover b) ≡ true
     → LosesToThreats rule n (after b p) → WinsByThreats rule (suc n) b
@@ -277,8 +246,7 @@ by_move rule n b p on threat loses = (
 )
 
 pub counted-one : (judged : Judged) → 1 ≤ counted_for judged
-counted-one (Five w) = omega arith
-counted-one _ = omega arith
+counted-one judged = search rules
 
 -- 1 for yes, and 0 for no
 abbrev pub one_where : Bool → ℕ
@@ -289,8 +257,7 @@ abbrev pub open_one : Child → ℕ
 open_one child = one_where (is_open child.judged)
 
 pub counted-parts : (judged : Judged) → nodes_for judged + one_where (is_open judged) ≤ counted_for judged
-counted-parts (Five w) = omega arith
-counted-parts _ = omega arith
+counted-parts judged = search rules
 
 -- what is counted behind a child of b, if it is open
 abbrev pub open_behind : RuleKind → ℕ → Grid → Child → ℕ
@@ -299,8 +266,7 @@ open_behind rule left b child = cond (is_open child.judged) (threat_tree rule le
 -- what is counted for a child and behind it is no more than the game has there
 pub whole-by : (rule : RuleKind) (left : ℕ) (c : Grid) (judged : Judged) → counted_for judged ≤ threat_tree rule left c
     → counted_for judged + cond (is_open judged) (threat_tree rule left c - 1) 0 ≤ threat_tree rule left c
-whole-by rule left c (Five w) few = omega (arith, few)
-whole-by rule left c _ few = omega (arith, few)
+whole-by rule left c judged few = search rules
 
 pub counted-within : (rule : RuleKind) (b : Grid) (d : DoublePoint) → IsPosition rule b → IsDoubleWin rule b d
     → has_five rule b (mover b) ≡ false → (n : ℕ) → 2 ≤ n → 1 + answer_nodes rule b d ≤ threat_tree rule n b

@@ -1,10 +1,10 @@
 -- Wins that are judged, compiled: what is written of each is a win after its reply. Wins of one move as nodes of a table.
-use Rattle.std.proofs.Common.{◌≡◌, ℕ, ◌+◌, ◌≤◌, true, ap, subst, arith, List, zero, suc, []}
+use Rattle.std.proofs.Common.{◌≡◌, ℕ, ◌+◌, ◌≤◌, true, ap, subst, arith, List, zero, suc, [], rules}
 use Rattle.game_rules.specs.declared.RuleKind.{RuleKind}
 use Rattle.game_rules.specs.declared.Outcome.TheVariants.{GoesOn, Wins as WinsNow, Draws}
 use Rattle.game_rules.specs.declared.Point.{Point}
 use Rattle.game_rules.specs.declared.Outcome.{Outcome}
-use Rattle.game_rules.proofs.Common.{Grid, five, IsPosition, outcome, mover, after, LosesOr, WinsByThreats, WinsWithin}
+use Rattle.game_rules.proofs.Common.{Grid, five, IsPosition, outcome, mover, after, LosesOr, WinsByThreats}
 use Rattle.game_rules.proofs.Positions.{IsPosition-after}
 use Rattle.game_rules.proofs.Outcomes.{five-outcome}
 use Rattle.game_rules.proofs.Games.{five-threats}
@@ -16,7 +16,7 @@ use Rattle.strategy_compiler.proofs.Growing.{win-within}
 use Rattle.threat_game.specs.declared.doubles.DoublePoint.{DoublePoint}
 use Rattle.threat_game.specs.declared.replies.Judged.{Judged}
 use Rattle.threat_game.specs.declared.replies.Judged.TheVariants.{Five, DoublePoint as DoubleWins, Last}
-use Rattle.threat_game.proofs.Common.{IsDoubleWin, is_last_move, IsJudged, IsJudgedDouble, answer_nodes, moves_for, nodes_for, IsThreatWin}
+use Rattle.threat_game.proofs.Common.{IsDoubleWin, is_last_move, IsJudged, IsJudgedDouble, moves_for, IsThreatWin}
 use Rattle.threat_game.proofs.AttackLaws.{last-goes_on, last-fouled, last-wins}
 
 module _ (rule : RuleKind) (b : Grid) (q : Point) (on : outcome rule b q ≡ GoesOn) (judged : Judged)
@@ -53,20 +53,10 @@ module _ (rule : RuleKind) (b : Grid) (q : Point) (on : outcome rule b q ≡ Goe
         let least : moves_for judged ≡ 2 = ap moves_for e in
         subst (λ (g : Grid). IsThreatWin rule moves g t win) played (says moves (omega (arith, least, l)))
 
-    pub double-counts : (c : Grid) → c ≡ after b q → 1 + answer_nodes rule c d ≡ nodes_for judged
-    double-counts c played =
-        let counted : nodes_for judged ≡ 1 + nodes = ap nodes_for e in
-        let same : answer_nodes rule c d ≡ answer_nodes rule (after b q) d = ap (λ (g : Grid). answer_nodes rule g d) played in
-        omega (arith, counted, double-is.nodes_are, same)
-
 -- a written win is one by threats, where there is a win by threats
 pub threat-win : (rule : RuleKind) (t : List Node) (win : WrittenWin) (m n : ℕ) (b : Grid) → IsWrittenWin rule m b t win → m ≤ n
     → WinsByThreats rule n b → IsThreatWin rule n b t win
-threat-win rule t win m n b won l wins = record {
-  written = win-within rule m n b t win l won;
-  by_threats = wins;
-  within = subst (λ (k : ℕ). WinsWithin rule k b) won.deep (accepted-wins rule t win.node b won.accepted);
-}
+threat-win rule t win m n b won l wins = search (rules, win-within, accepted-wins)
 
 -- ---- wins of one move
 
@@ -78,8 +68,7 @@ last-threats rule b p (suc n) h l = last-wins rule b p h n
 pub five-written : (t : List Node) (i : ℕ) (w : Point) → WinsAtOnce w t i → (rule : RuleKind) (b : Grid) (n : ℕ) → IsPosition rule b
     → five rule b (mover b) w ≡ true → 1 ≤ n
     → IsThreatWin rule n b t (record { node = i; moves = 1 })
-five-written t i w wins rule b n lawful h l = threat-win rule t _ 1 n b (wins rule b (five-outcome rule b w h)) l
-    (five-threats rule b w n h l)
+five-written t i w wins rule b n lawful h l = search (rules, threat-win, five-outcome, five-threats)
 
 pub last-written : (old t : List Node) (i : ℕ) (p : Point) → WinsByAnswers old p [] t i → (rule : RuleKind) (b : Grid) (n : ℕ)
     → IsPosition rule b → is_last_move rule b p ≡ true → 1 ≤ n

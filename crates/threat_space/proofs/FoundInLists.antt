@@ -53,12 +53,6 @@ module _ (final : Final) (path : List Threat) (lists : Grid → Lists) (s : Side
       ∙ ap (λ (xs : Lists). xs ++ after_path path (lists_from lists s b ts)) (path-longer path t (lists (played b s t))))
       ∙ looked-append final n (after_path (path ++ t ∷ []) (lists (played b s t))) (after_path path (lists_from lists s b ts))
 
-  lists-append : (ts us : List Threat) → lists_from lists s b (ts ++ us) ≡ lists_from lists s b ts ++ lists_from lists s b us
-  lists-append [] us = refl
-  lists-append (t ∷ ts) us =
-      ap (λ (xs : Lists). map (λ more. t ∷ more) (lists (played b s t)) ++ xs) (lists-append ts us)
-      ∙ sym (append_assoc (map (λ more. t ∷ more) (lists (played b s t))) (lists_from lists s b ts) (lists_from lists s b us))
-
   -- one threat of a list
   pub threat-next : (n i : ℕ) (ts : List Threat) (t : Threat) → i < length ts → t ≡ get_or ts i t
       → from_threats n (drop i ts) ≡ looked_on (from_threat n t) (λ m. from_threats m (drop (i + 1) ts))

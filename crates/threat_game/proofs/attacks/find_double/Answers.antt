@@ -1,4 +1,5 @@
-use Rattle.std.proofs.Common.{◌≡◌, Bool, true, false, ap, sym, ◌∙◌, get_or, Option, Some, None, Result, Ok, Err, IfOk, IfNone}
+use Rattle.std.proofs.Common.{rules}
+use Rattle.std.proofs.Common.{◌≡◌, Bool, true, false, ap, sym, ◌∙◌, get_or, Option, Result, IfOk, IfNone}
 use Rattle.std.proofs.lemmas.Bool.{true≢false}
 use Rattle.std.proofs.lemmas.List.Elements.{All-get_or}
 use Rattle.game_rules.proofs.Common.{Grid, is_empty, mover}
@@ -20,9 +21,7 @@ double_at-requires g c =
 is_told : {E : Type 0} (r : Result (Option DoublePoint) E) (makes other : Bool) → makes ≡ true
     → IfOk r (λ found. IfNone found (makes ≡ false))
     → IfOk r (λ found. IfNone found (other ≡ false))
-is_told (Err e) makes other two told = told
-is_told (Ok (Some d)) makes other two told = told
-is_told (Ok None) makes other two told = absurd (true≢false (sym two ∙ told))
+is_told r makes other two told = search (rules, true≢false)
 
 pub returns-in-GoesOn-clause-none : goal.returns-in-GoesOn-clause-none
 returns-in-GoesOn-clause-none g c =
