@@ -1,6 +1,6 @@
 -- A board and what a turn makes of it: points, places, stones in a row, runs, five points.
 use Rattle.std.proofs.Common.{◌≡◌, inl, inr, ℕ, ◌+◌, Bool, true, false, ◌&&◌, cond, refl, sym, ap, subst, ◌∙◌, arith}
-use Rattle.std.proofs.Common.{List, Option, Some, None}
+use Rattle.std.proofs.Common.{List, Option, Some, None, rules}
 use Rattle.std.specs.Cmp.{both_ways}
 use Rattle.std.specs.List.{list_any}
 use Rattle.std.proofs.lemmas.Bool.{both_ways as both_values}
@@ -36,8 +36,7 @@ pub record OfPoints (w h : ℕ) (f : Option Point → Bool) : Type 0 where
 
 some_point : (w h : ℕ) (f : Option Point → Bool) → OfPoints w h f → (o : Option Point) → f o ≡ true
     → (q : Point) × (o ≡ Some q) × (within w h q ≡ true)
-some_point w h f of None e = absurd (both_values (f None) of.none e)
-some_point w h f of (Some q) e = (q, refl, of.on q e)
+some_point w h f of o e = search (rules, both_values)
 
 module _ (w h : ℕ) (to from : Point → Point) (turn : Turn w h to from) where
   -- tests of places that agree at each point and its image agree at all places
@@ -60,12 +59,7 @@ module _ (w h : ℕ) (to from : Point → Point) (turn : Turn w h to from) where
 
   -- points that the turn takes apart are apart, and so are their images
   pub to-apart : (p q : Point) → within w h p ≡ true → within w h q ≡ true → Apart p q → Apart (to p) (to q)
-  to-apart p q on_p on_q apart = elim (same_or_apart (to p) (to q)) [
-    | inl same ↦
-        let one : p ≡ q = sym (turn.undone p on_p) ∙ ap from same ∙ turn.undone q on_q in
-        absurd (apart.apart (ap (λ (z : Point). z.x) one) (ap (λ (z : Point). z.y) one))
-    | inr far ↦ far
-  ]
+  to-apart p q on_p on_q apart = search (rules, same_or_apart)
 
   module _ (xs ys : List Cell) (turned : Turned w h to xs ys) where
     pub empty-same : (p : Point) → within w h p ≡ true → is_empty (grid w h ys) (to p) ≡ is_empty (grid w h xs) p
@@ -126,10 +120,7 @@ module _ (w h : ℕ) (to from : Point → Point) (turn : Turn w h to from) where
         ∙ sym (wins_on-ways rule (grid w h xs) s Ahead d p turned.board)
 
     win_of_points : (zs : List Cell) (rule : RuleKind) (s : Side) (d : Axis) → OfPoints w h (wins_at rule (grid w h zs) s d)
-    win_of_points zs rule s d = record {
-      none = refl;
-      on = λ q e. and_left (within w h q) _ (and_left (is_empty (grid w h zs) q) _ e);
-    }
+    win_of_points zs rule s d = search (rules, and_left, within)
 
     pub wins_at-same : (rule : RuleKind) (s : Side) (v : Way) (d : Axis) (p : Point) (x y : ℕ) → within w h p ≡ true
         → wins_at rule (grid w h ys) s (turn.axis d) (go (turn.way d v) (turn.axis d) (to p) x y)

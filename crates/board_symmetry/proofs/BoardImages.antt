@@ -1,5 +1,5 @@
 -- The image of a board is what the turn makes of it, and boards that a turn makes alike are one.
-use Rattle.std.proofs.Common.{◌≡◌, ℕ, zero, suc, Bool, true, refl, sym, ap, ◌∙◌, List, [], ◌∷◌, map, get_or}
+use Rattle.std.proofs.Common.{◌≡◌, ℕ, zero, suc, Bool, true, refl, sym, ap, ◌∙◌, List, [], ◌∷◌, map, get_or, rules}
 use Rattle.std.specs.Prelude.{Some, slice_get}
 use Rattle.std.specs.List.{list_all}
 use Rattle.std.proofs.lemmas.List.{length-map}
@@ -24,9 +24,7 @@ mapped_get f (p ∷ ps) (suc i) q d e = mapped_get f ps i q d e
 mapped_where : (on : Point → Bool) (f g : Point → Cell) (ps : List Point) → list_all on ps ≡ true → ((q : Point) → on q ≡ true → f q ≡ g q)
     → map f ps ≡ map g ps
 mapped_where on f g [] all same = refl
-mapped_where on f g (p ∷ ps) all same =
-    ap (λ (c : Cell). c ∷ map f ps) (same p (and_left (on p) _ all))
-    ∙ ap (λ (cs : List Cell). g p ∷ cs) (mapped_where on f g ps (and_right (on p) _ all) same)
+mapped_where on f g (p ∷ ps) all same = search (rules, and_left, and_right, mapped_where on f g ps (and_right (on p) _ all) same)
 
 -- boards with the same cell at each point are one
 pub same_cells : (w h : ℕ) (xs ys : List Cell) → IsBoard (grid w h xs) → IsBoard (grid w h ys)
@@ -38,13 +36,7 @@ same_cells w h xs ys ok fine same =
 
 module _ (s : Symmetry) (b : Grid) (ok : IsBoard b) where
   pub image_ok : IsBoard (board_image s b)
-  image_ok = record {
-    wide = ok.wide;
-    width_fits = ok.width_fits;
-    high = ok.high;
-    height_fits = ok.height_fits;
-    filled = length-map (points_of b) _ ∙ points_length b;
-  }
+  image_ok = search (rules, length-map, points_length)
 
   -- what stands at a point of the image
   pub image_cell : (q : Point) → is_on b q ≡ true → cell_at (board_image s b) q ≡ cell_at b (point_image (inverse s) b.width b.height q)

@@ -1,11 +1,10 @@
 -- The image of a table as a file has it: it is one again, and has a text.
-use Rattle.std.proofs.Common.{◌≡◌, ℕ, true, ap, ◌∙◌, List, [], ◌∷◌, length}
+use Rattle.std.proofs.Common.{◌≡◌, ℕ, true, ◌∙◌, List, [], ◌∷◌, rules}
 use Rattle.std.proofs.lemmas.List.{length-map}
 use Rattle.game_rules.proofs.Common.{Grid}
-use Rattle.strategy_graph.proofs.Common.{names_below, TableOnBoard, RootOnBoard}
+use Rattle.strategy_graph.proofs.Common.{TableOnBoard, RootOnBoard}
 use Rattle.strategy_graph.specs.declared.Node.{Node}
 use Rattle.strategy_graph.specs.declared.roots.Root.{Root}
-use Rattle.strategy_graph.specs.declared.roots.Root.TheVariants.{Attack, Defend}
 use Rattle.position_files.proofs.Common.{RootFits, IsTextOfTable}
 use Rattle.position_files.specs.declared.TableFile.{TableFile}
 use Rattle.board_symmetry.proofs.Common.{fits, board_image, table_image, root_image, KeepsRoot, IsRoot}
@@ -29,18 +28,11 @@ module _ (s : Symmetry) (b : Grid) (fit : fits s b.width b.height ≡ true) wher
   -- the image of a root has a text with the image of the table
   pub image-root : (t : List Node) (r : Root) (moves : ℕ) → RootFits b t r moves
       → RootFits (board_image s b) (table_image s b.width b.height t) (root_image s b.width b.height r) moves
-  image-root t (Attack i) moves (last, some, few) = (length-map t _ ∙ last, some, few)
-  image-root t (Defend a) moves (start, below, on, few) = (
-    record { not_winning = start.not_winning; rising = image-rising s b.width b.height a.replies },
-    ap (names_below _) (length-map t _) ∙ image-below s b.width b.height a (length t) below,
-    image-on s b.width b.height a.replies,
-    few,
-  )
+  image-root t r moves h = search (rules, length-map, image-rising, image-below, image-on)
 
 -- a root that has a text is one of a table, and names points of the board
 pub root-fits : (b : Grid) (t : List Node) (r : Root) (moves : ℕ) → RootFits b t r moves → IsRoot r × RootOnBoard b r
-root-fits b t (Attack i) moves fit = (tt, tt)
-root-fits b t (Defend a) moves fit = (fit.0, fit.2)
+root-fits b t r moves fit = search rules
 
 -- the image of a root of a file
 pub file-root : (s : Symmetry) (file : TableFile) (bytes : List ℕ) → IsTextOfTable file bytes → fits s file.board.width file.board.height

@@ -1,6 +1,6 @@
 -- An image that is filled point by point: what stands where while some points are left.
-use Rattle.std.proofs.Common.{◌≡◌, ℕ, ◌+◌, ◌*◌, ◌<◌, Bool, true, false, ◌&&◌, ◌||◌, refl, sym, ap, subst}
-use Rattle.std.proofs.Common.{◌∙◌, arith, List, [], ◌∷◌, nat_lt, replicate}
+use Rattle.std.proofs.Common.{◌≡◌, ℕ, ◌+◌, ◌*◌, ◌<◌, Bool, true, false, ◌&&◌, ◌||◌, refl, sym, ap, subst, rules}
+use Rattle.std.proofs.Common.{◌∙◌, arith, List, [], ◌∷◌, replicate}
 use Rattle.std.specs.List.{list_any, list_all}
 use Rattle.std.proofs.lemmas.Bool.{both_ways}
 use Rattle.std.proofs.lemmas.List.{length-replicate, get_or-replicate}
@@ -17,8 +17,6 @@ use Rattle.game_rules.proofs.Positions.{IsBoard-put}
 use Rattle.game_rules.proofs.PointLists.{other_first}
 use Rattle.board_symmetry.proofs.Common.{fits, inverse, point_image, empty_board, board_image, with_cell}
 use Rattle.board_symmetry.specs.declared.symmetry.Symmetry.{Symmetry}
-use Rattle.board_symmetry.specs.declared.symmetry.Symmetry.TheVariants.{Identity, Half, FlipX, FlipY, Quarter, ThreeQuarter, Diagonal}
-use Rattle.board_symmetry.specs.declared.symmetry.Symmetry.TheVariants.{AntiDiagonal}
 use Rattle.board_symmetry.proofs.Alike.{grid}
 use Rattle.board_symmetry.proofs.Eight.{turn_of}
 use Rattle.board_symmetry.proofs.BoardImages.{same_cells, image_ok, image_cell}
@@ -50,15 +48,11 @@ rising-distinct w k (p ∷ ps) rising =
 -- ---- one point more
 
 with_cell-sizes : (b : Grid) (p : Point) (c : Cell) → ((with_cell b p c).width ≡ b.width) × ((with_cell b p c).height ≡ b.height)
-with_cell-sizes b p Empty = (refl, refl)
-with_cell-sizes b p BlackStone = (refl, refl)
-with_cell-sizes b p WhiteStone = (refl, refl)
+with_cell-sizes b p c = search rules
 
 module _ (b : Grid) (ok : IsBoard b) (p : Point) (on : is_on b p ≡ true) where
   with_cell-ok : (c : Cell) → IsBoard (with_cell b p c)
-  with_cell-ok Empty = ok
-  with_cell-ok BlackStone = IsBoard-put b Black p ok
-  with_cell-ok WhiteStone = IsBoard-put b White p ok
+  with_cell-ok c = search (rules, IsBoard-put)
 
   with_cell-same : (c : Cell) → cell_at b p ≡ Empty → cell_at (with_cell b p c) p ≡ c
   with_cell-same Empty free = free
@@ -82,8 +76,7 @@ pub record Filled (s : Symmetry) (b image : Grid) (left : List Point) : Type 0 w
   pub free : (q : Point) → is_on b q ≡ true → is_listed q left ≡ true → cell_at image q ≡ Empty
 
 sized_on : (b image : Grid) (q : Point) → image.width ≡ b.width → image.height ≡ b.height → is_on b q ≡ true → is_on image q ≡ true
-sized_on b image q wide high on = ap (λ n. nat_lt q.x n && nat_lt q.y image.height) wide
-    ∙ ap (λ n. nat_lt q.x b.width && nat_lt q.y n) high ∙ on
+sized_on b image q wide high on = search rules
 
 module _ (s : Symmetry) (b image : Grid) (p : Point) (ps : List Point) (so_far : Filled s b image (p ∷ ps)) where
   next_on : is_on b p ≡ true
@@ -173,14 +166,7 @@ filled-all s b image ok so_far =
 -- ---- the same, with the numbers that the code has
 
 pub fits-inverse : (s : Symmetry) (w h : ℕ) → fits (inverse s) w h ≡ fits s w h
-fits-inverse Identity w h = refl
-fits-inverse Half w h = refl
-fits-inverse FlipX w h = refl
-fits-inverse FlipY w h = refl
-fits-inverse Quarter w h = refl
-fits-inverse ThreeQuarter w h = refl
-fits-inverse Diagonal w h = refl
-fits-inverse AntiDiagonal w h = refl
+fits-inverse s w h = search rules
 
 module _ (s back : Symmetry) (b image : Grid) (w h : ℕ) (wide : w ≡ b.width) (high : h ≡ b.height) (undoes : back ≡ inverse s)
     (fit : fits s b.width b.height ≡ true) where

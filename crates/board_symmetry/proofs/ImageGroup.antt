@@ -1,5 +1,5 @@
 -- Images of images, and images taken back.
-use Rattle.std.proofs.Common.{◌≡◌, ℕ, suc, true, refl, sym, ap, ◌∙◌, List, [], ◌∷◌, Some, slice_get}
+use Rattle.std.proofs.Common.{◌≡◌, ℕ, suc, true, refl, sym, ap, ◌∙◌, List, [], ◌∷◌, Some, slice_get, rules}
 use Rattle.std.specs.List.{AllByRecursion}
 use Rattle.game_rules.proofs.Common.{Grid, IsBoard, cell_at, points_within}
 use Rattle.game_rules.specs.declared.Point.{Point}
@@ -8,12 +8,9 @@ use Rattle.strategy_graph.proofs.Common.{RootOnBoard, listed_node, is_rising, Re
 use Rattle.strategy_graph.specs.declared.Reply.{Reply}
 use Rattle.strategy_graph.specs.declared.Node.{Node}
 use Rattle.strategy_graph.specs.declared.roots.Root.{Root}
-use Rattle.strategy_graph.specs.declared.roots.Root.TheVariants.{Attack, Defend}
 use Rattle.board_symmetry.proofs.Common.{fits, inverse, point_image, board_image, empty_board, replies_image, root_image, table_image}
 use Rattle.board_symmetry.proofs.Common.{IsRoot, Together, TakesBack}
 use Rattle.board_symmetry.specs.declared.symmetry.Symmetry.{Symmetry}
-use Rattle.board_symmetry.specs.declared.symmetry.Symmetry.TheVariants.{Identity, Half, FlipX, FlipY, Quarter, ThreeQuarter, Diagonal}
-use Rattle.board_symmetry.specs.declared.symmetry.Symmetry.TheVariants.{AntiDiagonal}
 use Rattle.board_symmetry.proofs.Turns.{Turn, within}
 use Rattle.board_symmetry.proofs.Eight.{turn_of}
 use Rattle.board_symmetry.proofs.Alike.{grid}
@@ -64,8 +61,7 @@ module _ (s t : Symmetry) (w h : ℕ) (fit_s : fits s w h ≡ true) (fit_t : fit
       } ∷ table_then nodes on.1 i
 
   root_then : (r : Root) → root_image t w h (root_image s w h r) ≡ root_image (composed s t) w h r
-  root_then (Attack i) = refl
-  root_then (Defend a) = λ i. Defend (record { replies = replies_then a.replies i; rest = a.rest })
+  root_then r = search (rules, replies_then)
 
 -- which points are on a board goes by its size alone
 pub names_sized : (b : Grid) (t : List Node) → TableOnBoard b t → TableOnBoard (empty_board b.width b.height) t
@@ -73,8 +69,7 @@ names_sized b [] on = tt
 names_sized b (n ∷ t) on = (record { attack = on.0.attack; replies = on.0.replies }, names_sized b t on.1)
 
 pub root_sized : (b : Grid) (r : Root) → RootOnBoard b r → RootOnBoard (empty_board b.width b.height) r
-root_sized b (Attack i) on = on
-root_sized b (Defend a) on = on
+root_sized b r on = search rules
 
 pub together : (s t : Symmetry) (b : Grid) → IsBoard b → fits s b.width b.height ≡ true → fits t b.width b.height ≡ true
     → Together s t (composed s t) b
@@ -104,14 +99,7 @@ together s t b ok fit_s fit_t = record {
 -- ---- taken back
 
 inverse-inverse : (s : Symmetry) → inverse (inverse s) ≡ s
-inverse-inverse Identity = refl
-inverse-inverse Half = refl
-inverse-inverse FlipX = refl
-inverse-inverse FlipY = refl
-inverse-inverse Quarter = refl
-inverse-inverse ThreeQuarter = refl
-inverse-inverse Diagonal = refl
-inverse-inverse AntiDiagonal = refl
+inverse-inverse s = search rules
 
 module _ (s : Symmetry) (w h : ℕ) (fit : fits s w h ≡ true) where
   replies_back : (rs : List Reply) → is_rising rs ≡ true → RepliesOn (empty_board w h) rs
@@ -135,8 +123,7 @@ module _ (s : Symmetry) (w h : ℕ) (fit : fits s w h ≡ true) where
 
   root_back : (r : Root) → IsRoot r → RootOnBoard (empty_board w h) r
       → root_image (inverse s) w h (root_image s w h r) ≡ r
-  root_back (Attack i) root on = refl
-  root_back (Defend a) root on = λ i. Defend (record { replies = replies_back a.replies root.rising on i; rest = a.rest })
+  root_back r root on = search (rules, replies_back)
 
 -- the replies of each node of a table rise
 all_rising : (t : List Node) → ((i : ℕ) (n : Node) → slice_get t i ≡ Some n → is_rising n.replies ≡ true)

@@ -1,6 +1,6 @@
 -- The cells of a board as those of its points in reading order.
 use Rattle.std.proofs.Common.{◌≡◌, ℕ, zero, suc, ◌+◌, ◌*◌, refl, sym, ap, ◌∙◌, arith, List, [], ◌∷◌, ◌++◌, map, length, get_or, drop}
-use Rattle.std.proofs.Common.{drop_of_length-le, add-one}
+use Rattle.std.proofs.Common.{drop_of_length-le, add-one, rules}
 use Rattle.std.specs.List.{flat_map, range_with_len}
 use Rattle.std.proofs.lemmas.List.{map-append}
 use Rattle.std.proofs.Math.Seq.{drop-cons}
@@ -25,9 +25,7 @@ module _ (w : ℕ) where
   row_places : (y x n : ℕ) → map place (row_from y x n) ≡ range_with_len (y * w + x) n
   unfolding place
   row_places y x zero = refl
-  row_places y x (suc n) =
-      let e : y * w + (x + 1) ≡ y * w + x + 1 = omega arith in
-      ap (λ (xs : List ℕ). (y * w + x) ∷ xs) (row_places y (x + 1) n ∙ ap (λ k. range_with_len k n) e)
+  row_places y x (suc n) = search (rules, row_places y (x + 1) n)
 
   rows_places : (n a : ℕ) → map place (flat_map (λ y. row_from y 0 w) (range_with_len a n)) ≡ range_with_len (a * w) (n * w)
   rows_places zero a = let z : 0 * w ≡ 0 = omega arith in rw z refl

@@ -1,29 +1,12 @@
 -- Fours counted on nine places, and on the same places read backwards.
-use Rattle.std.proofs.Common.{◌≡◌, ℕ, ◌-◌, ◌≤◌, Bool, true, false, cond, ◌&&◌, ◌||◌, refl, arith}
+use Rattle.std.proofs.Common.{◌≡◌, ℕ, ◌-◌, ◌≤◌, Bool, true, false, cond, ◌&&◌, ◌||◌, refl, arith, rules}
 use Rattle.game_rules.specs.Fours.{count_fours}
 
 and-back : (a b c d : Bool) → (a && (b && (c && (d && true)))) ≡ (d && (c && (b && (a && true))))
-and-back true true true true = refl
-and-back true true true false = refl
-and-back true true false true = refl
-and-back true true false false = refl
-and-back true false c true = and_false c where
-  and_false : (c : Bool) → false ≡ (c && false)
-  and_false true = refl
-  and_false false = refl
-and-back true false c false = refl
-and-back false b c d = and_false b c d where
-  and_false : (b c d : Bool) → false ≡ (d && (c && (b && false)))
-  and_false b c false = refl
-  and_false b false true = refl
-  and_false false true true = refl
-  and_false true true true = refl
+and-back a b c d = search rules
 
 or-back : (a b : Bool) → (a || (b || false)) ≡ (b || (a || false))
-or-back true true = refl
-or-back true false = refl
-or-back false true = refl
-or-back false false = refl
+or-back a b = search rules
 
 -- 1 where these four places hold stones and one of these places wins, else 0
 abbrev four : (ℕ → Bool) → (ℕ → Bool) → ℕ → ℕ → ℕ → ℕ → ℕ → ℕ
@@ -38,8 +21,7 @@ module _ (stone wins other others : ℕ → Bool) (same : (i : ℕ) → i ≤ 8 
   stones-back : (a b c d : ℕ) → a ≤ 8 → b ≤ 8 → c ≤ 8 → d ≤ 8
       → (other a && (other b && (other c && (other d && true))))
       ≡ (stone (8 - d) && (stone (8 - c) && (stone (8 - b) && (stone (8 - a) && true))))
-  stones-back a b c d i j k l = rw (same a i, same b j, same c k, same d l)
-      (and-back (stone (8 - a)) (stone (8 - b)) (stone (8 - c)) (stone (8 - d)))
+  stones-back a b c d i j k l = search (rules, and-back)
 
   back : (a b c d e : ℕ) → a ≤ 8 → b ≤ 8 → c ≤ 8 → d ≤ 8 → e ≤ 8 → four other others a b c d e
       ≡ four stone wins (8 - d) (8 - c) (8 - b) (8 - a) (8 - e)

@@ -1,6 +1,7 @@
 -- A symmetry by its parts: whether it exchanges x and y, and which of the two it then counts from the other end. So two
 -- symmetries one after another are one of the eight.
-use Rattle.std.proofs.Common.{◌≡◌, ℕ, ◌-◌, ◌<◌, Bool, true, false, ◌||◌, not, cond, refl, sym, ap, subst, ◌∙◌, arith}
+use Rattle.std.proofs.Common.{rules}
+use Rattle.std.proofs.Common.{◌≡◌, ℕ, ◌-◌, ◌<◌, Bool, true, false, ◌||◌, not, cond, sym, ap, ◌∙◌}
 use Rattle.std.specs.Prelude.{◌==◌}
 use Rattle.std.proofs.lemmas.Bool.Decides.{Decides-eqb}
 use Rattle.game_rules.specs.declared.Point.{Point}
@@ -53,43 +54,20 @@ abbrev taken : Bool → Bool → Bool → ℕ → ℕ → Point → Point
 taken e x y w h p = record { x = cond e (counted x h p.y) (counted x w p.x); y = cond e (counted y w p.x) (counted y h p.y) }
 
 image-taken : (s : Symmetry) (w h : ℕ) (p : Point) → point_image s w h p ≡ taken (exchanges s) (turns_x s) (turns_y s) w h p
-image-taken Identity w h p = refl
-image-taken Half w h p = refl
-image-taken FlipX w h p = refl
-image-taken FlipY w h p = refl
-image-taken Quarter w h p = refl
-image-taken ThreeQuarter w h p = refl
-image-taken Diagonal w h p = refl
-image-taken AntiDiagonal w h p = refl
+image-taken s w h p = search rules
 
 of_parts-taken : (e x y : Bool) (w h : ℕ) (p : Point) → point_image (of_parts e x y) w h p ≡ taken e x y w h p
-of_parts-taken false false false w h p = refl
-of_parts-taken false true true w h p = refl
-of_parts-taken false true false w h p = refl
-of_parts-taken false false true w h p = refl
-of_parts-taken true true false w h p = refl
-of_parts-taken true false true w h p = refl
-of_parts-taken true false false w h p = refl
-of_parts-taken true true true w h p = refl
+of_parts-taken e x y w h p = search rules
 
 of_parts-exchanges : (e x y : Bool) → exchanges (of_parts e x y) ≡ e
-of_parts-exchanges false false false = refl
-of_parts-exchanges false true true = refl
-of_parts-exchanges false true false = refl
-of_parts-exchanges false false true = refl
-of_parts-exchanges true true false = refl
-of_parts-exchanges true false true = refl
-of_parts-exchanges true false false = refl
-of_parts-exchanges true true true = refl
+of_parts-exchanges e x y = search rules
 
 -- one or the other, and not both
 abbrev either : Bool → Bool → Bool
 either r q = cond r (not q) q
 
 counted-twice : (r q : Bool) (n k : ℕ) → k < n → counted r n (counted q n k) ≡ counted (either r q) n k
-counted-twice true true n k low = omega arith
-counted-twice true false n k low = refl
-counted-twice false q n k low = refl
+counted-twice r q n k low = search rules
 
 -- the parts of one symmetry after another
 taken-square : (e f x y u v : Bool) (n : ℕ) (p : Point) → p.x < n → p.y < n
@@ -101,19 +79,7 @@ taken-square true true x y u v n p low_x low_y = λ i. record { x = counted-twic
 
 taken-then : (e f x y u v : Bool) (w h : ℕ) (p : Point) → p.x < w → p.y < h → (not e || w == h) ≡ true → (not f || w == h) ≡ true
     → taken f u v w h (taken e x y w h p) ≡ taken (either f e) (either u (cond f y x)) (either v (cond f x y)) w h p
-taken-then false false x y u v w h p low_x low_y fit fits = λ i. record {
-  x = counted-twice u x w p.x low_x i;
-  y = counted-twice v y h p.y low_y i;
-}
-taken-then true f x y u v w h p low_x low_y fit fits =
-    let same : w ≡ h = (Decides-eqb w h).0 fit in
-    subst (λ (k : ℕ). taken f u v w k (taken true x y w k p)
-    ≡ taken (either f true) (either u (cond f y x)) (either v (cond f x y)) w k p) same
-    (taken-square true f x y u v w p low_x (subst (λ (k : ℕ). p.y < k) (sym same) low_y))
-taken-then false true x y u v w h p low_x low_y fit fits =
-    let same : w ≡ h = (Decides-eqb w h).0 fits in
-    subst (λ (k : ℕ). taken true u v w k (taken false x y w k p) ≡ taken true (either u y) (either v x) w k p) same
-    (taken-square false true x y u v w p low_x (subst (λ (k : ℕ). p.y < k) (sym same) low_y))
+taken-then e f x y u v w h p low_x low_y fit fits = search (rules, counted-twice, Decides-eqb, taken-square)
 
 -- the symmetry that s and then t are
 pub composed : Symmetry → Symmetry → Symmetry
@@ -132,13 +98,8 @@ composed-point s t w h p on fit_s fit_t =
     ∙ sym (of_parts-taken (either (exchanges t) (exchanges s)) _ _ w h p)
 
 fits-either : (e f r : Bool) → (not e || r) ≡ true → (not f || r) ≡ true → (not (either f e) || r) ≡ true
-fits-either false false r a b = refl
-fits-either true false r a b = a
-fits-either false true r a b = b
-fits-either true true r a b = refl
+fits-either e f r a b = search rules
 
 pub composed-fits : (s t : Symmetry) (w h : ℕ) → fits s w h ≡ true → fits t w h ≡ true → fits (composed s t) w h ≡ true
 unfolding composed
-composed-fits s t w h fit_s fit_t =
-    ap (λ r. not r || w == h) (of_parts-exchanges (either (exchanges t) (exchanges s)) _ _)
-    ∙ fits-either (exchanges s) (exchanges t) (w == h) fit_s fit_t
+composed-fits s t w h fit_s fit_t = search (rules, of_parts-exchanges, fits-either)

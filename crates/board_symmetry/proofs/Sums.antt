@@ -1,8 +1,9 @@
 -- Sums over ranges of numbers and over the points of a board, in another order.
+use Rattle.std.proofs.Common.{rules}
 use Rattle.std.proofs.Common.{◌≡◌, ℕ, zero, suc, ◌+◌, ◌-◌, ◌≤◌, refl, sym, ap, ◌∙◌, arith, List, [], ◌∷◌, map}
 use Rattle.std.specs.List.{sum_by, flat_map, range_with_len}
 use Rattle.std.proofs.lemmas.List.Sums.{sum_by-cons, sum_by-append}
-use Rattle.game_rules.specs.Grid.{points_within, row_from}
+use Rattle.game_rules.specs.Grid.{points_within}
 use Rattle.game_rules.specs.declared.Point.{Point}
 
 -- ---- sums of numbers
@@ -44,12 +45,7 @@ sum_zero (y ∷ ys) = let all = sum_by-cons (λ y. 0) y ys in let rest = sum_zer
 
 sum_both : (f g : ℕ → ℕ) (ys : List ℕ) → sum_by (λ y. f y + g y) ys ≡ sum_by f ys + sum_by g ys
 sum_both f g [] = refl
-sum_both f g (y ∷ ys) =
-    let all = sum_by-cons (λ y. f y + g y) y ys in
-    let one = sum_by-cons f y ys in
-    let two = sum_by-cons g y ys in
-    let rest = sum_both f g ys in
-    omega (arith, all, one, two, rest)
+sum_both f g (y ∷ ys) = search (rules, sum_by-cons, sum_both f g ys)
 
 -- a sum of sums, the other way round
 pub exchanged : (g : ℕ → ℕ → ℕ) (xs ys : List ℕ) → sum_by (λ y. sum_by (λ x. g x y) xs) ys ≡ sum_by (λ x. sum_by (λ y. g x y) ys) xs
@@ -66,15 +62,11 @@ exchanged g (x ∷ xs) ys =
 -- a sum over what a list is mapped to
 pub sum_by-map : {X Y : Type 0} (f : Y → ℕ) (at : X → Y) (xs : List X) → sum_by f (map at xs) ≡ sum_by (λ x. f (at x)) xs
 sum_by-map f at [] = refl
-sum_by-map f at (x ∷ xs) =
-    sum_by-cons f (at x) (map at xs) ∙ ap (λ k. f (at x) + k) (sum_by-map f at xs) ∙ sym (sum_by-cons (λ x. f (at x)) x xs)
+sum_by-map f at (x ∷ xs) = search (rules, sum_by-cons, sum_by-map f at xs)
 
 sum_by-flat_map : (f : Point → ℕ) (row : ℕ → List Point) (ys : List ℕ) → sum_by f (flat_map row ys) ≡ sum_by (λ y. sum_by f (row y)) ys
 sum_by-flat_map f row [] = refl
-sum_by-flat_map f row (y ∷ ys) =
-    sum_by-append f (row y) (flat_map row ys)
-    ∙ ap (λ k. sum_by f (row y) + k) (sum_by-flat_map f row ys)
-    ∙ sym (sum_by-cons (λ y. sum_by f (row y)) y ys)
+sum_by-flat_map f row (y ∷ ys) = search (rules, sum_by-append, sum_by-cons, sum_by-flat_map f row ys)
 
 module _ (f : Point → ℕ) (w h : ℕ) where
   -- the sum over the points of one row
@@ -83,7 +75,4 @@ module _ (f : Point → ℕ) (w h : ℕ) where
 
   -- a sum over the points of a board, row by row
   pub points_sum : sum_by f (points_within w h) ≡ sum_by row_sum (range_with_len 0 h)
-  points_sum =
-      sum_by-flat_map f (λ y. row_from y 0 w) (range_with_len 0 h)
-      ∙ ap (λ (g : ℕ → ℕ). sum_by g (range_with_len 0 h))
-      (λ i y. sum_by-map f (λ x. let p : Point = record { x = x; y = y } in p) (range_with_len 0 w) i)
+  points_sum = search (rules, sum_by-flat_map, sum_by-map)

@@ -1,6 +1,6 @@
 -- A board and what a turn makes of it: sums and tests over all points, numbers of stones, threes, fouls, outcomes.
-use Rattle.std.proofs.Common.{◌≡◌, ℕ, zero, suc, ◌+◌, Bool, true, false, ◌&&◌, ◌||◌, nat_eq, nat_le, cond, refl, sym}
-use Rattle.std.proofs.Common.{ap, ◌∙◌, List, [], ◌∷◌, map, Option, None, is_none, sum_by, count_by}
+use Rattle.std.proofs.Common.{◌≡◌, ℕ, zero, suc, ◌+◌, Bool, true, ◌&&◌, ◌||◌, nat_eq, nat_le, cond, refl, sym}
+use Rattle.std.proofs.Common.{ap, ◌∙◌, List, [], ◌∷◌, map, Option, None, is_none, sum_by, count_by, rules}
 use Rattle.std.specs.Cmp.{both_ways}
 use Rattle.std.specs.List.{list_any, list_all}
 use Rattle.std.proofs.lemmas.List.Sums.{sum_by-cons}
@@ -30,20 +30,12 @@ use Rattle.board_symmetry.proofs.Listed.{cells_listed}
 sum_where : (on : Point → Bool) (f g : Point → ℕ) (ps : List Point) → list_all on ps ≡ true → ((q : Point) → on q ≡ true → f q ≡ g q)
     → sum_by f ps ≡ sum_by g ps
 sum_where on f g [] all same = refl
-sum_where on f g (p ∷ ps) all same =
-    sum_by-cons f p ps
-    ∙ ap (λ n. n + sum_by f ps) (same p (and_left (on p) _ all))
-    ∙ ap (λ n. g p + n) (sum_where on f g ps (and_right (on p) _ all) same)
-    ∙ sym (sum_by-cons g p ps)
+sum_where on f g (p ∷ ps) all same = search (rules, sum_by-cons, and_left, and_right, sum_where on f g ps (and_right (on p) _ all) same)
 
 any_where : (on f : Point → Bool) (ps : List Point) → list_all on ps ≡ true → list_any f ps ≡ true → (q : Point) × (on q ≡ true)
     × (f q ≡ true)
 any_where on f [] all h = cc
-any_where on f (p ∷ ps) all h = by_test (f p) refl h (any_where on f ps (and_right (on p) _ all)) where
-  by_test : (r : Bool) → f p ≡ r → (r || list_any f ps) ≡ true → (list_any f ps ≡ true → (q : Point) × (on q ≡ true) × (f q ≡ true))
-      → (q : Point) × (on q ≡ true) × (f q ≡ true)
-  by_test true e k rest = (p, and_left (on p) _ all, e)
-  by_test false e k rest = rest k
+any_where on f (p ∷ ps) all h = search (rules, and_right, and_left, any_where on f ps (and_right (on p) _ all))
 
 module _ (w h : ℕ) (to from : Point → Point) (turn : Turn w h to from) where
   -- ---- all points of a board, and their images
@@ -142,9 +134,7 @@ module _ (w h : ℕ) (to from : Point → Point) (turn : Turn w h to from) (xs y
     (on : within w h p ≡ true) where
   black_foul-same : black_foul rule (grid w h ys) (to p) ≡ black_foul rule (grid w h xs) p
   unfolding black_foul
-  black_foul-same =
-      ap (λ n. black_foul_within n rule (grid w h ys) (to p)) (empties-same w h to from turn xs ys turned)
-      ∙ foul_within-same w h to from turn (empties_of (grid w h xs)) xs ys turned rule p on
+  black_foul-same = search (rules, grid, empties-same, foul_within-same)
 
   pub foul-same : (s : Side) → foul_of rule (grid w h ys) s (to p) ≡ foul_of rule (grid w h xs) s p
   foul-same s = ap (λ (o : Option Foul). cond (has_fouls rule s) o None) black_foul-same

@@ -1,6 +1,6 @@
 -- A board and what a turn makes of it: fours, straight fours, three points.
-use Rattle.std.proofs.Common.{◌≡◌, inl, inr, ℕ, zero, suc, ◌+◌, ◌-◌, ◌≤◌, Bool, true, false, ◌&&◌, not, nat_eq}
-use Rattle.std.proofs.Common.{refl, sym, ap, subst, ◌∙◌, arith, List, Some}
+use Rattle.std.proofs.Common.{◌≡◌, inl, inr, ℕ, zero, suc, ◌+◌, ◌-◌, ◌≤◌, Bool, true, ◌&&◌, not, nat_eq}
+use Rattle.std.proofs.Common.{refl, sym, ap, subst, ◌∙◌, arith, List, Some, rules}
 use Rattle.std.specs.Cmp.{both_ways}
 use Rattle.std.specs.List.{list_any, range_with_len}
 use Rattle.std.proofs.lemmas.Bool.{or_left, or_right, or_cases}
@@ -49,11 +49,7 @@ InRun-in_run b s d p q (Behind, suc k, far, here) =
     (any_found (λ k. is_at q (along d p 0 k)) (stones_behind b s d p) 1 (suc k) (omega arith) (omega arith) (is_at-here q _ here))
 
 and-turned : (r a b : Bool) → ((r && a) && b) ≡ ((r && b) && a)
-and-turned true true true = refl
-and-turned true true false = refl
-and-turned true false true = refl
-and-turned true false false = refl
-and-turned false a b = refl
+and-turned r a b = search rules
 
 module _ (w h : ℕ) (to from : Point → Point) (turn : Turn w h to from) where
   -- each way is that of one of the two ways

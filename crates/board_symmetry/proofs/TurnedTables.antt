@@ -1,6 +1,6 @@
 -- A table whose points a turn took to other points says of the board that the turn made what the table says of the board.
 use Rattle.std.proofs.Common.{◌≡◌, ◌↔◌, ℕ, zero, suc, max, true, cond, refl, sym, ap, subst, ◌∙◌, List, [], ◌∷◌}
-use Rattle.std.proofs.Common.{map, false, Option, Some, None, slice_get, IsSomeAnd, option_and_then, option_map}
+use Rattle.std.proofs.Common.{map, false, Option, Some, None, slice_get, IsSomeAnd, option_and_then, option_map, rules}
 use Rattle.std.specs.Option.{option_or, option_map_or}
 use Rattle.std.specs.List.{list_all}
 use Rattle.std.proofs.lemmas.Option.{slice_get-map}
@@ -15,8 +15,8 @@ use Rattle.game_rules.proofs.Games.{WinsOr-map}
 use Rattle.strategy_graph.proofs.Common.{rest_nodes, node_depth, Answers, answers_of, answer, answer_at, rest_node, named, is_winning}
 use Rattle.strategy_graph.proofs.Common.{NamesOnBoard, TableOnBoard, IsTable, greatest, depth_within, depth, start_depth, is_rising}
 use Rattle.strategy_graph.proofs.Common.{RepliesOn, Meets, AcceptedNode, AcceptedWithin, Accepted, AcceptedStart, arrivals_at}
-use Rattle.strategy_graph.proofs.Common.{arrivals_after, arrivals_behind, arrivals_within, arrivals, start_arrivals, End, NoMove, Open}
-use Rattle.strategy_graph.proofs.Common.{after_attack, after_reply, if_node, one_later, end_at, game}
+use Rattle.strategy_graph.proofs.Common.{arrivals_after, arrivals_behind, arrivals_within, arrivals, start_arrivals, End, Open}
+use Rattle.strategy_graph.proofs.Common.{after_reply, if_node, end_at, game}
 use Rattle.strategy_graph.specs.declared.Node.{Node}
 use Rattle.strategy_graph.proofs.Answering.{IsSomeAnd-map}
 use Rattle.strategy_graph.proofs.Naming.{greatest-parts}
@@ -121,8 +121,7 @@ module _ (w h : ℕ) (to from : Point → Point) (turn : Turn w h to from) where
     Counts m k = (j : ℕ) (xs ys : List Cell) → Turned w h to xs ys → k j (grid w h ys) ≡ m j (grid w h xs)
 
     answered-count : (o : Option ℕ) (m k : ℕ → ℕ) → ((j : ℕ) → k j ≡ m j) → option_map_or k o 0 ≡ option_map_or m o 0
-    answered-count None m k same = refl
-    answered-count (Some j) m k same = same j
+    answered-count o m k same = search rules
 
     module _ (m k : ℕ → Grid → ℕ) (counts : Counts m k) where
       arrivals_after-same : (a : Answers) (xs ys : List Cell) → Turned w h to xs ys
@@ -173,16 +172,10 @@ module _ (w h : ℕ) (to from : Point → Point) (turn : Turn w h to from) where
         → ((n : Node) → o ≡ Some n → NamesOnBoard (empty_board w h) n)
         → (here there : Node → End) → ((n : Node) → within w h n.attack ≡ true → there (node_to n) ≡ here n)
         → end_at rule (option_map node_to o) (grid w h ys) there ≡ end_at rule o (grid w h xs) here
-    end_at-same None xs ys turned names here there same = refl
-    end_at-same (Some n) xs ys turned names here there same =
-        let on : within w h n.attack ≡ true = (names n refl).attack in
-        ap (λ (o : Outcome). after_attack o (cond (is_winning n.rest) NoMove (there (node_to n))))
-        (outcome-same w h to from turn xs ys turned rule n.attack on)
-        ∙ ap (λ (e : End). after_attack (outcome rule (grid w h xs) n.attack) (cond (is_winning n.rest) NoMove e)) (same n on)
+    end_at-same o xs ys turned names here there same = search (rules, within, outcome-same, grid)
 
     node_end : (o : Option ℕ) (e f : ℕ → End) → ((j : ℕ) → f j ≡ e j) → if_node o f ≡ if_node o e
-    node_end None e f same = refl
-    node_end (Some j) e f same = ap one_later (same j)
+    node_end o e f same = search rules
 
     pub game-same : (i : ℕ) (xs ys : List Cell) (qs : List Point) → Turned w h to xs ys → list_all (within w h) qs ≡ true
         → game rule (map node_to t) i (grid w h ys) (map to qs) ≡ game rule t i (grid w h xs) qs
@@ -258,6 +251,4 @@ module _ (w h : ℕ) (to from : Point → Point) (turn : Turn w h to from) where
 
     pub start_depth-same : (a : Answers) → is_rising a.replies ≡ true → RepliesOn (empty_board w h) a.replies
         → start_depth (map node_to t) (answers_to a) ≡ start_depth t a
-    start_depth-same a rising on =
-        let alike : depth (map node_to t) ≡ depth t = λ i j. depth-same j i in
-        ap (λ (f : ℕ → ℕ). greatest (map f (named (answers_to a)))) alike ∙ named-same (depth t) a rising on
+    start_depth-same a rising on = search (rules, depth-same, named-same)

@@ -1,7 +1,7 @@
 -- Turns of a board: maps of its points onto themselves that carry lines to lines. The eight symmetries are turns, and what holds
 -- of a board holds of what a turn makes of it.
 use Rattle.std.proofs.Common.{◌≡◌, ℕ, ◌-◌, ◌<◌, Bool, true, false, ◌&&◌, ◌||◌, cond, refl, sym, ap, ◌∙◌}
-use Rattle.std.proofs.Common.{arith, Some, nat_lt, sum_by}
+use Rattle.std.proofs.Common.{arith, Some, nat_lt, sum_by, rules}
 use Rattle.std.specs.List.{list_any, range_with_len}
 use Rattle.std.proofs.lemmas.Bool.{lt-ltb}
 use Rattle.game_rules.proofs.Common.{axes, points_within, go, opposite}
@@ -73,12 +73,10 @@ OnWay Ahead d p x y q = OnLine d p x y q
 OnWay Behind d p x y q = OnLine d p y x q
 
 go-OnWay : (v : Way) (d : Axis) (p q : Point) (x y : ℕ) → go v d p x y ≡ Some q → OnWay v d p x y q
-go-OnWay Ahead d p q x y e = along-OnLine d p x y q e
-go-OnWay Behind d p q x y e = along-OnLine d p y x q e
+go-OnWay v d p q x y e = search (rules, along-OnLine)
 
 OnWay-go : (v : Way) (d : Axis) (p q : Point) (x y : ℕ) → OnWay v d p x y q → go v d p x y ≡ Some q
-OnWay-go Ahead d p q x y l = OnLine-along d p x y q l
-OnWay-go Behind d p q x y l = OnLine-along d p y x q l
+OnWay-go v d p q x y l = search (rules, OnLine-along)
 
 -- ---- the turn that moves nothing
 
@@ -107,9 +105,7 @@ stay w h = record {
 -- ---- flips of one axis
 
 or-swap : (a b c : Bool) → (a || (b || c)) ≡ (b || (a || c))
-or-swap true true c = refl
-or-swap true false c = refl
-or-swap false b c = refl
+or-swap a b c = search rules
 
 -- the two slanting axes change places
 abbrev flip_axis : Axis → Axis
@@ -129,10 +125,7 @@ abbrev turned_way : (Axis → Bool) → Axis → Way → Way
 turned_way turned d v = cond (turned d) (opposite v) v
 
 turned_way-opposite : (turned : Axis → Bool) (d : Axis) (v : Way) → turned_way turned d (opposite v) ≡ opposite (turned_way turned d v)
-turned_way-opposite turned d v = by_test (turned d) where
-  by_test : (r : Bool) → cond r (opposite (opposite v)) (opposite v) ≡ opposite (cond r (opposite v) v)
-  by_test true = refl
-  by_test false = refl
+turned_way-opposite turned d v = search rules
 
 -- left and right
 abbrev flip_x : ℕ → Point → Point
@@ -150,31 +143,14 @@ way_x = turned_way turns_x
 module _ (w h : ℕ) where
   flip_x-steps : (v : Way) (d : Axis) (p q : Point) (x y : ℕ) → p.x < w → q.x < w → OnWay v d p x y q
       → OnWay (way_x d v) (flip_axis d) (flip_x w p) x y (flip_x w q)
-  flip_x-steps Ahead Row p q x y l k e = (omega arith, omega arith)
-  flip_x-steps Ahead Column p q x y l k e = (omega arith, omega arith)
-  flip_x-steps Ahead Down p q x y l k e = (omega arith, omega arith)
-  flip_x-steps Ahead Up p q x y l k e = (omega arith, omega arith)
-  flip_x-steps Behind Row p q x y l k e = (omega arith, omega arith)
-  flip_x-steps Behind Column p q x y l k e = (omega arith, omega arith)
-  flip_x-steps Behind Down p q x y l k e = (omega arith, omega arith)
-  flip_x-steps Behind Up p q x y l k e = (omega arith, omega arith)
+  flip_x-steps v d p q x y l k e = search rules
 
   flip_x-back : (v : Way) (d : Axis) (p q : Point) (x y : ℕ) → p.x < w → q.x < w
       → OnWay (way_x d v) (flip_axis d) (flip_x w p) x y (flip_x w q) → OnWay v d p x y q
-  flip_x-back Ahead Row p q x y l k e = (omega arith, omega arith)
-  flip_x-back Ahead Column p q x y l k e = (omega arith, omega arith)
-  flip_x-back Ahead Down p q x y l k e = (omega arith, omega arith)
-  flip_x-back Ahead Up p q x y l k e = (omega arith, omega arith)
-  flip_x-back Behind Row p q x y l k e = (omega arith, omega arith)
-  flip_x-back Behind Column p q x y l k e = (omega arith, omega arith)
-  flip_x-back Behind Down p q x y l k e = (omega arith, omega arith)
-  flip_x-back Behind Up p q x y l k e = (omega arith, omega arith)
+  flip_x-back v d p q x y l k e = search rules
 
   flip_x-undone : (p : Point) → within w h p ≡ true → flip_x w (flip_x w p) ≡ p
-  flip_x-undone p on =
-      let low = within_x w h p on in
-      let same : w - 1 - (w - 1 - p.x) ≡ p.x = omega (arith, low) in
-      λ i. record { x = same i; y = p.y }
+  flip_x-undone p on = search (rules, within_x)
 
   flip_x-kept : (p : Point) → within w h p ≡ true → within w h (flip_x w p) ≡ true
   flip_x-kept p on = let low = within_x w h p on in within_by w h (flip_x w p) (omega (arith, low)) (within_y w h p on)
@@ -220,31 +196,14 @@ way_y = turned_way turns_y
 module _ (w h : ℕ) where
   flip_y-steps : (v : Way) (d : Axis) (p q : Point) (x y : ℕ) → p.y < h → q.y < h → OnWay v d p x y q
       → OnWay (way_y d v) (flip_axis d) (flip_y h p) x y (flip_y h q)
-  flip_y-steps Ahead Row p q x y l k e = (omega arith, omega arith)
-  flip_y-steps Ahead Column p q x y l k e = (omega arith, omega arith)
-  flip_y-steps Ahead Down p q x y l k e = (omega arith, omega arith)
-  flip_y-steps Ahead Up p q x y l k e = (omega arith, omega arith)
-  flip_y-steps Behind Row p q x y l k e = (omega arith, omega arith)
-  flip_y-steps Behind Column p q x y l k e = (omega arith, omega arith)
-  flip_y-steps Behind Down p q x y l k e = (omega arith, omega arith)
-  flip_y-steps Behind Up p q x y l k e = (omega arith, omega arith)
+  flip_y-steps v d p q x y l k e = search rules
 
   flip_y-back : (v : Way) (d : Axis) (p q : Point) (x y : ℕ) → p.y < h → q.y < h
       → OnWay (way_y d v) (flip_axis d) (flip_y h p) x y (flip_y h q) → OnWay v d p x y q
-  flip_y-back Ahead Row p q x y l k e = (omega arith, omega arith)
-  flip_y-back Ahead Column p q x y l k e = (omega arith, omega arith)
-  flip_y-back Ahead Down p q x y l k e = (omega arith, omega arith)
-  flip_y-back Ahead Up p q x y l k e = (omega arith, omega arith)
-  flip_y-back Behind Row p q x y l k e = (omega arith, omega arith)
-  flip_y-back Behind Column p q x y l k e = (omega arith, omega arith)
-  flip_y-back Behind Down p q x y l k e = (omega arith, omega arith)
-  flip_y-back Behind Up p q x y l k e = (omega arith, omega arith)
+  flip_y-back v d p q x y l k e = search rules
 
   flip_y-undone : (p : Point) → within w h p ≡ true → flip_y h (flip_y h p) ≡ p
-  flip_y-undone p on =
-      let low = within_y w h p on in
-      let same : h - 1 - (h - 1 - p.y) ≡ p.y = omega (arith, low) in
-      λ i. record { x = p.x; y = same i }
+  flip_y-undone p on = search (rules, within_y)
 
   flip_y-kept : (p : Point) → within w h p ≡ true → within w h (flip_y h p) ≡ true
   flip_y-kept p on = let low = within_y w h p on in within_by w h (flip_y h p) (within_x w h p on) (omega (arith, low))
@@ -293,24 +252,10 @@ abbrev swap_way : Axis → Way → Way
 swap_way = turned_way turns_swap
 
 swap-steps : (v : Way) (d : Axis) (p q : Point) (x y : ℕ) → OnWay v d p x y q → OnWay (swap_way d v) (swap_axis d) (swap p) x y (swap q)
-swap-steps Ahead Row p q x y e = (omega arith, omega arith)
-swap-steps Ahead Column p q x y e = (omega arith, omega arith)
-swap-steps Ahead Down p q x y e = (omega arith, omega arith)
-swap-steps Ahead Up p q x y e = (omega arith, omega arith)
-swap-steps Behind Row p q x y e = (omega arith, omega arith)
-swap-steps Behind Column p q x y e = (omega arith, omega arith)
-swap-steps Behind Down p q x y e = (omega arith, omega arith)
-swap-steps Behind Up p q x y e = (omega arith, omega arith)
+swap-steps v d p q x y e = search rules
 
 swap-back : (v : Way) (d : Axis) (p q : Point) (x y : ℕ) → OnWay (swap_way d v) (swap_axis d) (swap p) x y (swap q) → OnWay v d p x y q
-swap-back Ahead Row p q x y e = (omega arith, omega arith)
-swap-back Ahead Column p q x y e = (omega arith, omega arith)
-swap-back Ahead Down p q x y e = (omega arith, omega arith)
-swap-back Ahead Up p q x y e = (omega arith, omega arith)
-swap-back Behind Row p q x y e = (omega arith, omega arith)
-swap-back Behind Column p q x y e = (omega arith, omega arith)
-swap-back Behind Down p q x y e = (omega arith, omega arith)
-swap-back Behind Up p q x y e = (omega arith, omega arith)
+swap-back v d p q x y e = search rules
 
 module _ (n : ℕ) where
   swap-kept : (p : Point) → within n n p ≡ true → within n n (swap p) ≡ true
