@@ -1,14 +1,12 @@
 -- The board of a batch, whose stones are put one by one, and the side to move on it.
 use Rattle.std.proofs.Common.{Option, Some, None, ◌==◌, All, AllPairs, IsSome, count_by, ◌≡◌, ℕ, zero, suc, ◌+◌, ◌≤◌}
 use Rattle.std.proofs.Common.{◌<◌, Bool, true, false, cond, refl, sym, ap, ◌∙◌, arith, List, [], ◌∷◌, length, get_or, take}
-use Rattle.std.proofs.Common.{IfSome, MatchOption, inl, inr, not}
+use Rattle.std.proofs.Common.{IfSome, MatchOption, not, rules}
 use Rattle.std.proofs.lemmas.List.Sums.{fold_more, sum_by-cons}
-use Rattle.std.proofs.lemmas.Bool.Decides.{nat_tests}
 use Rattle.game_rules.proofs.Common.{Grid, is_on, is_empty, put, IsBoard, is_stone_of, stone_of, stones_of, is_same_point, NamesMover}
 use Rattle.game_rules.proofs.Common.{other, mover}
 use Rattle.game_rules.specs.declared.Side.{Side}
 use Rattle.game_rules.specs.declared.Point.{Point}
-use Rattle.game_rules.specs.declared.Side.TheVariants.{Black, White}
 use Rattle.game_rules.proofs.Boards.{is_empty-on, is_empty-put}
 use Rattle.game_rules.proofs.Points.{is_same_point-apart}
 use Rattle.game_rules.proofs.Positions.{IsBoard-put, stones_of-put}
@@ -30,9 +28,7 @@ pub record Waits (stones : List BatchStone) (i : ℕ) (board : Grid) : Type 0 wh
 -- the stones fit the empty board, whether a batch is read or not
 pub fit-stones : (o : Option Batch) (board : Grid) (stones : List BatchStone) → IfSome o (StonesFit board)
     → MatchOption o (stones ≡ []) (λ b. stones ≡ b.stones) → StonesFit board (record { stones = stones; bad = false })
-fit-stones None board stones fit same = rw same
-    (record { on_board = λ k d less. absurd (omega arith); distinct = λ i j d less more. absurd (omega arith) })
-fit-stones (Some b) board stones fit same = rw same (record { on_board = fit.on_board; distinct = fit.distinct })
+fit-stones o board stones fit same = search rules
 
 pub waits-next : (stones : List BatchStone) (i : ℕ) (start board next : Grid) (side : Side) (d : BatchStone)
     → StonesFit start (record { stones = stones; bad = false }) → Waits stones i board → i < length stones
@@ -58,11 +54,7 @@ side-other brain side opponent own fails e f = rw fails (e ∙ f)
 pub put-more : (brain side : Side) (start board next : Grid) (stones : List BatchStone) (i : ℕ) (d : BatchStone) → i < length stones
     → side ≡ side_of brain (get_or stones i d) → next ≡ put board side (get_or stones i d).at
     → board ≡ with_batch_stones brain start (take i stones) → next ≡ with_batch_stones brain start (take (i + 1) stones)
-put-more brain side start board next stones i d less by put_here so_far =
-    let more : with_batch_stones brain start (take (i + 1) stones) ≡ put (with_batch_stones brain start (take i stones))
-    (side_of brain (get_or stones i d)) (get_or stones i d).at =
-    fold_more (λ (c : Grid) (s : BatchStone). put c (side_of brain s) s.at) start stones i d less in
-    put_here ∙ rw (by, so_far) (sym more)
+put-more brain side start board next stones i d less by put_here so_far = search (rules, fold_more)
 
 -- the stones on the board after these were put are those before, and these
 stones_of-with : (brain s : Side) (stones : List BatchStone) (b : Grid) → IsBoard b → All (λ x. is_empty b x.at ≡ true) stones
@@ -86,28 +78,11 @@ stones_of-with brain s (x ∷ xs) b board empty distinct =
 
 count_by-same : (f g : BatchStone → Bool) (xs : List BatchStone) → ((x : BatchStone) → f x ≡ g x) → count_by f xs ≡ count_by g xs
 count_by-same f g [] same = refl
-count_by-same f g (x ∷ xs) same =
-    sum_by-cons (λ (y : BatchStone). cond (f y) 1 0) x xs
-    ∙ ap (λ (r : Bool). cond r 1 0 + count_by f xs) (same x)
-    ∙ ap (λ (n : ℕ). cond (g x) 1 0 + n) (count_by-same f g xs same)
-    ∙ sym (sum_by-cons (λ (y : BatchStone). cond (g y) 1 0) x xs)
+count_by-same f g (x ∷ xs) same = search (rules, sum_by-cons, count_by-same f g xs same)
 
 mover-by : (brain : Side) (b : Grid) (own others : ℕ) → stones_of b brain ≡ own → stones_of b (other brain) ≡ others
     → colour_by own others ≡ Some brain → mover b ≡ brain
-mover-by Black b own others mine theirs colour = by_test (own == others) refl where
-  by_test : (r : Bool) → (own == others) ≡ r → mover b ≡ Black
-  by_test true e = rw (mine, theirs, e) refl
-  by_test false e = by_more (others == own + 1) refl where
-    by_more : (r : Bool) → (others == own + 1) ≡ r → mover b ≡ Black
-    by_more true f = let wrong : Some White ≡ Some Black = rw (e, f) at colour in cc
-    by_more false f = let wrong : None ≡ Some Black = rw (e, f) at colour in cc
-mover-by White b own others mine theirs colour = by_test (own == others) refl where
-  by_test : (r : Bool) → (own == others) ≡ r → mover b ≡ White
-  by_test true e = let wrong : Some Black ≡ Some White = rw e at colour in cc
-  by_test false e = by_more (others == own + 1) refl where
-    by_more : (r : Bool) → (others == own + 1) ≡ r → mover b ≡ White
-    by_more true f = let differ : (others == own) ≡ false = grind (arith, nat_tests) in rw (mine, theirs, differ) refl
-    by_more false f = let wrong : None ≡ Some White = rw (e, f) at colour in cc
+mover-by brain b own others mine theirs colour = search rules
 
 none : (n k : ℕ) → n ≡ 0 → n + k ≡ k
 none n k e = omega arith
@@ -144,24 +119,7 @@ batch-mover brain width height stones bad board fit colour =
 -- where the counts of the batch's board name the brain as the side to move, its stones name the brain's colour
 pub batch-colour : (brain : Side) (b : Grid) (own others : ℕ) → NamesMover b → mover b ≡ brain → stones_of b brain ≡ own
     → stones_of b (other brain) ≡ others → colour_by own others ≡ Some brain
-batch-colour Black b own others names turn mine theirs = by_test (stones_of b Black == stones_of b White) refl where
-  by_test : (r : Bool) → (stones_of b Black == stones_of b White) ≡ r → colour_by own others ≡ Some Black
-  by_test true e = let even : (own == others) ≡ true = rw (mine, theirs) at e in rw even refl
-  by_test false e = let wrong : White ≡ Black = rw e at turn in cc
-batch-colour White b own others names turn mine theirs = by_test (stones_of b Black == stones_of b White) refl where
-  one_more : NamesMover b → (stones_of b Black == stones_of b White) ≡ false → others ≡ own + 1
-  one_more (inl even) e = absurd
-      (let same : (stones_of b Black == stones_of b White) ≡ true = grind (arith, nat_tests) in let wrong : true ≡ false =
-      sym same ∙ e in cc)
-  one_more (inr more) e = sym theirs ∙ more ∙ ap (λ (n : ℕ). n + 1) mine
-
-  by_test : (r : Bool) → (stones_of b Black == stones_of b White) ≡ r → colour_by own others ≡ Some White
-  by_test true e = let wrong : Black ≡ White = rw e at turn in cc
-  by_test false e =
-      let more = one_more names e in
-      let differ : (own == others) ≡ false = grind (arith, nat_tests) in
-      let next : (others == own + 1) ≡ true = grind (arith, nat_tests) in
-      rw (differ, next) refl
+batch-colour brain b own others names turn mine theirs = search rules
 
 -- the same on the board that a batch gave, where one is read
 pub batch-to_move : (o : Option Batch) (brain : Side) (width height : ℕ) (c : Grid) → IsSome o → IsBoard (empty_board width height)

@@ -1,7 +1,7 @@
 -- A batch has room for a stone on each free point: its stones stand on different points of a board, which has few.
-use Rattle.std.proofs.Common.{◌≡◌, ℕ, ◌<◌, ◌≤◌, ◌*◌, ◌++◌, Bool, true, false, not, refl, sym, ap, subst}
+use Rattle.std.proofs.Common.{◌≡◌, ℕ, ◌<◌, ◌≤◌, ◌*◌, ◌++◌, Bool, true, false, not, sym, subst, rules}
 use Rattle.std.proofs.Common.{◌∙◌, arith, List, [], ◌∷◌, map, length, get_or, length-append, Option, Some, None, IfSome, IsSome}
-use Rattle.std.proofs.Common.{is_some, if◌then◌else◌}
+use Rattle.std.proofs.Common.{if◌then◌else◌}
 use Rattle.std.specs.List.{list_any, IsDistinct}
 use Rattle.std.specs.Cmp.{IsEquivalence}
 use Rattle.std.proofs.lemmas.List.{get_or-map, length-map}
@@ -18,28 +18,16 @@ use Rattle.game_rules.proofs.Points.{is_same_point-itself, is_same_point-same, p
 use Rattle.strategy_checker.specs.HeldRoots.{HeldTable}
 use Rattle.brain_session.specs.declared.TheConstants.{MAX_POINTS}
 use Rattle.brain_session.specs.declared.batch.BatchStone.{BatchStone}
-use Rattle.brain_session.proofs.Common.{Batch, Place, NoBoard, Fresh, InGame, State, has_stone_at, board_in, IsPlayed, IsPlace, IsBrain}
+use Rattle.brain_session.proofs.Common.{Batch, Place, State, has_stone_at, board_in, IsPlayed, IsPlace, IsBrain}
 use Rattle.brain_session.proofs.Common.{StonesFit, IsPointOn}
 use Rattle.brain_session.proofs.SessionGames.{start-lawful}
 use Rattle.brain_session.proofs.Takings.{stone_fits, told-on}
 
 same-symm : (p q : Point) → is_same_point p q ≡ is_same_point q p
-same-symm p q = by (is_same_point p q) (is_same_point q p) refl refl where
-  by : (s t : Bool) → is_same_point p q ≡ s → is_same_point q p ≡ t → is_same_point p q ≡ is_same_point q p
-  by true t e f =
-      let same = is_same_point-same p q e in
-      subst (λ (r : Point). is_same_point p r ≡ is_same_point r p) same refl
-  by false true e f =
-      let same = is_same_point-same q p f in
-      subst (λ (r : Point). is_same_point r q ≡ is_same_point q r) same refl
-  by false false e f = e ∙ sym f
+same-symm p q = search (rules, is_same_point-same)
 
 same-points : IsEquivalence is_same_point
-same-points = record {
-  refl = is_same_point-itself;
-  symm = same-symm;
-  congr = λ x y z e. ap (λ (p : Point). is_same_point p z) (is_same_point-same x y e);
-}
+same-points = search (rules, is_same_point-itself, same-symm, is_same_point-same)
 
 -- the stones stand on so many points of the board at most
 few-stones : (b : Grid) (stones : List BatchStone) (bad : Bool) → StonesFit b (record { stones = stones; bad = bad })
@@ -100,10 +88,7 @@ lawful-start true rule start (p ∷ before) played = start-lawful rule start bef
 -- it is no larger than the largest
 fitting : (h : HeldTable) (place : Place) → IsPlace h place
     → ((board_in place).width ≤ MAX_SIDE) × ((board_in place).height ≤ MAX_SIDE)
-fitting h NoBoard is = (omega arith, omega arith)
-fitting h (Fresh width height) is = (is.width_fits, is.height_fits)
-fitting h (InGame g) is =
-    let start = lawful-start g.ended g.rule g.start g.moves is.played in (start.board.width_fits, start.board.height_fits)
+fitting h place is = search (rules, lawful-start)
 
 -- the batch of a brain has room for a stone on a point that has none
 pub room-for : (s : State) (q : Point) (at : Option Point) → IsBrain s → IsPointOn (board_in s.place) q at
@@ -116,12 +101,3 @@ room-for s q (Some p) brain point = by_batch s.batch brain.batch where
   by_batch (Some b) fit =
       let fits = fitting s.held s.place brain.place in
       few-before (board_in s.place) b p fits.0 fits.1 (told-on (board_in s.place) q (Some p) point) fit
-
--- so has a batch that is read
-pub reserved : (reading : Bool) (b : Batch) (now : Option Batch) (p : Point) → (if reading then Some b else None) ≡ now → IsSome now
-    → IfSome now (λ x. has_stone_at x.stones p ≡ false → length x.stones < MAX_POINTS) → has_stone_at b.stones p ≡ false
-    → length b.stones < MAX_POINTS
-reserved true b now p is read room =
-    subst (λ (o : Option Batch). IfSome o (λ x. has_stone_at x.stones p ≡ false → length x.stones < MAX_POINTS)) (sym is) room
-reserved false b now p is read room =
-    let none : is_some now ≡ false = sym (ap is_some is) in absurd (let some : is_some now ≡ true = read in cc)

@@ -1,16 +1,15 @@
 -- The stones of a batch that makes a board.
 use Rattle.std.proofs.Common.{not, List, map, ℕ, ◌<◌, [], ◌∷◌, ◌≤◌, arith, ◌++◌, ◌≡◌, refl, ap, ◌∙◌, Bool}
 use Rattle.std.proofs.Common.{false, ◌||◌, true, inl, inr, sym, subst, cond, ◌&&◌, ◌+◌, ◌*◌, ◌/◌, ◌%◌, length}
-use Rattle.std.proofs.Common.{filter, slice_index_or}
+use Rattle.std.proofs.Common.{filter, slice_index_or, rules}
 use Rattle.std.specs.List.{list_any}
 use Rattle.std.proofs.Math.Nat.{div-lt_iff_lt-mul}
 use Rattle.std.proofs.lemmas.Bool.{lt-ltb, or_right}
 use Rattle.std.proofs.lemmas.List.{ext_get_or}
-use Rattle.game_rules.proofs.Common.{Grid, holds, is_empty, is_on, is_empty_cell, is_stone_of, stone_of, cell_at, put, IsBoard, points_of}
+use Rattle.game_rules.proofs.Common.{Grid, holds, is_empty, is_on, is_empty_cell, is_stone_of, cell_at, put, IsBoard, points_of}
 use Rattle.game_rules.proofs.Common.{mover, other, is_same_point}
 use Rattle.game_rules.specs.declared.Point.{Point}
 use Rattle.game_rules.specs.declared.RuleKind.{RuleKind}
-use Rattle.game_rules.specs.declared.RuleKind.TheVariants.{Freestyle, Exact, Renju}
 use Rattle.game_rules.proofs.Places.{place, earlier-differs, listed_on}
 use Rattle.game_rules.proofs.Boards.{same_or_apart, cell_at-put_other, cell_at-put_same, and_right, is_empty-cell}
 use Rattle.game_rules.proofs.Points.{apart-is_same_point, is_same_point-itself, points-found}
@@ -55,9 +54,7 @@ before-apart width p [] h = refl
 before-apart width p (s ∷ ss) h = ap (λ (r : Bool). r || has_stone_at ss p) (earlier-differs width s.at p h.0) ∙ before-apart width p ss h.1
 
 pub same_rule-itself : (rule : RuleKind) → same_rule rule rule ≡ true
-same_rule-itself Freestyle = refl
-same_rule-itself Exact = refl
-same_rule-itself Renju = refl
+same_rule-itself rule = search rules
 
 -- and else its stone is put there
 module _ (b c : Grid) (p : Point) (ps : List Point) (like : IsLike b c) (on_p : is_on b p ≡ true) (taken : is_empty b p ≡ false) where
@@ -71,10 +68,7 @@ module _ (b c : Grid) (p : Point) (ps : List Point) (like : IsLike b c) (on_p : 
   own-is = ap (λ (r : Bool). r && is_stone_of (mover b) (cell_at b p)) on_p
 
   there : cell_at next p ≡ cell_at b p
-  there =
-      cell_at-put_same c (side_of (mover b) (stone_at b p)) p like.board (on-like b c p like on_p)
-      ∙ ap (λ (r : Bool). stone_of (cond r (mover b) (other (mover b)))) own-is
-      ∙ stone-there (mover b) (cell_at b p) cell-taken
+  there = search (rules, cell_at-put_same, on-like, own-is, stone-there, cell-taken)
 
   makes-stone : Makes b c (p ∷ ps) → Makes b next ps
   unfolding Makes

@@ -1,5 +1,5 @@
 -- The choice where nothing is followed yet, by what applies.
-use Rattle.std.proofs.Common.{◌≡◌, ℕ, sym, ap, subst, ◌∙◌, Option, Some, None, IfSome, option_map, option_and_then}
+use Rattle.std.proofs.Common.{◌≡◌, ℕ, ap, subst, ◌∙◌, Option, Some, None, IfSome, option_map, rules}
 use Rattle.game_rules.proofs.Common.{Grid}
 use Rattle.game_rules.specs.declared.RuleKind.{RuleKind}
 use Rattle.game_rules.specs.declared.Point.{Point}
@@ -9,7 +9,7 @@ use Rattle.four_search.specs.declared.fewest.FourTable.{FourTable}
 use Rattle.brain_session.specs.declared.choice.ChosenMove.{ChosenMove}
 use Rattle.brain_session.specs.declared.guide.Guide.{Guide}
 use Rattle.brain_session.proofs.Common.{Followed, HeldNode, OwnWin, Game, board_of, Choice, or_else, move_by, by_following, first_node}
-use Rattle.brain_session.proofs.Common.{by_held, own_win, by_own_win, by_plain_move, chosen_anew, IsFound, IsOwnTable, NodeStandsAt}
+use Rattle.brain_session.proofs.Common.{own_win, by_own_win, by_plain_move, chosen_anew, IsFound, IsOwnTable, NodeStandsAt}
 use Rattle.brain_session.proofs.Common.{StandsAt, choice_of, followed_of, nodes_of}
 
 module _ (h : HeldTable) (g : Game) where
@@ -22,44 +22,32 @@ module _ (h : HeldTable) (g : Game) where
   pub chosen-held : (i : ℕ) (p : Point) → first_node g h.roots ≡ Some i → move_by h g.rule (board_of g) (HeldNode i) ≡ Some p
       → chosen_anew h g ≡ record { at = p; followed = Some (HeldNode i) }
   unfolding chosen_anew
-  chosen-held i p first move =
-      let held : by_held h g ≡ Some (record { at = p; followed = Some (HeldNode i) }) =
-      ap (option_and_then (λ (j : ℕ). by_following h g (HeldNode j))) first ∙ followed-is (HeldNode i) p move in
-      ap (λ (o : Option Choice). or_else o (λ _. or_else (by_own_win h g) (λ _. by_plain_move g))) held
+  chosen-held i p first move = search (rules, followed-is)
 
   no_held : first_node g h.roots ≡ None → chosen_anew h g ≡ or_else (by_own_win h g) (λ _. by_plain_move g)
   unfolding chosen_anew
-  no_held first =
-      let held : by_held h g ≡ None = ap (option_and_then (λ (j : ℕ). by_following h g (HeldNode j))) first in
-      ap (λ (o : Option Choice). or_else o (λ _. or_else (by_own_win h g) (λ _. by_plain_move g))) held
+  no_held first = search rules
 
   -- none does, and the brain finds a win of its own
   pub chosen-own : (moves : ℕ) (p : Point) → first_node g h.roots ≡ None → own_win g.rule (board_of g) ≡ Some moves
       → move_by h g.rule (board_of g) (OwnWin moves) ≡ Some p → chosen_anew h g ≡ record { at = p; followed = Some (OwnWin moves) }
-  chosen-own moves p first win move =
-      let own : by_own_win h g ≡ Some (record { at = p; followed = Some (OwnWin moves) }) =
-      ap (option_and_then (λ (m : ℕ). by_following h g (OwnWin m))) win ∙ followed-is (OwnWin moves) p move in
-      no_held first ∙ ap (λ (o : Option Choice). or_else o (λ _. by_plain_move g)) own
+  chosen-own moves p first win move = search (rules, followed-is, no_held)
 
   -- it finds none
   pub chosen-plain : first_node g h.roots ≡ None → own_win g.rule (board_of g) ≡ None → chosen_anew h g ≡ by_plain_move g
-  chosen-plain first win =
-      let own : by_own_win h g ≡ None = ap (option_and_then (λ (m : ℕ). by_following h g (OwnWin m))) win in
-      no_held first ∙ ap (λ (o : Option Choice). or_else o (λ _. by_plain_move g)) own
+  chosen-plain first win = search (rules, no_held)
 
 -- ---- the chosen move
 
 module _ (h : HeldTable) (g : Game) (c : ChosenMove) (guide : Guide) (is : c.guide ≡ Some guide) where
   -- it is the choice that follows the guide
   pub move-chosen : chosen_anew h g ≡ record { at = c.at; followed = Some (followed_of guide) } → choice_of c ≡ chosen_anew h g
-  move-chosen chosen = ap
-      (λ (o : Option Guide). let choice : Choice = record { at = c.at; followed = option_map followed_of o } in choice) is ∙ sym chosen
+  move-chosen chosen = search rules
 
   -- the guide stands at the board
   pub move-stands : (rule : RuleKind) (b : Grid) → IsTable (nodes_of h guide) → NodeStandsAt h rule b guide
       → IfSome c.guide (StandsAt h rule b)
-  move-stands rule b table stands = subst (λ (o : Option Guide). IfSome o (StandsAt h rule b)) (sym is)
-      (record { table = table; node = stands })
+  move-stands rule b table stands = search rules
 
 -- what is found on a board that is b
 pub found-own : (rule : RuleKind) (b d : Grid) (o : Option FourTable) (own : FourTable) → o ≡ Some own → d ≡ b → IsFound rule d o

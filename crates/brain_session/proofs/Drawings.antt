@@ -1,37 +1,32 @@
 -- The drawing of a session has the board of the brain, line by line.
 use Rattle.std.proofs.Common.{◌≡◌, ◌≢◌, ℕ, ◌≤◌, Bool, true, false, cond, ◌&&◌, ◌||◌, not, ◌==◌, List, []}
-use Rattle.std.proofs.Common.{◌∷◌, ◌++◌, refl, sym, ap, subst, ◌∙◌, arith, Option, Some, None, IfSome, fold, unwrap_or}
-use Rattle.std.proofs.Common.{is_none, option_map, option_and_then}
+use Rattle.std.proofs.Common.{◌∷◌, ◌++◌, refl, sym, ap, subst, ◌∙◌, arith, Option, Some, None, IfSome, fold}
+use Rattle.std.proofs.Common.{option_map, rules}
 use Rattle.std.proofs.lemmas.Option.{same_Some}
-use Rattle.game_rules.proofs.Common.{Grid, IsBoard, is_on, is_same_point, mover, outcome}
+use Rattle.game_rules.proofs.Common.{Grid, IsBoard, is_same_point, mover, outcome}
 use Rattle.game_rules.specs.declared.RuleKind.{RuleKind}
 use Rattle.game_rules.specs.declared.Side.{Side}
-use Rattle.game_rules.specs.declared.Side.TheVariants.{Black, White}
+use Rattle.game_rules.specs.declared.Side.TheVariants.{White}
 use Rattle.game_rules.specs.declared.Outcome.{Outcome}
-use Rattle.game_rules.specs.declared.Outcome.TheVariants.{Refused, Wins, Fouls, Draws, GoesOn}
 use Rattle.game_rules.specs.declared.Point.{Point}
-use Rattle.foul_judge.specs.Lawful.{refusal}
 use Rattle.gomocup_text.specs.declared.Command.{Command}
 use Rattle.gomocup_text.specs.declared.Command.TheVariants.{Start, RectStart, Begin, Turn, Board, Stone, Done, Restart, Takeback, Rule}
 use Rattle.gomocup_text.specs.declared.Command.TheVariants.{Info, About, End, Blank, Malformed, Unknown}
 use Rattle.gomocup_text.specs.declared.Answer.{Answer}
 use Rattle.gomocup_text.specs.declared.Answer.TheVariants.{Ok as SaysOk, Move, Error, Unknown as SaysUnknown}
 use Rattle.gomocup_text.specs.declared.ErrorText.{ErrorText}
-use Rattle.gomocup_text.specs.declared.ErrorText.TheVariants.{UnsupportedSize, NoBoard as NoBoardText, NotReading, UnsupportedRule}
-use Rattle.gomocup_text.specs.declared.ErrorText.TheVariants.{BadBoard, BadArguments, GameStarted, GameOver, WrongTurn, BadMove, GameLost}
-use Rattle.gomocup_text.specs.declared.ErrorText.TheVariants.{OpponentFoul, GameDrawn}
-use Rattle.brain_session.specs.declared.Reaction.{Reaction}
-use Rattle.brain_session.specs.declared.Reaction.TheVariants.{Silent, Says, Ends}
+use Rattle.gomocup_text.specs.declared.ErrorText.TheVariants.{NoBoard as NoBoardText, NotReading, UnsupportedRule}
+use Rattle.gomocup_text.specs.declared.ErrorText.TheVariants.{BadBoard, BadArguments, GameOver, WrongTurn, BadMove}
+use Rattle.brain_session.specs.declared.Reaction.TheVariants.{Says, Ends}
 use Rattle.brain_session.specs.declared.batch.BatchStone.{BatchStone}
-use Rattle.brain_session.proofs.Common.{Game, board_after, board_of, empty_board, new_brain, new_game, point_at, Place, NoBoard, Fresh}
-use Rattle.brain_session.proofs.Common.{InGame, Batch, State, new_batch, spoiled, has_stone_at, colour_in, with_batch_stones, lawful_game}
-use Rattle.brain_session.proofs.Common.{game_from, chosen, without_last, Row, Reacts, Chooses, fails, unread, reading, placed, rule_of}
-use Rattle.brain_session.proofs.Common.{if_supported, is_side, start_row, restart_row, board_row, board_in, stone_row, batch_row, done_row}
-use Rattle.brain_session.proofs.Common.{begin_row, same_side, with_move, end_row, move_row, turn_row, is_bare, place_before, last_row}
-use Rattle.brain_session.proofs.Common.{takeback_row, if_not_reading, row_of, with_choice, step_by, brain_step, state_after, HasNoEnd}
+use Rattle.brain_session.proofs.Common.{Game, board_of, empty_board, new_game, point_at, Place, NoBoard, Fresh}
+use Rattle.brain_session.proofs.Common.{InGame, Batch, State, spoiled, colour_in, with_batch_stones}
+use Rattle.brain_session.proofs.Common.{game_from, chosen, without_last, Row, Reacts, fails, unread, placed, rule_of}
+use Rattle.brain_session.proofs.Common.{if_supported, start_row, restart_row, board_row, board_in, stone_row, batch_row, done_row}
+use Rattle.brain_session.proofs.Common.{begin_row, same_side, move_row, turn_row, is_bare, place_before, last_row}
+use Rattle.brain_session.proofs.Common.{takeback_row, if_not_reading, row_of, step_by, brain_step, state_after, HasNoEnd}
 use Rattle.brain_session.proofs.Common.{Exchange, Sheet, Drawing, SessionsAreDrawn, answer_in, exchanges, blank, set_up, wiped, sent_anew}
 use Rattle.brain_session.proofs.Common.{sent_board, set_out, with_answer, with_reply, taken_back, with_moves, drawn_after, drawn}
-use Rattle.brain_session.proofs.Common.{drawn_board, board_now}
 use Rattle.brain_session.proofs.SessionBoards.{bare-board}
 use Rattle.brain_session.proofs.SessionLaws.{first_goes_on, later_go_on, only_end_ends, state_goes_on}
 use Rattle.brain_session.proofs.LawfulStates.{BatchFits, LawfulPlace, LawfulState, next-lawful, went_from}
@@ -71,18 +66,7 @@ pub record IsFromBatch (rule : RuleKind) (empty : Grid) (b : Batch) (g : Game) :
   pub is : new_game rule (with_batch_stones brain empty b.stones) brain ≡ g
 
 from_batch : (rule : RuleKind) (empty : Grid) (b : Batch) (g : Game) → game_from rule empty b ≡ Some g → IsFromBatch rule empty b g
-from_batch rule empty b g = by_bad b.bad refl (colour_in b.stones) refl where
-  by_lawful : b.bad ≡ false → (brain : Side) → colour_in b.stones ≡ Some brain → (r : Bool)
-      → cond r (Some (new_game rule (with_batch_stones brain empty b.stones) brain)) None ≡ Some g → IsFromBatch rule empty b g
-  by_lawful e brain c true h = record { good = e; brain = brain; colour = c; is = same_Some _ _ h }
-  by_lawful e brain c false h = cc
-
-  by_bad : (bad : Bool) → b.bad ≡ bad → (o : Option Side) → colour_in b.stones ≡ o
-      → cond bad None (option_and_then (λ brain. lawful_game rule (with_batch_stones brain empty b.stones) brain) o) ≡ Some g
-      → IsFromBatch rule empty b g
-  by_bad true e o c h = cc
-  by_bad false e None c h = cc
-  by_bad false e (Some brain) c h = by_lawful e brain c (is_none (refusal rule (with_batch_stones brain empty b.stones))) h
+from_batch rule empty b g = search (rules, same_Some)
 
 -- a batch is read on a board alone
 reads_on : (place : Place) → IsBoard (board_in place)
@@ -103,40 +87,19 @@ pub record IsSent (place : Place) (sent : Option (List BatchStone)) (rule : Rule
 pub batch-sent : (s : State) (sent : Option (List BatchStone)) → AreSent s.batch sent → LawfulState s
     → (rule : RuleKind) (b : Batch) (g : Game)
     → s.batch ≡ Some b → game_from rule (board_in s.place) b ≡ Some g → IsSent s.place sent rule g
-batch-sent s sent are lawful rule b g read begun =
-    let fits = subst (λ (o : Option Batch). IfSome o (BatchFits (board_in s.place))) read lawful.batch in
-    let at = reads_on s.place fits.0 in
-    let from = from_batch rule (board_in s.place) b g begun in
-    record {
-      sheet = at.0;
-      is = at.1;
-      start = by_sent sent (subst (λ (o : Option Batch). AreSent o sent) read are) at.0 at.2 from;
-      moves = ap (λ (x : Game). x.moves) (sym from.is);
-      rule_is = ap (λ (x : Game). x.rule) (sym from.is);
-      followed = ap (λ (x : Game). x.followed) (sym from.is);
-    } where
-      by_sent : (sent : Option (List BatchStone)) → AreSent (Some b) sent → (sheet : Sheet) → board_in s.place ≡ wiped (Some sheet)
-          → IsFromBatch rule (board_in s.place) b g → sent_board sent sheet ≡ g.start
-      by_sent None none sheet board from = absurd none
-      by_sent (Some stones) are sheet board from =
-          ap (λ (l : List BatchStone). with_batch_stones (unwrap_or (colour_in l) Black) (wiped (Some sheet)) l) (are from.good)
-          ∙ ap (λ (o : Option Side). with_batch_stones (unwrap_or o Black) (wiped (Some sheet)) b.stones) from.colour
-          ∙ ap (λ (c : Grid). with_batch_stones from.brain c b.stones) (sym board)
-          ∙ ap (λ (x : Game). x.start) from.is
+batch-sent s sent are lawful rule b g read begun = search (rules, reads_on, from_batch)
 
 -- ---- one line
 
 same_sheets : (f : Sheet → Sheet) → ((sheet : Sheet) → f sheet ≡ sheet) → (o : Option Sheet) → option_map f o ≡ o
-same_sheets f same None = refl
-same_sheets f same (Some sheet) = ap Some (same sheet)
+same_sheets f same o = search rules
 
 -- the sheet of a game to which these moves come
 abbrev on_sheet : (List Point → List Point) → Option Sheet → Option Sheet
 on_sheet f o = option_map (λ (sheet : Sheet). record sheet { moves = f sheet.moves }) o
 
 same_moves : (f : List Point → List Point) → ((ms : List Point) → f ms ≡ ms) → (o : Option Sheet) → on_sheet f o ≡ o
-same_moves f same o =
-    same_sheets (λ (sheet : Sheet). record sheet { moves = f sheet.moves }) (λ sheet i. record sheet { moves = same sheet.moves i }) o
+same_moves f same o = search (rules, same_sheets)
 
 -- a stone that is sent
 abbrev sent_stone : Point → ℕ → BatchStone
@@ -154,10 +117,7 @@ module _ (s : State) (x : Option (List BatchStone)) (sent : AreSent s.batch x) w
   none_sent e = subst (λ (o : Option Batch). AreSent o x) e sent
 
   spoiled_sent : (b : Batch) → s.batch ≡ Some b → AreSent (Some (spoiled b)) x
-  spoiled_sent b e = by_sent x (subst (λ (o : Option Batch). AreSent o x) e sent) where
-    by_sent : (o : Option (List BatchStone)) → AreSent (Some b) o → AreSent (Some (spoiled b)) o
-    by_sent None none = none
-    by_sent (Some stones) are = λ good. cc
+  spoiled_sent b e = search rules
 
   -- ---- a board
 
@@ -165,16 +125,10 @@ module _ (s : State) (x : Option (List BatchStone)) (sent : AreSent s.batch x) w
   SetsUp b row = IsDrawn (step_by s row).next (set_up here (answer_in (step_by s row).reaction) b)
 
   start_drawn : (width height : ℕ) → SetsUp (empty_board width height) (start_row s width height)
-  start_drawn width height = by_test (is_side width && is_side height) where
-    by_test : (r : Bool)
-        → SetsUp (empty_board width height) (cond r (Reacts (Says SaysOk) (placed s (Fresh width height))) (fails UnsupportedSize s))
-    by_test true = record { wish = refl; sheet = refl; sent = tt }
-    by_test false = unchanged
+  start_drawn width height = search rules
 
   restart_drawn : (place : Place) → SetsUp (wiped (sheet_of place)) (restart_row s place)
-  restart_drawn NoBoard = unchanged
-  restart_drawn (Fresh width height) = record { wish = refl; sheet = refl; sent = tt }
-  restart_drawn (InGame g) = record { wish = refl; sheet = refl; sent = tt }
+  restart_drawn place = search rules
 
   -- ---- a batch
 
@@ -188,25 +142,7 @@ module _ (s : State) (x : Option (List BatchStone)) (sent : AreSent s.batch x) w
 
   stone_drawn : (p : Point) (field : ℕ) → IsDrawn (step_by s (stone_row s s.batch p field)).next
       (record here { sent = option_map (λ (stones : List BatchStone). stones ++ sent_stone p field ∷ []) x })
-  stone_drawn p field = by_batch s.batch refl x sent where
-    by_test : (b : Batch) (stones : List BatchStone) → (b.bad ≡ false → stones ≡ b.stones) → (r : Bool)
-        → AreSent (Some (cond r (record b { stones = b.stones ++ sent_stone p field ∷ [] }) (spoiled b)))
-        (Some (stones ++ sent_stone p field ∷ []))
-    by_test b stones are true = λ good. ap (λ (l : List BatchStone). l ++ sent_stone p field ∷ []) (are good)
-    by_test b stones are false = λ good. cc
-
-    by_batch : (batch : Option Batch) → s.batch ≡ batch → (y : Option (List BatchStone)) → AreSent s.batch y
-        → IsDrawn (step_by s (stone_row s batch p field)).next
-        (record here { sent = option_map (λ (stones : List BatchStone). stones ++ sent_stone p field ∷ []) y })
-    by_batch None e None h = record { wish = refl; sheet = refl; sent = h }
-    by_batch None e (Some stones) h = absurd (subst (λ (o : Option Batch). AreSent o (Some stones)) e h)
-    by_batch (Some b) e None h = absurd (subst (λ (o : Option Batch). AreSent o None) e h)
-    by_batch (Some b) e (Some stones) h = record {
-      wish = refl;
-      sheet = refl;
-      sent = by_test b stones (subst (λ (o : Option Batch). AreSent o (Some stones)) e h)
-          (is_on (board_in s.place) p && (field == 1 || field == 2) && not (has_stone_at b.stones p));
-    }
+  stone_drawn p field = search rules
 
   abbrev SetsOut : Row → Type 0
   SetsOut row = IsDrawn (step_by s row).next
@@ -253,11 +189,7 @@ module _ (s : State) (x : Option (List BatchStone)) (sent : AreSent s.batch x) w
   -- a line that is not taken leaves the moves
   fails_drawn : (f : Option Answer → List Point → List Point) (e : ErrorText) → ((ms : List Point) → f (Some (Error e)) ms ≡ ms)
       → Moves f (fails e s)
-  fails_drawn f e same = record {
-    wish = refl;
-    sheet = same_moves (f (Some (Error e))) same (sheet_of s.place);
-    sent = sent;
-  }
+  fails_drawn f e same = search (rules, same_moves)
 
   -- and so does one while a batch is read
   unless_read : (f : Option Answer → List Point → List Point) → ((ms : List Point) → f None ms ≡ ms) → (row : Row)
@@ -272,35 +204,11 @@ module _ (s : State) (x : Option (List BatchStone)) (sent : AreSent s.batch x) w
     }
 
   begin_drawn : s.batch ≡ None → (place : Place) → s.place ≡ place → Moves with_answer (begin_row s place)
-  begin_drawn none NoBoard e = fails_drawn with_answer NoBoardText (λ ms. refl)
-  begin_drawn none (InGame g) e = fails_drawn with_answer GameStarted (λ ms. refl)
-  begin_drawn none (Fresh width height) e = by_rule (rule_of s.wish) where
-    by_rule : (o : Option RuleKind)
-        → Moves with_answer (if_supported o s (λ rule. Chooses (new_game rule (empty_board width height) Black)))
-    by_rule None = fails_drawn with_answer UnsupportedRule (λ ms. refl)
-    by_rule (Some rule) = record {
-      wish = refl;
-      sheet = ap (λ (place : Place). on_sheet
-          (with_answer (Some (Move (chosen s.held (new_game rule (empty_board width height) Black)).at)))
-          (sheet_of place)) e;
-      sent = none_sent none;
-    }
+  begin_drawn none place e = search (rules, fails_drawn, none_sent)
 
   move_drawn : s.batch ≡ None → (g : Game) → sheet_of s.place ≡ Some (sheet_with g.start g.moves) → (p : Point) (o : Outcome)
       → Moves (λ a. with_reply a p) (move_row s g p o)
-  move_drawn none g at p Refused = fails_drawn (λ a. with_reply a p) BadMove (λ ms. refl)
-  move_drawn none g at p Wins =
-      record { wish = refl; sheet = ap (on_sheet (with_reply (Some (Error GameLost)) p)) at; sent = none_sent none }
-  move_drawn none g at p (Fouls f) =
-      record { wish = refl; sheet = ap (on_sheet (with_reply (Some (Error OpponentFoul)) p)) at; sent = none_sent none }
-  move_drawn none g at p Draws =
-      record { wish = refl; sheet = ap (on_sheet (with_reply (Some (Error GameDrawn)) p)) at; sent = none_sent none }
-  move_drawn none g at p GoesOn =
-      record {
-        wish = refl;
-        sheet = ap (on_sheet (with_reply (Some (Move (chosen s.held (with_move g p false)).at)) p)) at;
-        sent = none_sent none;
-      }
+  move_drawn none g at p o = search (rules, fails_drawn, none_sent)
 
   turn_drawn : s.batch ≡ None → (p : Point) (place : Place) → s.place ≡ place → Moves (λ a. with_reply a p) (turn_row s place p)
   turn_drawn none p NoBoard e = fails_drawn (λ a. with_reply a p) NoBoardText (λ ms. refl)
@@ -350,10 +258,7 @@ module _ (s : State) (x : Option (List BatchStone)) (sent : AreSent s.batch x) w
 
   -- a line that has no place in a batch, and is drawn as nothing
   plain_drawn : (e : Answer) → IsDrawn (step_by s (if_not_reading s s.batch (λ _. Reacts (Says e) s))).next here
-  plain_drawn e = by_batch s.batch refl where
-    by_batch : (batch : Option Batch) → s.batch ≡ batch → IsDrawn (step_by s (if_not_reading s batch (λ _. Reacts (Says e) s))).next here
-    by_batch None is = unchanged
-    by_batch (Some b) is = record { wish = refl; sheet = refl; sent = spoiled_sent b is }
+  plain_drawn e = search (rules, spoiled_sent)
 
   step_drawn : LawfulState s → (c : Command) → IsDrawn (brain_step s c).next (drawn_after here c (answer_in (brain_step s c).reaction))
   unfolding row_of
@@ -417,11 +322,4 @@ drawn-session s cs wish place batch no_end =
     }) no_end
 
 pub sessions-are_drawn : SessionsAreDrawn
-sessions-are_drawn held cs no_end =
-    let is = drawn-session (new_brain held) cs refl refl refl no_end in
-    by_place (state_after (new_brain held) cs).place
-    ∙ ap (option_map (λ (sheet : Sheet). board_after sheet.start sheet.moves)) (sym is.sheet) where
-      by_place : (place : Place) → board_now place ≡ option_map (λ (sheet : Sheet). board_after sheet.start sheet.moves) (sheet_of place)
-      by_place NoBoard = refl
-      by_place (Fresh width height) = refl
-      by_place (InGame g) = refl
+sessions-are_drawn held cs no_end = search (rules, drawn-session)

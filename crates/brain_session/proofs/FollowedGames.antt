@@ -1,7 +1,7 @@
 -- A game in which something is followed, a held node or a win of the brain's own: what each later command does to it.
-use Rattle.std.proofs.Common.{◌≡◌, ℕ, suc, ◌<◌, arith, Bool, true, false, cond, List, [], ◌∷◌, refl, sym, ap, subst}
-use Rattle.std.proofs.Common.{◌∙◌, not, Option, Some, None, is_some}
-use Rattle.game_rules.proofs.Common.{Grid, is_empty, is_foul, outcome, after, IsPosition, mover, other, goes_on, WinsOr, LosesOr}
+use Rattle.std.proofs.Common.{◌≡◌, ℕ, suc, ◌<◌, Bool, true, false, cond, List, [], ◌∷◌, refl, sym, ap, subst}
+use Rattle.std.proofs.Common.{◌∙◌, not, Option, Some, None, is_some, rules}
+use Rattle.game_rules.proofs.Common.{Grid, is_empty, outcome, after, IsPosition, mover, other, WinsOr, LosesOr}
 use Rattle.game_rules.proofs.Outcomes.{moved}
 use Rattle.game_rules.specs.declared.RuleKind.{RuleKind}
 use Rattle.game_rules.specs.declared.Foul.{Foul}
@@ -9,9 +9,8 @@ use Rattle.game_rules.specs.declared.Outcome.{Outcome}
 use Rattle.game_rules.specs.declared.Outcome.TheVariants.{Refused, Wins as WinsNow, Fouls, Draws, GoesOn}
 use Rattle.game_rules.specs.declared.Point.{Point}
 use Rattle.game_rules.specs.declared.Side.{Side}
-use Rattle.game_rules.specs.declared.Side.TheVariants.{Black, White}
 use Rattle.game_rules.proofs.Positions.{mover-then}
-use Rattle.strategy_graph.proofs.Common.{End, Won, Open, one_later}
+use Rattle.strategy_graph.proofs.Common.{End, one_later}
 use Rattle.strategy_checker.specs.HeldRoots.{HeldTable}
 use Rattle.gomocup_text.specs.declared.Answer.{Answer}
 use Rattle.gomocup_text.specs.declared.Answer.TheVariants.{Move, Error}
@@ -43,13 +42,10 @@ no_foul-left rule b (p ∷ ps) = refl
 -- where the reply q goes on, the last reply is a foul if it is one of those after q
 pub foul-later : (rule : RuleKind) (b : Grid) (p q : Point) (ps qs : List Point) → outcome rule (after b p) q ≡ GoesOn
     → ends_with_foul rule b (p ∷ ps) (q ∷ qs) ≡ ends_with_foul rule (after (after b p) q) ps qs
-foul-later rule b p q ps [] e = ap is_foul e ∙ sym (no_foul-left rule (after (after b p) q) ps)
-foul-later rule b p q ps (v ∷ qs) e = refl
+foul-later rule b p q ps qs e = search (rules, no_foul-left)
 
 pub won-later : (e d n : ℕ) (end : End) → e < d → IsWonWithin e n end → IsWonWithin d (suc n) (one_later end)
-won-later e d n (Won k) less h = let high = h.1 in (omega arith, omega (arith, high))
-won-later e d n Open less h = omega arith
-won-later e d n _ less h = h
+won-later e d n end less h = search rules
 
 -- ---- a command by its row
 
@@ -70,10 +66,7 @@ answers-row s c cs r e = rw e refl
 
 -- the rule of a wish that is supported
 rule_by : (w : ℕ) → is_some (rule_of w) ≡ true → (rule : RuleKind) × (rule_of w ≡ Some rule)
-rule_by w h = by_cases (rule_of w) refl h where
-  by_cases : (o : Option RuleKind) → rule_of w ≡ o → is_some o ≡ true → (rule : RuleKind) × (rule_of w ≡ Some rule)
-  by_cases None e k = cc
-  by_cases (Some rule) e k = (rule, e)
+rule_by w h = search rules
 
 -- ---- an ended game: no reply is left
 
@@ -86,10 +79,7 @@ module _ (h : HeldTable) (g : Game) (e : g.ended ≡ true) where
   none_left : (w : ℕ) (cs : List Command) → (replies (state_in h w g) cs ≡ []) × (answers_to_replies (state_in h w g) cs ≡ [])
   unfolding replies answers_to_replies row_of
   none_left w [] = (refl, refl)
-  none_left w (Turn x y ∷ cs) =
-      let row = turn_ended h w g x y e in
-      let rest = none_left w cs in
-      (replies-by (state_in h w g) (Turn x y) cs _ row ∙ rest.0, answers-by (state_in h w g) (Turn x y) cs _ row ∙ rest.1)
+  none_left w (Turn x y ∷ cs) = search (rules, turn_ended, replies-by, answers-by, none_left w cs)
   none_left w (Start n ∷ cs) = (refl, refl)
   none_left w (RectStart n m ∷ cs) = (refl, refl)
   none_left w (Board ∷ cs) = (refl, refl)
@@ -103,8 +93,7 @@ module _ (h : HeldTable) (g : Game) (e : g.ended ≡ true) where
 
 -- the other side is not the same
 pub other_side : (s t : Side) → t ≡ other s → same_side t s ≡ false
-other_side Black t e = rw e refl
-other_side White t e = rw e refl
+other_side s t e = search rules
 
 pub turn_going : (h : HeldTable) (w : ℕ) (g : Game) (x y : ℕ) → g.ended ≡ false → mover (board_of g) ≡ other g.brain
     → row_of (state_in h w g) (Turn x y)
@@ -168,9 +157,7 @@ module _ (h : HeldTable) (X : Type 0) (choice : X → Choice) (Stands : X → Ga
   -- where the move wins no later command changes anything
   ended_goes : (w : ℕ) (x : X) (g : Game) (cs : List Command) → Stands x g → outcome g.rule (board_of g) (choice x).at ≡ WinsNow
       → GoesOver w x g cs
-  ended_goes w x g cs stands e =
-      let left = none_left h (with_choice g (choice x)) (ap (λ (r : Outcome). not (goes_on r)) e) w cs in
-      goes-same x g _ _ _ _ left.0 left.1 (followed.none x g stands)
+  ended_goes w x g cs stands e = search (rules, none_left, goes-same)
 
   module _ (x : X) (g : Game) (stands : Stands x g) (on : outcome g.rule (board_of g) (choice x).at ≡ GoesOn) where
     -- a TURN that is no reply changes nothing
@@ -225,9 +212,7 @@ module _ (h : HeldTable) (X : Type 0) (choice : X → Choice) (Stands : X → Ga
     turn_row-then : (w : ℕ) (q : Point) → row_of (then_state w x g) (Turn q.x q.y)
         ≡ if_supported (rule_of w) (then_state w x g)
         (λ rule. move_row (then_state w x g) (with_choice g (choice x)) q (outcome g.rule (after (board_of g) (choice x).at) q))
-    turn_row-then w q =
-        turn_going h w (with_choice g (choice x)) q.x q.y (ap (λ (r : Outcome). not (goes_on r)) on)
-        (mover-then g.rule (board_of g) (choice x).at (followed.lawful x g stands) on ∙ ap other (followed.turn x g stands))
+    turn_row-then w q = search (rules, turn_going, mover-then)
 
   turn_goes : (cs : List Command) → AllGoWell cs → (a b : ℕ) → AllGoWell (Turn a b ∷ cs)
   turn_goes cs all a b w x g stands = by_outcome (outcome g.rule (board_of g) (choice x).at) refl (followed.wins x g stands) where
@@ -258,11 +243,7 @@ module _ (h : HeldTable) (X : Type 0) (choice : X → Choice) (Stands : X → Ga
       (on : outcome g.rule (board_of g) (choice x).at ≡ GoesOn) (q : Point) (qs : List Point) (legal : Legal x g (q ∷ qs)) where
     row_is : (p : Outcome) → outcome g.rule (after (board_of g) (choice x).at) q ≡ p
         → row_of (then_state w x g) (Turn q.x q.y) ≡ move_row (then_state w x g) (with_choice g (choice x)) q p
-    row_is p e =
-        turn_row-then x g stands on w q
-        ∙ ap (λ (o : Option RuleKind). if_supported o (then_state w x g) (λ rule. move_row (then_state w x g) (with_choice g (choice x)) q
-        (outcome g.rule (after (board_of g) (choice x).at) q))) wish
-        ∙ ap (λ (o : Outcome). move_row (then_state w x g) (with_choice g (choice x)) q o) e
+    row_is p e = search (rules, turn_row-then)
 
     reply_answered : ((v : ℕ) (y : X) (k : Game) → Stands y k → is_some (rule_of v) ≡ true → Legal y k qs
         → Goes y k qs (answers_from (then_state v y k) (turns qs)))

@@ -1,7 +1,7 @@
 -- What the brain follows goes on: from the board where a node's attack is to be played to that after it, and to those after each
 -- reply.
-use Rattle.std.proofs.Common.{◌≡◌, ℕ, ◌-◌, true, List, sym, ap, subst, ◌∙◌, Option, Some, None, MatchOption, slice_get}
-use Rattle.std.proofs.Common.{IsSomeAnd, option_map}
+use Rattle.std.proofs.Common.{◌≡◌, ℕ, ◌-◌, true, List, ap, ◌∙◌, Option, Some, MatchOption, slice_get}
+use Rattle.std.proofs.Common.{IsSomeAnd, option_map, rules}
 use Rattle.game_rules.proofs.Common.{Grid, is_empty, IsPosition, outcome, after, WinsByFours, has_five, wins_by_fours}
 use Rattle.game_rules.specs.declared.RuleKind.{RuleKind}
 use Rattle.game_rules.specs.declared.Outcome.TheVariants.{GoesOn}
@@ -19,7 +19,7 @@ use Rattle.four_search.specs.Plans.{four_plan}
 use Rattle.four_search.proofs.Written.{plan-attacks, plan-replies, PlanAt}
 use Rattle.brain_session.specs.declared.guide.Guide.{Guide}
 use Rattle.brain_session.specs.declared.guide.Guide.TheVariants.{HeldNode as HeldGuide, OwnWin as OwnGuide}
-use Rattle.brain_session.proofs.Common.{FollowsAt, move_by, GuidesAt, OwnStandsAt, NodeStandsAt, StandsAt, GoesOnAfter, followed_of}
+use Rattle.brain_session.proofs.Common.{FollowsAt, move_by, GuidesAt, NodeStandsAt, StandsAt, GoesOnAfter, followed_of}
 use Rattle.brain_session.proofs.Common.{nodes_of}
 
 -- ---- the move
@@ -31,18 +31,12 @@ held-moves h rule b g node n is at = ap (λ (x : Guide). move_by h rule b (follo
 
 pub own-moves : (h : HeldTable) (rule : RuleKind) (b : Grid) (g : Guide) (own : FourTable) (n : Node) → g ≡ OwnGuide own
     → slice_get own.table own.node ≡ Some n → NodeStandsAt h rule b g → move_by h rule b (followed_of g) ≡ Some n.attack
-own-moves h rule b g own n is at stands =
-    let here : OwnStandsAt rule b own = subst (NodeStandsAt h rule b) is stands in
-    ap (λ (x : Guide). move_by h rule b (followed_of x)) is
-    ∙ sym (plan-attacks rule own.table own.moves own.node b here.wins here.stands)
-    ∙ ap (option_map (λ (m : Node). m.attack)) at
+own-moves h rule b g own n is at stands = search (rules, plan-attacks)
 
 -- the move of a guide that stands at b is an empty point
 pub node-legal : (h : HeldTable) (rule : RuleKind) (b : Grid) (g : Guide) (p : Point) → NodeStandsAt h rule b g
     → move_by h rule b (followed_of g) ≡ Some p → is_empty b p ≡ true
-node-legal h rule b (HeldGuide node) p at e = attack_empty rule h.table node b p at.1 e
-node-legal h rule b (OwnGuide own) p at e = attack_empty rule own.table own.node b p at.accepted
-    (plan-attacks rule own.table own.moves own.node b at.wins at.stands ∙ e)
+node-legal h rule b g p at e = search (rules, attack_empty, plan-attacks)
 
 pub stands-legal : (h : HeldTable) (rule : RuleKind) (b : Grid) (g : Guide) (p : Point) → StandsAt h rule b g
     → move_by h rule b (followed_of g) ≡ Some p → is_empty b p ≡ true
@@ -52,8 +46,7 @@ stands-legal h rule b g p stands move = node-legal h rule b g p stands.node move
 
 wins_behind : (rule : RuleKind) (t : List Node) (n : ℕ) (c : Grid) (o : Option ℕ) → IsSomeAnd o (λ j. PlanAt rule t n j c)
     → WinsByFours rule n c
-wins_behind rule t n c None h = absurd h
-wins_behind rule t n c (Some j) h = test-WinsUnder (has_five rule) rule n c h.wins
+wins_behind rule t n c o h = search (rules, test-WinsUnder)
 
 -- where the move of a guide that stands at b goes on, what is followed goes on after it
 pub stands-goes_on : (h : HeldTable) (rule : RuleKind) (b : Grid) (g : Guide) (p : Point) → StandsAt h rule b g → IsPosition rule b
@@ -81,19 +74,12 @@ stands-goes_on h rule b g p stands lawful move go = by_guide g stands.table stan
 
 held_after : (h : HeldTable) (rule : RuleKind) (b : Grid) (o : Option ℕ) → IsSomeAnd o (λ j. Accepted rule h.table j b)
     → MatchOption (option_map (λ j. HeldGuide j) o) ⊥ (NodeStandsAt h rule b)
-held_after h rule b None answered = answered
-held_after h rule b (Some j) answered = (accepted-in_table rule h.table j b answered, answered)
+held_after h rule b o answered = search (rules, accepted-in_table)
 
 own_after : (h : HeldTable) (rule : RuleKind) (b : Grid) (own : FourTable) → wins_by_fours rule (own.moves - 1) b ≡ true → (o : Option ℕ)
     → IsSomeAnd o (λ j. StandsFor own.table j (four_plan rule (own.moves - 1) b) × Accepted rule own.table j b)
     → MatchOption (option_map (λ j. OwnGuide (record own { node = j; moves = own.moves - 1 })) o) ⊥ (NodeStandsAt h rule b)
-own_after h rule b own wins None answered = answered
-own_after h rule b own wins (Some j) answered = record {
-  in_table = accepted-in_table rule own.table j b answered.1;
-  wins = wins;
-  stands = answered.0;
-  accepted = answered.1;
-}
+own_after h rule b own wins o answered = search (rules, accepted-in_table)
 
 -- where what is followed goes on at b, and the reply q does, it goes on after the reply
 pub goes_on-after : (h : HeldTable) (rule : RuleKind) (b : Grid) (g : Guide) (q : Point) → FollowsAt h rule b (followed_of g)

@@ -1,20 +1,20 @@
 -- Held games go well: from the command that begins one, the answers to the replies are the attacks of the table.
+use Rattle.std.proofs.Common.{rules}
 use Rattle.std.proofs.Common.{◌≡◌, ℕ, suc, List, ◌∷◌, get_or, length, refl, sym, ap, subst, ◌∙◌, Some, None, slice_get}
 use Rattle.std.proofs.lemmas.List.Elements.{All-contains}
-use Rattle.game_rules.proofs.Common.{Grid, outcome}
+use Rattle.game_rules.proofs.Common.{Grid}
 use Rattle.game_rules.specs.declared.RuleKind.{RuleKind}
 use Rattle.game_rules.proofs.Outcomes.{tight}
 use Rattle.strategy_graph.specs.declared.Node.{Node}
 use Rattle.strategy_graph.specs.declared.roots.Root.{Root}
-use Rattle.strategy_graph.specs.declared.roots.Root.TheVariants.{Attack, Defend}
 use Rattle.strategy_graph.proofs.Common.{depth_within, depth, Accepted, AcceptedRoot, game}
 use Rattle.strategy_graph.proofs.Fuel.{accepted_node}
-use Rattle.strategy_checker.specs.HeldRoots.{HeldTable, IsHeldRoot, IsHeld}
+use Rattle.strategy_checker.specs.HeldRoots.{HeldTable, IsHeld}
 use Rattle.gomocup_text.specs.declared.Command.{Command}
 use Rattle.gomocup_text.specs.declared.Answer.TheVariants.{Move}
 use Rattle.brain_session.specs.declared.Reaction.TheVariants.{Says}
-use Rattle.brain_session.proofs.Common.{Game, board_of, State, new_brain, Choice, chosen, chosen_anew, by_followed, first_node, Step}
-use Rattle.brain_session.proofs.Common.{step_by, with_choice, brain_step, state_after, BeginsHeldGame, IsLedTo, HeldGameGoesWell}
+use Rattle.brain_session.proofs.Common.{Game, board_of, State, new_brain, chosen, chosen_anew, by_followed, first_node, Step}
+use Rattle.brain_session.proofs.Common.{with_choice, brain_step, state_after, BeginsHeldGame, IsLedTo, HeldGameGoesWell}
 use Rattle.brain_session.proofs.Common.{HeldGamesGoWell, HeldGamesAreLed, SessionsGoWell, IsTight, StartsAreTight, replies}
 use Rattle.brain_session.proofs.Common.{answers_to_replies, game_answers, IsWonWithin, GoesOnAlong}
 use Rattle.brain_session.proofs.HeldNodes.{first-led, root-accepted, root-no_deeper}
@@ -26,12 +26,7 @@ use Rattle.brain_session.proofs.FollowedGames.{state_in}
 -- a held root that leads to a node in the game, where the moves went on: the node is accepted, and no deeper than the root
 held_led : (h : HeldTable) (g : Game) (i : ℕ) → IsHeld h → first_node g h.roots ≡ Some i → GoesOnAlong g.rule g.start g.moves
     → Accepted g.rule h.table i (board_of g) × IsLedTo h g i
-held_led h g i held leads along =
-    let found = first-led g h.roots i leads in
-    let is_held : IsHeldRoot h.table found.0 = All-contains (IsHeldRoot h.table) h.roots found.0 held.roots found.1 in (
-      root-accepted h.table found.0 g i is_held along found.2,
-      record { root = found.0; held = found.1; leads = found.2; no_deeper = root-no_deeper h.table found.0 g i found.2 },
-    )
+held_led h g i held leads along = search (rules, first-led, All-contains, root-accepted, root-no_deeper)
 
 -- ---- the game from there
 
@@ -43,10 +38,7 @@ chosen_held h g i n none leads at = rw (none, leads, at) refl
 -- the step at the command that begins a held game
 pub begins : (s : State) (c : Command) (g : Game) (i : ℕ) (n : Node) → BeginsHeldGame s c g i → slice_get s.held.table i ≡ Some n
     → brain_step s c ≡ record { reaction = Says (Move n.attack); next = state_in s.held s.wish (with_choice g (by_node i n)) }
-begins s c g i n b at =
-    ap (step_by s) b.chooses
-    ∙ ap (λ (ch : Choice). let st : Step = record { reaction = Says (Move ch.at); next = state_in s.held s.wish (with_choice g ch) } in st)
-    (chosen_held s.held g i n b.not_followed b.leads at)
+begins s c g i n b at = search (rules, state_in, chosen_held)
 
 -- where a held game begins, its node stands in the game
 pub stands_where : (s : State) (c : Command) (g : Game) (i : ℕ) → IsHeld s.held → LawfulState s → BeginsHeldGame s c g i
@@ -104,8 +96,7 @@ sessions-go_well held is_held bytes before c later g i e b = held-games-go_well 
 -- ---- starts
 
 root_tight : (t : List Node) (rule : RuleKind) (b : Grid) (root : Root) → AcceptedRoot rule t root b → IsTight rule b root
-root_tight t rule b (Attack i) h = tt
-root_tight t rule b (Defend a) h = λ q. tight (outcome rule b q) _ (h q)
+root_tight t rule b root h = search (rules, tight)
 
 pub starts-are_tight : StartsAreTight
 starts-are_tight held h = λ k d lt. let r = get_or held.roots k d in root_tight held.table r.kind r.board r.root (h.roots k d lt).accepted

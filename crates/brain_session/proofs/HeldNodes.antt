@@ -1,11 +1,10 @@
 -- The node to which a held root leads in a game, and that to which the first leads that leads to one.
-use Rattle.std.proofs.Common.{◌≡◌, ℕ, zero, suc, ◌+◌, ◌≤◌, ◌<◌, Bool, true, false, cond, refl, sym, ap, subst}
+use Rattle.std.proofs.Common.{◌≡◌, ℕ, zero, suc, ◌+◌, ◌≤◌, ◌<◌, Bool, true, cond, refl, sym, ap, subst, rules}
 use Rattle.std.proofs.Common.{◌∙◌, arith, List, [], ◌∷◌, length, drop, Option, Some, None, slice_get, Contains, IsSomeAnd}
 use Rattle.std.proofs.Common.{option_and_then}
 use Rattle.std.specs.Option.{option_or}
 use Rattle.game_rules.proofs.Common.{Grid, after, LosesOr}
 use Rattle.game_rules.specs.declared.RuleKind.{RuleKind}
-use Rattle.game_rules.specs.declared.RuleKind.TheVariants.{Freestyle, Exact, Renju}
 use Rattle.game_rules.specs.declared.Outcome.{Outcome}
 use Rattle.game_rules.specs.declared.Point.{Point}
 use Rattle.strategy_graph.specs.declared.Node.{Node}
@@ -41,13 +40,11 @@ first-end g (r ∷ rs) (suc i) h = first-end g rs i (omega (arith, h))
 module _ (g : Game) (roots : List HeldRoot) (i : ℕ) (first : Option ℕ) (so_far : first_node g (drop i roots) ≡ first) where
   -- root i leads to no node
   pub first-skip : i < length roots → led_to g (slice_get roots i) ≡ None → first_node g (drop (i + 1) roots) ≡ first
-  first-skip low none = sym (first-step g roots i low ∙ ap (λ (o : Option ℕ). option_or o (first_node g (drop (i + 1) roots))) none)
-      ∙ so_far
+  first-skip low none = search (rules, first-step)
 
   -- it leads to a node
   pub first-found : i < length roots → (j : ℕ) → led_to g (slice_get roots i) ≡ Some j → Some j ≡ first
-  first-found low j led = sym (first-step g roots i low ∙ ap (λ (o : Option ℕ). option_or o (first_node g (drop (i + 1) roots))) led)
-      ∙ so_far
+  first-found low j led = search (rules, first-step)
 
   -- no root is left
   pub first-none : length roots ≤ i → None ≡ first
@@ -71,15 +68,11 @@ first-led g (r ∷ rs) i h = by_root (root_node g r) refl h (first-led g rs i) w
       (there.0, (suc place.0, omega (arith, low), place.2), there.2)
 
 pub same_rule-is : (k m : RuleKind) → same_rule k m ≡ true → k ≡ m
-same_rule-is Freestyle Freestyle h = refl
-same_rule-is Exact Exact h = refl
-same_rule-is Renju Renju h = refl
-same_rule-is _ _ h = cc
+same_rule-is k m h = search rules
 
 -- a choice that is made only under a test
 pub if_some : (t : Bool) (o : Option ℕ) (i : ℕ) → cond t o None ≡ Some i → (t ≡ true) × (o ≡ Some i)
-if_some true o i h = (refl, h)
-if_some false o i h = cc
+if_some t o i h = search rules
 
 start_accepted : (rule : RuleKind) (t : List Node) (a : Answers) (b start : Grid) (moves : List Point) (i : ℕ) → AcceptedStart rule t a b
     → GoesOnAlong rule start moves → start_answer a b start moves ≡ Some i → Accepted rule t i (board_after start moves)
@@ -103,25 +96,15 @@ node_accepted rule t (Defend a) b g i accepted along h = start_accepted rule t a
 -- the node to which an accepted root leads is accepted at the board of the game
 pub root-accepted : (t : List Node) (r : HeldRoot) (g : Game) (i : ℕ) → IsHeldRoot t r → GoesOnAlong g.rule g.start g.moves
     → root_node g r ≡ Some i → Accepted g.rule t i (board_of g)
-root-accepted t r g i held along h =
-    let there = if_some (same_rule r.kind g.rule) (node_at r.root r.board g) i h in
-    let accepted : AcceptedRoot g.rule t r.root r.board =
-    subst (λ (k : RuleKind). AcceptedRoot k t r.root r.board) (same_rule-is r.kind g.rule there.0) held.accepted in
-    node_accepted g.rule t r.root r.board g i accepted along there.1
+root-accepted t r g i held along h = search (rules, if_some, same_rule-is, node_accepted)
 
 -- and it is no deeper than the root
 start_no_deeper : (t : List Node) (a : Answers) (b start : Grid) (moves : List Point) (i : ℕ) → start_answer a b start moves ≡ Some i
     → depth t i ≤ start_depth t a
-start_no_deeper t a b start [] i h = cc
-start_no_deeper t a b start (q ∷ before) i h = answer-no_deeper t a q i
-    (if_some (same_board b (board_after start before)) (answer a q) i h).1
+start_no_deeper t a b start moves i h = search (rules, answer-no_deeper, if_some)
 
 node_no_deeper : (t : List Node) (root : Root) (b : Grid) (g : Game) (i : ℕ) → node_at root b g ≡ Some i → depth t i ≤ root_depth t root
-node_no_deeper t (Attack j) b g i h =
-    let there = (if_some (same_board b (board_of g)) (Some j) i h).1 in
-    let same : depth t j ≡ depth t i = cc in
-    omega (arith, same)
-node_no_deeper t (Defend a) b g i h = start_no_deeper t a b g.start g.moves i h
+node_no_deeper t root b g i h = search (rules, if_some, start_no_deeper)
 
 pub root-no_deeper : (t : List Node) (r : HeldRoot) (g : Game) (i : ℕ) → root_node g r ≡ Some i → depth t i ≤ root_depth t r.root
 root-no_deeper t r g i h = node_no_deeper t r.root r.board g i (if_some (same_rule r.kind g.rule) (node_at r.root r.board g) i h).1

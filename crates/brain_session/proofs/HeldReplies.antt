@@ -1,5 +1,5 @@
 -- Each legal reply that is sent to a brain in a held game is answered.
-use Rattle.std.proofs.Common.{◌≡◌, ℕ, true, List, ◌∷◌, sym, ap, subst, ◌∙◌, Some, is_some}
+use Rattle.std.proofs.Common.{◌≡◌, ℕ, true, List, ◌∷◌, ap, subst, ◌∙◌, Some, is_some, rules}
 use Rattle.game_rules.proofs.Common.{outcome}
 use Rattle.game_rules.specs.declared.RuleKind.{RuleKind}
 use Rattle.game_rules.specs.declared.Side.TheVariants.{White}
@@ -7,10 +7,10 @@ use Rattle.game_rules.specs.declared.Outcome.{Outcome}
 use Rattle.game_rules.specs.declared.Outcome.TheVariants.{GoesOn}
 use Rattle.game_rules.specs.declared.Point.{Point}
 use Rattle.strategy_graph.proofs.Common.{attacks}
-use Rattle.strategy_checker.specs.HeldRoots.{HeldTable, IsHeld}
+use Rattle.strategy_checker.specs.HeldRoots.{IsHeld}
 use Rattle.gomocup_text.specs.declared.Command.{Command}
-use Rattle.brain_session.proofs.Common.{Game, board_of, empty_board, new_game, State, new_brain, Row, Reacts, Chooses, rule_of, move_row}
-use Rattle.brain_session.proofs.Common.{row_of, Step, brain_step, then_answers, answers_from, state_after, BeginsHeldGame, AreReplies}
+use Rattle.brain_session.proofs.Common.{Game, board_of, empty_board, new_game, State, Row, Reacts, Chooses, rule_of, move_row}
+use Rattle.brain_session.proofs.Common.{row_of, Step, brain_step, then_answers, answers_from, BeginsHeldGame, AreReplies}
 use Rattle.brain_session.proofs.Common.{turns, game_answers, LegalRepliesAreAnswered}
 use Rattle.brain_session.proofs.HeldSteps.{held-answered}
 use Rattle.brain_session.proofs.RowCases.{row-cases}
@@ -65,9 +65,4 @@ answers_from_there s c g i qs held lawful b are =
     ∙ (held-answered s.held qs at.0 s.wish g i at.1 at.3 (supported s c g b.chooses) are).answers
 
 pub legal-replies-are_answered : LegalRepliesAreAnswered
-legal-replies-are_answered held is_held before c g i qs b are =
-    let kept = session-lawful held (new_brain held) before (new-lawful held) in
-    let s = state_after (new_brain held) before in
-    answers_from_there s c g i qs (subst IsHeld (sym kept.1) is_held) kept.0 b
-    (subst (λ (h : HeldTable). AreReplies g.rule (board_of g) (attacks g.rule h.table i (board_of g) qs) qs) (sym kept.1) are)
-    ∙ ap (λ (h : HeldTable). game_answers g.rule h.table i (board_of g) qs) kept.1
+legal-replies-are_answered held is_held before c g i qs b are = search (rules, session-lawful, new-lawful, answers_from_there)

@@ -1,6 +1,6 @@
 -- A game in which a held node is followed: how it goes on by one reply, over plain values, and what each later command does to it.
 use Rattle.std.proofs.Common.{Some, slice_get, is_some, IsSomeAnd, ◌≡◌, ℕ, suc, ◌≤◌, ◌<◌, Bool, true, false, cond, List}
-use Rattle.std.proofs.Common.{[], ◌∷◌, ◌++◌, map, length, refl, sym, ap, ◌∙◌, arith, not, subst}
+use Rattle.std.proofs.Common.{[], ◌∷◌, ◌++◌, map, length, refl, sym, ap, ◌∙◌, arith, not, subst, rules}
 use Rattle.game_rules.proofs.Common.{Grid, outcome, after, IsPosition, mover, other, goes_on, WinsOr, LosesOr}
 use Rattle.game_rules.specs.declared.RuleKind.{RuleKind}
 use Rattle.game_rules.specs.declared.Foul.{Foul}
@@ -37,9 +37,7 @@ pub record GoesBy (rule : RuleKind) (t : List Node) (d i : ℕ) (b : Grid) (a : 
 
 open_or_won : (o : Outcome) (r : Rest) (d : ℕ) → 1 ≤ d → WinsOr o (Unit {0}) → (o ≡ GoesOn → is_winning r ≡ false)
     → IsWonWithin d 0 (after_attack o (cond (is_winning r) NoMove Open))
-open_or_won WinsNow r d l h f = (omega arith, l)
-open_or_won GoesOn r d l h f = rw (f refl) l
-open_or_won _ r d l h f = absurd h
+open_or_won o r d l h f = search rules
 
 -- the answers by the attacks that are played
 answers_of_attacks : RuleKind → Grid → List Point → List Point → List Answer
@@ -60,10 +58,7 @@ module _ (rule : RuleKind) (t : List Node) (d i : ℕ) (b : Grid) (n : Node) (at
   pub by_none : WinsOr (outcome rule b n.attack) (Unit {0}) → (outcome rule b n.attack ≡ GoesOn → is_winning n.rest ≡ false)
       → GoesBy rule t d i b n.attack [] []
   unfolding game answers_of_attacks
-  by_none h f = record {
-    answers = said-by rule t i b [] (n.attack ∷ []) (attacks-open rule t i b n at);
-    won = rw at (open_or_won (outcome rule b n.attack) n.rest d l h f);
-  }
+  by_none h f = search (rules, said-by, attacks-open, open_or_won)
 
   module _ (o : outcome rule b n.attack ≡ GoesOn) (r : is_winning n.rest ≡ false) (q : Point) where
     pub attacks-foul : (qs : List Point) (f : Foul) → outcome rule (after b n.attack) q ≡ Fouls f
@@ -78,10 +73,7 @@ module _ (rule : RuleKind) (t : List Node) (d i : ℕ) (b : Grid) (n : Node) (at
 
     pub by_foul : (f : Foul) → outcome rule (after b n.attack) q ≡ Fouls f → GoesBy rule t d i b n.attack (q ∷ []) (Error OpponentFoul ∷ [])
     unfolding game
-    by_foul f e = record {
-      answers = said_foul f e ∙ said-by rule t i b (q ∷ []) (n.attack ∷ []) (attacks-foul [] f e);
-      won = rw (at, o, r, e) (omega arith, l);
-    }
+    by_foul f e = search (rules, said_foul, said-by, attacks-foul)
 
     pub attacks-next : (j : ℕ) (rs : List Point) → outcome rule (after b n.attack) q ≡ GoesOn → answer (answers_of n) q ≡ Some j
         → attacks rule t i b (q ∷ rs) ≡ n.attack ∷ attacks rule t j (after (after b n.attack) q) rs
@@ -92,10 +84,7 @@ module _ (rule : RuleKind) (t : List Node) (d i : ℕ) (b : Grid) (n : Node) (at
         → Move n.attack ∷ game_answers rule t j (after (after b n.attack) q) rs ≡ answers_of_attacks rule b (q ∷ rs)
         (n.attack ∷ attacks rule t j (after (after b n.attack) q) rs)
     unfolding answers_of_attacks
-    said_next j rs g =
-        let ps = attacks rule t j (after (after b n.attack) q) rs in
-        ap (λ (r : Bool). Move n.attack ∷ (map (λ p. Move p) ps ++ cond r (Error OpponentFoul ∷ []) []))
-        (sym (foul-later rule b n.attack q ps rs g))
+    said_next j rs g = search (rules, foul-later)
 
     pub won_next : (e j : ℕ) (rs : List Point) → outcome rule (after b n.attack) q ≡ GoesOn → answer (answers_of n) q ≡ Some j → e < d
         → IsWonWithin e (length rs) (game rule t j (after (after b n.attack) q) rs)
@@ -106,11 +95,7 @@ module _ (rule : RuleKind) (t : List Node) (d i : ℕ) (b : Grid) (n : Node) (at
     pub by_next : (e j : ℕ) (m : Node) (rs : List Point) (said : List Answer) → outcome rule (after b n.attack) q ≡ GoesOn
         → answer (answers_of n) q ≡ Some j → e < d → GoesBy rule t e j (after (after b n.attack) q) m.attack rs said
         → GoesBy rule t d i b n.attack (q ∷ rs) (Move m.attack ∷ said)
-    by_next e j m rs said g w less h = record {
-      answers = ap (λ (x : List Answer). Move n.attack ∷ x) h.answers ∙ said_next j rs g
-          ∙ said-by rule t i b (q ∷ rs) _ (attacks-next j rs g w);
-      won = won_next e j rs g w less h.won;
-    }
+    by_next e j m rs said g w less h = search (rules, said_next, said-by, attacks-next, won_next)
 
 -- the choice of the attack of node i
 abbrev pub by_node : ℕ → Node → Choice
@@ -168,14 +153,7 @@ module _ (h : HeldTable) (g : Game) (i : ℕ) (n : Node) (k : ℕ) (s : StandsIn
 
   pub parts : (is_winning n.rest ≡ false)
       × ((q : Point) → Meets g.rule (answers_of n) (AcceptedWithin k g.rule h.table) (after (board_of g) n.attack) q)
-  parts = by_outcome (outcome g.rule (board_of g) n.attack) o s.wins where
-    by_outcome : (r : Outcome) → r ≡ GoesOn → WinsOr r
-        ((is_winning n.rest ≡ false)
-        × ((q : Point) → Meets g.rule (answers_of n) (AcceptedWithin k g.rule h.table) (after (board_of g) n.attack) q))
-        → (is_winning n.rest ≡ false)
-        × ((q : Point) → Meets g.rule (answers_of n) (AcceptedWithin k g.rule h.table) (after (board_of g) n.attack) q)
-    by_outcome GoesOn e w = w
-    by_outcome _ e w = cc
+  parts = search rules
 
   -- the row of a TURN
   pub row_then : (w : ℕ) (q : Point) → row_of (state_in h w (with_choice g (by_node i n))) (Turn q.x q.y)

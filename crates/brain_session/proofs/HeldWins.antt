@@ -1,6 +1,6 @@
 -- Whoever answers by an accepted table wins within its depth, whatever legal replies come.
 use Rattle.std.proofs.Common.{◌≡◌, ℕ, suc, ◌≤◌, true, false, List, [], ◌∷◌, get_or, length, refl, sym, subst, arith}
-use Rattle.std.proofs.Common.{◌⊎◌, inl, inr, Some, slice_get, IsSomeAnd}
+use Rattle.std.proofs.Common.{◌⊎◌, inl, inr, Some, slice_get, IsSomeAnd, rules}
 use Rattle.game_rules.proofs.Common.{Grid, is_empty, outcome, after, is_foul, WinsOr, LosesOr}
 use Rattle.game_rules.proofs.Games.{WinsOr-map}
 use Rattle.game_rules.specs.declared.RuleKind.{RuleKind}
@@ -11,18 +11,15 @@ use Rattle.game_rules.specs.declared.Point.{Point}
 use Rattle.game_rules.proofs.Outcomes.{moved}
 use Rattle.strategy_graph.specs.declared.Node.{Node}
 use Rattle.strategy_graph.specs.declared.roots.Root.{Root}
-use Rattle.strategy_graph.specs.declared.roots.Root.TheVariants.{Attack, Defend}
 use Rattle.strategy_graph.proofs.Common.{Answers, answers_of, answer, is_winning, depth_within, depth, start_depth, Meets, AcceptedWithin}
-use Rattle.strategy_graph.proofs.Common.{Accepted, AcceptedRoot, End, Won, Open, game, attacks}
+use Rattle.strategy_graph.proofs.Common.{Accepted, AcceptedRoot, End, game, attacks}
 use Rattle.strategy_graph.proofs.Answering.{answer-greatest, IsSomeAnd-elim}
 use Rattle.strategy_graph.proofs.Fuel.{depth_some, deeper, accepted_node}
 use Rattle.brain_session.proofs.Common.{IsWonWithin, AreReplies, WinsGames, AnswersAndWins, RootWinsGames, WhoeverHoldsWins}
 use Rattle.brain_session.proofs.HeldSteps.{by_none, by_foul, attacks-first, attacks-foul, attacks-next, won_next}
 
 won_more : (d e n : ℕ) (end : End) → d ≤ e → IsWonWithin d n end → IsWonWithin e n end
-won_more d e n (Won k) less h = let high = h.1 in (h.0, omega (arith, high))
-won_more d e n Open less h = omega arith
-won_more d e n _ less h = h
+won_more d e n end less h = search rules
 
 module _ (rule : RuleKind) (t : List Node) where
   WinsOver : List Point → Type 0
@@ -37,8 +34,7 @@ module _ (rule : RuleKind) (t : List Node) where
         ((is_winning n.rest ≡ false) × ((q : Point) → Meets rule (answers_of n) (AcceptedWithin k rule t) (after b n.attack) q))
         → o ≡ GoesOn
         → (is_winning n.rest ≡ false) × ((q : Point) → Meets rule (answers_of n) (AcceptedWithin k rule t) (after b n.attack) q)
-    going GoesOn w e = w
-    going _ w e = cc
+    going o w e = search rules
 
     none_left : IsWonWithin (depth_within (suc k) t i) 0 (game rule t i b [])
     none_left = (by_none rule t _ i b n at (depth_some t i n k at) (WinsOr-map (outcome rule b n.attack) _ _ (λ w. tt) wins)
@@ -74,9 +70,7 @@ module _ (rule : RuleKind) (t : List Node) where
 
   wins-over : (qs : List Point) → WinsOver qs
   unfolding WinsOver
-  wins-over [] f i b h are =
-      let node = accepted_node rule t i b f h in
-      subst (λ (d : ℕ). IsWonWithin (depth_within d t i) 0 (game rule t i b [])) (sym node.2) (none_left i b node.1 node.0 node.3 node.4)
+  wins-over [] f i b h are = search (rules, accepted_node, none_left)
   wins-over (q ∷ qs) f i b h are =
       let node = accepted_node rule t i b f h in
       let first = attacks-first rule t 1 i b node.1 node.3 (omega arith) (q ∷ qs) in
@@ -108,8 +102,7 @@ module _ (rule : RuleKind) (t : List Node) where
     }) h)
 
   root_wins : (root : Root) (b : Grid) → AcceptedRoot rule t root b → RootWinsGames rule t root b
-  root_wins (Attack i) b h = node_wins i b h
-  root_wins (Defend a) b h = λ q empty. start_wins a b q empty (h q)
+  root_wins root b h = search (rules, node_wins, start_wins)
 
 pub whoever-holds_wins : WhoeverHoldsWins
 whoever-holds_wins held h = λ k d lt. let r = get_or held.roots k d in root_wins r.kind held.table r.root r.board (h.roots k d lt).accepted

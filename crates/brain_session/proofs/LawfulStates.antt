@@ -1,28 +1,22 @@
 -- What is true of the brain's state whatever it was told, as far as held games need it: the moves of a game that is not ended
 -- went on from a lawful position, and those of an ended one did so up to the last.
-use Rattle.std.proofs.Common.{◌≡◌, ℕ, Bool, true, false, cond, not, List, [], ◌∷◌, refl, sym, ap, subst, ◌∙◌, IfSome}
-use Rattle.std.proofs.Common.{◌≢◌, nat_le, Option, Some, None, is_none, option_and_then, leb-true}
-use Rattle.game_rules.proofs.Common.{Grid, IsBoard, is_on, put, IsPosition, outcome, mover, other, goes_on}
-use Rattle.game_rules.specs.declared.TheConstants.{MIN_SIDE}
+use Rattle.std.proofs.Common.{◌≡◌, ℕ, Bool, true, false, not, List, [], ◌∷◌, refl, sym, ap, subst, ◌∙◌, IfSome}
+use Rattle.std.proofs.Common.{◌≢◌, Option, Some, leb-true, rules}
+use Rattle.game_rules.proofs.Common.{Grid, IsBoard, is_on, put, IsPosition, outcome, mover, other}
 use Rattle.game_rules.specs.declared.RuleKind.{RuleKind}
 use Rattle.game_rules.specs.declared.Side.{Side}
-use Rattle.game_rules.specs.declared.Side.TheVariants.{Black, White}
-use Rattle.game_rules.specs.declared.Outcome.{Outcome}
-use Rattle.game_rules.specs.declared.Outcome.TheVariants.{Refused, GoesOn}
+use Rattle.game_rules.specs.declared.Side.TheVariants.{White}
 use Rattle.game_rules.specs.declared.Point.{Point}
 use Rattle.game_rules.proofs.Boards.{and_left, and_right}
 use Rattle.game_rules.proofs.Positions.{mover-then, IsBoard-put}
-use Rattle.foul_judge.specs.Lawful.{refusal}
-use Rattle.foul_judge.specs.declared.position.PositionError.{PositionError}
 use Rattle.foul_judge.proofs.Lawfulness.{lawful_from_none}
 use Rattle.strategy_checker.specs.HeldRoots.{HeldTable}
 use Rattle.gomocup_text.specs.declared.Command.{Command}
 use Rattle.brain_session.specs.declared.Reaction.{Reaction}
-use Rattle.brain_session.specs.declared.Reaction.TheVariants.{Silent, Says, Ends}
 use Rattle.brain_session.specs.declared.batch.BatchStone.{BatchStone}
 use Rattle.brain_session.proofs.Common.{Game, board_of, empty_board, new_game, Place, NoBoard, Fresh, InGame, Batch, State, new_brain}
-use Rattle.brain_session.proofs.Common.{side_of, colour_in, with_batch_stones, lawful_game, game_from, Choice, chosen, Row, Reacts, Chooses}
-use Rattle.brain_session.proofs.Common.{placed, is_side, board_in, same_side, with_move, move_row, is_bare, place_before, row_of}
+use Rattle.brain_session.proofs.Common.{side_of, colour_in, with_batch_stones, game_from, Choice, Row, Reacts, Chooses}
+use Rattle.brain_session.proofs.Common.{placed, is_side, board_in, same_side, move_row, place_before, row_of}
 use Rattle.brain_session.proofs.Common.{with_choice, step_by, brain_step, then_state, state_after, GoesOnAlong, StonesFit}
 use Rattle.brain_session.proofs.SessionGames.{along-lawful, start-lawful}
 use Rattle.brain_session.proofs.SessionBoards.{empty-mover, empty-lawful, board-sized, empty-board}
@@ -69,20 +63,16 @@ went_from true rule start (p ∷ before) h = start-lawful rule start before h
 -- the moves before the last one went on
 went_before : (ended : Bool) (rule : RuleKind) (start : Grid) (p : Point) (before : List Point) → WentOn ended rule start (p ∷ before)
     → GoesOnAlong rule start before
-went_before false rule start p before h = h.0
-went_before true rule start p before h = h
+went_before ended rule start p before h = search rules
 
 not_ended : (ended : Bool) (rule : RuleKind) (start : Grid) (moves : List Point) → ended ≡ false → WentOn ended rule start moves
     → GoesOnAlong rule start moves
-not_ended false rule start moves e h = h
-not_ended true rule start moves e h = cc
+not_ended ended rule start moves e h = search rules
 
 -- ---- boards
 
 IsBoard-empty : (width height : ℕ) → is_side width ≡ true → is_side height ≡ true → IsBoard (empty_board width height)
-IsBoard-empty width height w h =
-    board-sized width height (leb-true _ _ (and_left (nat_le MIN_SIDE width) _ w)) (leb-true _ _ (and_right (nat_le MIN_SIDE width) _ w))
-    (leb-true _ _ (and_left (nat_le MIN_SIDE height) _ h)) (leb-true _ _ (and_right (nat_le MIN_SIDE height) _ h))
+IsBoard-empty width height w h = search (rules, board-sized, leb-true, and_left, and_right)
 
 IsBoard-with : (brain : Side) (b : Grid) (stones : List BatchStone) → IsBoard b → IsBoard (with_batch_stones brain b stones)
 IsBoard-with brain b [] ok = ok
@@ -93,9 +83,7 @@ placed_lawful s place h = record { place = h; batch = tt }
 
 -- the board of the size of that in a place
 sized_board : (place : Place) → place ≢ NoBoard → LawfulPlace place → IsBoard (board_in place)
-sized_board NoBoard some h = absurd (some refl)
-sized_board (Fresh width height) some h = h
-sized_board (InGame g) some h = empty-board g.start (went_from g.ended g.rule g.start g.moves h).board
+sized_board place some h = search (rules, empty-board, went_from)
 
 batch_of : (s : State) (b : Batch) → s.batch ≡ Some b → LawfulState s → BatchFits (board_in s.place) b
 batch_of s b e h = subst (λ (o : Option Batch). IfSome o (BatchFits (board_in s.place))) e h.batch
@@ -118,53 +106,22 @@ mover_in_batch brain board width height b e fits h =
 -- the game that a batch begins is one in which the brain is to move
 batch_game : (rule : RuleKind) (place : Place) (b : Batch) → BatchFits (board_in place) b
     → IfSome (game_from rule (board_in place) b) IsToMove
-batch_game rule place b fits = by_colour b.bad (colour_in b.stones) refl where
-  by_refusal : (brain : Side) (o : Option PositionError) → colour_in b.stones ≡ Some brain
-      → refusal rule (with_batch_stones brain (board_in place) b.stones) ≡ o
-      → IfSome (cond (is_none o) (Some (new_game rule (with_batch_stones brain (board_in place) b.stones) brain)) None) IsToMove
-  by_refusal brain (Some error) c e = tt
-  by_refusal brain None c e = record {
-    along = lawful_from_none rule (with_batch_stones brain (board_in place) b.stones) (IsBoard-with brain (board_in place) b.stones fits.0)
-        e;
-    turn = let is = board_in_is place in mover_in_batch brain (board_in place) is.0 is.1 b is.2 fits c;
-  }
-
-  by_colour : (bad : Bool) (o : Option Side) → colour_in b.stones ≡ o
-      → IfSome (cond bad None (option_and_then (λ brain. lawful_game rule (with_batch_stones brain (board_in place) b.stones) brain) o))
-      IsToMove
-  by_colour true o e = tt
-  by_colour false None e = tt
-  by_colour false (Some brain) e = by_refusal brain (refusal rule (with_batch_stones brain (board_in place) b.stones)) e refl
+batch_game rule place b fits = search (rules, lawful_from_none, IsBoard-with, board_in_is, mover_in_batch)
 
 -- ---- a move of the opponent
 
 not_same : (s t : Side) → same_side s t ≡ false → other s ≡ t
-not_same Black Black e = cc
-not_same Black White e = refl
-not_same White Black e = refl
-not_same White White e = cc
+not_same s t e = search rules
 
 -- the opponent's move in a game in which the opponent is to move
 move_lawful : (s : State) (g : Game) (p : Point) → LawfulState s → GoesOnAlong g.rule g.start g.moves → other (mover (board_of g)) ≡ g.brain
     → LawfulRow s.held (move_row s g p (outcome g.rule (board_of g) p))
-move_lawful s g p h along turn = by_outcome (outcome g.rule (board_of g) p) refl where
-  by_outcome : (o : Outcome) → outcome g.rule (board_of g) p ≡ o → LawfulRow s.held (move_row s g p o)
-  by_outcome Refused e = (h, refl)
-  by_outcome GoesOn e = record {
-    along = (along, e);
-    turn = mover-then g.rule (board_of g) p (along-lawful g.rule g.start g.moves along) e ∙ turn;
-  }
-  by_outcome _ e = (placed_lawful s (InGame (with_move g p true)) along, refl)
+move_lawful s g p h along turn = search (rules, mover-then, along-lawful, placed_lawful)
 
 -- ---- the last move taken back
 
 place_before_lawful : (g : Game) (before : List Point) → GoesOnAlong g.rule g.start before → LawfulPlace (place_before g before)
-place_before_lawful g [] h = by_test (is_bare g.start) where
-  by_test : (b : Bool) → LawfulPlace
-      (cond b (Fresh g.start.width g.start.height) (InGame (record g { moves = []; ended = false; followed = None })))
-  by_test true = empty-board g.start h.board
-  by_test false = h
-place_before_lawful g (p ∷ before) h = h
+place_before_lawful g before h = search (rules, empty-board)
 
 -- ---- each command
 
@@ -206,15 +163,11 @@ row-lawful s c h = row-cases (LawfulRow s.held) s c (record {
 -- ---- sessions
 
 choice_lawful : (g : Game) (c : Choice) → IsToMove g → LawfulPlace (InGame (with_choice g c))
-choice_lawful g c h = by_outcome (outcome g.rule (board_of g) c.at) refl where
-  by_outcome : (o : Outcome) → outcome g.rule (board_of g) c.at ≡ o → WentOn (not (goes_on o)) g.rule g.start (c.at ∷ g.moves)
-  by_outcome GoesOn e = (h.along, e)
-  by_outcome _ e = h.along
+choice_lawful g c h = search rules
 
 step_lawful : (s : State) (row : Row) → LawfulState s → LawfulRow s.held row
     → LawfulState (step_by s row).next × ((step_by s row).next.held ≡ s.held)
-step_lawful s (Reacts r next) h l = l
-step_lawful s (Chooses g) h l = (placed_lawful s (InGame (with_choice g (chosen s.held g))) (choice_lawful g (chosen s.held g) l), refl)
+step_lawful s row h l = search (rules, placed_lawful, choice_lawful)
 
 -- a state that holds this, and is lawful
 abbrev pub IsKept : HeldTable → State → Type 0
@@ -225,9 +178,7 @@ pub next-lawful : (held : HeldTable) (s : State) (c : Command) → IsKept held s
 next-lawful held s c h = let l = step_lawful s (row_of s c) h.0 (row-lawful s c h.0) in (l.0, l.1 ∙ h.1)
 
 then_lawful : (held : HeldTable) (r : Reaction) (s later : State) → IsKept held s → IsKept held later → IsKept held (then_state r s later)
-then_lawful held Silent s later h k = k
-then_lawful held (Says a) s later h k = k
-then_lawful held Ends s later h k = h
+then_lawful held r s later h k = search rules
 
 pub session-lawful : (held : HeldTable) (s : State) (cs : List Command) → IsKept held s → IsKept held (state_after s cs)
 unfolding state_after

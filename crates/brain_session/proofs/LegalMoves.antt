@@ -1,6 +1,6 @@
 -- A plain move is at an empty point, where the position is lawful.
-use Rattle.std.proofs.Common.{◌≡◌, ◌<◌, Bool, true, ◌&&◌, not, refl, Option, Some, None, filter}
-use Rattle.game_rules.proofs.Common.{Grid, IsBoard, is_empty, is_empty_cell, cell_at, points_of, empties_of, five, IsPosition, outcome}
+use Rattle.std.proofs.Common.{◌≡◌, ◌<◌, Bool, true, ◌&&◌, not, refl, Option, Some, None, filter, rules}
+use Rattle.game_rules.proofs.Common.{Grid, IsBoard, is_empty, points_of, empties_of, five, IsPosition, outcome}
 use Rattle.game_rules.proofs.Common.{mover, other, is_foul}
 use Rattle.game_rules.specs.declared.RuleKind.{RuleKind}
 use Rattle.game_rules.specs.declared.Point.{Point}
@@ -16,10 +16,7 @@ use Rattle.brain_session.proofs.Common.{or_else, five_to_make, five_to_block, ne
 -- ---- the four rules
 
 least-is_empty : (b : Grid) → IsBoard b → 0 < empties_of b → is_empty b (least_empty b) ≡ true
-least-is_empty b ok some =
-    let p = some_empty b ok some in
-    find-some (is_empty b) (points_of b) (record { x = 0; y = 0 })
-    (points-found b (is_empty b) p.0 (and_left _ (is_empty_cell (cell_at b p.0)) p.1) p.1)
+least-is_empty b ok some = search (rules, some_empty, find-some, points-found, and_left)
 
 make-is_empty : (rule : RuleKind) (b : Grid) (p : Point) → five_to_make rule b ≡ Some p → is_empty b p ≡ true
 make-is_empty rule b p h = five-empty rule b (mover b) p (find-passes (five rule b (mover b)) (points_of b) p h)

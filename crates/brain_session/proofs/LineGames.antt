@@ -1,6 +1,6 @@
 -- A held game begins where a reader of the lines sees the position of a root, and is won.
 use Rattle.std.proofs.Common.{◌≡◌, ℕ, List, [], ◌∷◌, ◌++◌, refl, sym, ap, subst, ◌∙◌, arith, Option, Some, None}
-use Rattle.std.proofs.Common.{All, Contains, option_map, option_and_then}
+use Rattle.std.proofs.Common.{All, option_map, rules}
 use Rattle.std.proofs.lemmas.Option.{same_Some}
 use Rattle.std.proofs.lemmas.List.Elements.{All-contains, Contains-append_right}
 use Rattle.game_rules.proofs.Common.{Grid}
@@ -18,17 +18,16 @@ use Rattle.gomocup_text.specs.declared.Answer.{Answer}
 use Rattle.gomocup_text.specs.declared.Answer.TheVariants.{Move, Error}
 use Rattle.gomocup_text.specs.declared.ErrorText.TheVariants.{BadBoard, UnsupportedRule}
 use Rattle.brain_session.specs.declared.Reaction.{Reaction}
-use Rattle.brain_session.specs.declared.Reaction.TheVariants.{Silent, Says, Ends}
-use Rattle.brain_session.specs.declared.batch.BatchStone.{BatchStone}
-use Rattle.brain_session.proofs.Common.{Followed, Game, board_after, board_of, empty_board, new_brain, new_game, Place, NoBoard, Fresh}
-use Rattle.brain_session.proofs.Common.{InGame, Batch, State, game_from, Choice, by_followed, by_following, followed_after, last_move, Row}
+use Rattle.brain_session.specs.declared.Reaction.TheVariants.{Says}
+use Rattle.brain_session.proofs.Common.{Game, board_after, board_of, empty_board, new_brain, new_game, Place, NoBoard, Fresh}
+use Rattle.brain_session.proofs.Common.{InGame, Batch, State, game_from, by_followed, Row}
 use Rattle.brain_session.proofs.Common.{Chooses, rule_of, if_supported, board_in, unread, batch_row, done_row, begin_row, if_not_reading}
 use Rattle.brain_session.proofs.Common.{row_of, step_by, brain_step, answer_texts, answers_from, session_text, state_after, then_answers}
 use Rattle.brain_session.proofs.Common.{AreReplies, RootWinsGames, game_answers, turn_lines, HasComeTo, IsNodeOf, IsThere, Drawing, Sheet}
-use Rattle.brain_session.proofs.Common.{drawn_board, sent_board, BeginsByLines, HeldLinesWin, begun_at, drawing_of}
+use Rattle.brain_session.proofs.Common.{drawn_board, sent_board, HeldLinesWin, begun_at, drawing_of}
 use Rattle.brain_session.proofs.SessionLaws.{answers-append, answers-one}
 use Rattle.brain_session.proofs.LawfulStates.{LawfulState, session-lawful, new-lawful}
-use Rattle.brain_session.proofs.Drawings.{AreSent, IsDrawn, batch-sent, drawn-session, sheet_of}
+use Rattle.brain_session.proofs.Drawings.{IsDrawn, batch-sent, drawn-session, sheet_of}
 use Rattle.brain_session.proofs.HeldWins.{whoever-holds_wins}
 use Rattle.brain_session.proofs.RootGames.{roots-begin_games}
 use Rattle.brain_session.proofs.TurnLines.{replies-in_bytes}
@@ -40,9 +39,7 @@ same_front [] ys zs e = e
 same_front (x ∷ xs) ys zs e = let rest : xs ++ ys ≡ xs ++ zs = cc in same_front xs ys zs rest
 
 moved_by : (r : Reaction) (p : Point) → then_answers r [] ≡ Move p ∷ [] → r ≡ Says (Move p)
-moved_by Silent p e = cc
-moved_by (Says a) p e = let same : a ≡ Move p = cc in ap (λ (b : Answer). Says b) same
-moved_by Ends p e = cc
+moved_by r p e = search rules
 
 -- ---- a new game
 
@@ -124,9 +121,7 @@ module _ (s : State) (d : Drawing) (lawful : LawfulState s) (is : IsDrawn s d) (
 
 -- nothing is followed yet
 none_followed : (h : HeldTable) (g : Game) → g.followed ≡ None → by_followed h g ≡ None
-none_followed h g e =
-    ap (λ (o : Option Followed). option_and_then (by_following h g)
-    (option_and_then (λ f. option_and_then (followed_after h f) (last_move g.moves)) o)) e
+none_followed h g e = search rules
 
 -- the game has not come to a root that is held elsewhere
 elsewhere : (e r : HeldRoot) (g : Game) → g.rule ≡ r.kind → board_of g ≡ r.board → g.moves ≡ []

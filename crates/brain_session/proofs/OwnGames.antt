@@ -1,7 +1,7 @@
 -- Games by a win of the brain's own go well: from the command that begins one, the answers to the replies are the chosen moves of the
 -- win; and they are the attacks of the table of the win.
 use Rattle.std.proofs.Common.{◌≡◌, ℕ, zero, suc, ◌+◌, ◌-◌, ◌≤◌, ◌<◌, Bool, true, false, cond, ◌&&◌, List, []}
-use Rattle.std.proofs.Common.{◌∷◌, length, refl, sym, ap, subst, ◌∙◌, arith, nat_le, Option, Some, None, slice_get, map}
+use Rattle.std.proofs.Common.{◌∷◌, length, refl, sym, ap, subst, ◌∙◌, arith, nat_le, Option, Some, None, slice_get, rules}
 use Rattle.std.proofs.Common.{◌++◌, IsSomeAnd, find, option_map, option_and_then}
 use Rattle.std.specs.List.{range_with_len}
 use Rattle.std.proofs.lemmas.Option.{same_Some}
@@ -32,8 +32,8 @@ use Rattle.gomocup_text.specs.declared.Answer.TheVariants.{Move, Error}
 use Rattle.gomocup_text.specs.declared.ErrorText.TheVariants.{OpponentFoul}
 use Rattle.brain_session.specs.declared.TheConstants.{OWN_MOVES, OWN_POSITIONS}
 use Rattle.brain_session.specs.declared.Reaction.TheVariants.{Says}
-use Rattle.brain_session.proofs.Common.{Followed, OwnWin, Game, board_of, State, new_brain, Choice, or_else, followed_after, by_following}
-use Rattle.brain_session.proofs.Common.{last_move, chosen, chosen_anew, by_followed, first_node, own_win, Step, step_by, with_choice}
+use Rattle.brain_session.proofs.Common.{Followed, OwnWin, Game, board_of, State, new_brain, Choice, followed_after, by_following}
+use Rattle.brain_session.proofs.Common.{last_move, chosen, by_followed, first_node, own_win, Step, step_by, with_choice}
 use Rattle.brain_session.proofs.Common.{brain_step, state_after, AreReplies, IsWonWithin, replies, answers_to_replies, answers_by, turns}
 use Rattle.brain_session.proofs.Common.{BeginsOwnGame, PlaysWin, win_game, win_attacks, win_answers, OwnGameGoesWell, OwnGamesGoWell}
 use Rattle.brain_session.proofs.Common.{OwnRepliesAreAnswered}
@@ -86,9 +86,7 @@ attacks_are : (rule : RuleKind) (n : ℕ) (b : Grid) (qs ps : List Point) → wi
 attacks_are rule n b qs ps e = ap (λ (l : List Point). answers_by rule b l qs) (sym e)
 
 open_or_won : (o : Outcome) (n : ℕ) → 1 ≤ n → WinsOr o (Unit {0}) → IsWonWithin n 0 (after_attack o Open)
-open_or_won WinsNow n l h = (omega arith, l)
-open_or_won GoesOn n l h = l
-open_or_won _ n l h = absurd h
+open_or_won o n l h = search rules
 
 module _ (rule : RuleKind) (n : ℕ) (b : Grid) (p : Point) (chosen_is : four_move rule n b ≡ Some p) (some : 1 ≤ n) where
   attacks_none : win_attacks rule n b [] ≡ p ∷ []
@@ -97,10 +95,7 @@ module _ (rule : RuleKind) (n : ℕ) (b : Grid) (p : Point) (chosen_is : four_mo
 
   by_none : WinsOr (outcome rule b p) (Unit {0}) → GoesByWin rule n b p [] []
   unfolding win_game
-  by_none wins = record {
-    answers = attacks_are rule n b [] (p ∷ []) attacks_none;
-    won = rw chosen_is (open_or_won (outcome rule b p) n some wins);
-  }
+  by_none wins = search (rules, attacks_are, attacks_none, open_or_won)
 
   -- the chosen move is the first attack
   attacks_first : (q : Point) (qs : List Point) → (rest : List Point) × (win_attacks rule n b (q ∷ qs) ≡ p ∷ rest)
@@ -120,10 +115,7 @@ module _ (rule : RuleKind) (n : ℕ) (b : Grid) (p : Point) (chosen_is : four_mo
 
     by_foul : (f : Foul) → outcome rule (after b p) q ≡ Fouls f → GoesByWin rule n b p (q ∷ []) (Error OpponentFoul ∷ [])
     unfolding win_game
-    by_foul f e = record {
-      answers = said_foul f e ∙ attacks_are rule n b (q ∷ []) (p ∷ []) (attacks_foul [] f e);
-      won = rw (chosen_is, on, e) (omega arith, some);
-    }
+    by_foul f e = search (rules, said_foul, attacks_are, attacks_foul)
 
     attacks_next : (qs : List Point) → outcome rule (after b p) q ≡ GoesOn
         → win_attacks rule n b (q ∷ qs) ≡ p ∷ win_attacks rule (n - 1) (after (after b p) q) qs
@@ -133,9 +125,7 @@ module _ (rule : RuleKind) (n : ℕ) (b : Grid) (p : Point) (chosen_is : four_mo
     said_next : (qs : List Point) → outcome rule (after b p) q ≡ GoesOn
         → Move p ∷ win_answers rule (n - 1) (after (after b p) q) qs ≡ answers_by rule b
         (p ∷ win_attacks rule (n - 1) (after (after b p) q) qs) (q ∷ qs)
-    said_next qs e =
-        let ps = win_attacks rule (n - 1) (after (after b p) q) qs in
-        ap (λ (r : Bool). Move p ∷ (map (λ x. Move x) ps ++ cond r (Error OpponentFoul ∷ []) [])) (sym (foul-later rule b p q ps qs e))
+    said_next qs e = search (rules, foul-later)
 
     won_next : (qs : List Point) → outcome rule (after b p) q ≡ GoesOn
         → IsWonWithin (n - 1) (length qs) (win_game rule (n - 1) (after (after b p) q) qs)
@@ -146,10 +136,7 @@ module _ (rule : RuleKind) (n : ℕ) (b : Grid) (p : Point) (chosen_is : four_mo
     by_next : (v : Point) (qs : List Point) (said : List Answer) → outcome rule (after b p) q ≡ GoesOn
         → GoesByWin rule (n - 1) (after (after b p) q) v qs said
         → GoesByWin rule n b p (q ∷ qs) (Move v ∷ said)
-    by_next v qs said e h = record {
-      answers = ap (λ (x : List Answer). Move p ∷ x) h.answers ∙ said_next qs e ∙ attacks_are rule n b (q ∷ qs) _ (attacks_next qs e);
-      won = won_next qs e h.won;
-    }
+    by_next v qs said e h = search (rules, said_next, attacks_are, attacks_next, won_next)
 
 -- ---- the win is followed
 
@@ -247,31 +234,20 @@ own_followed h = record {
 
 after_same : (o : Outcome) (r : Bool) (e f : End) → (o ≡ GoesOn → (r ≡ false) × (e ≡ f))
     → after_attack o (cond r NoMove e) ≡ after_attack o f
-after_same GoesOn r e f same = let on = same refl in ap (λ (x : Bool). cond x NoMove e) on.0 ∙ on.1
-after_same _ r e f same = refl
+after_same o r e f same = search rules
 
 on_same : (o : Outcome) (r : Bool) (ps vs : List Point) → (o ≡ GoesOn → (r ≡ false) × (ps ≡ vs))
     → points_on o (cond r [] ps) ≡ points_on o vs
-on_same GoesOn r ps vs same = let on = same refl in ap (λ (x : Bool). cond x [] ps) on.0 ∙ on.1
-on_same _ r ps vs same = refl
+on_same o r ps vs same = search rules
 
 reply_same : (o : Outcome) (e f : End) → (o ≡ GoesOn → e ≡ f) → after_reply o e ≡ after_reply o f
-reply_same GoesOn e f same = same refl
-reply_same _ e f same = refl
+reply_same o e f same = search rules
 
 -- the accepted node i, which is m, is no winning node where its attack goes on
 no_winning : (rule : RuleKind) (t : List Node) (i : ℕ) (m : Node) (b : Grid) → Accepted rule t i b → slice_get t i ≡ Some m
     → outcome rule b m.attack ≡ GoesOn
     → is_winning m.rest ≡ false
-no_winning rule t i m b accepted at on =
-    let node = accepted_node rule t i b (suc i) accepted in
-    let same : node.1 ≡ m = same_Some node.1 m (sym node.3 ∙ at) in
-    ap (λ (x : Node). is_winning x.rest) (sym same)
-    ∙ by_outcome node.1 (outcome rule b node.1.attack) _ (ap (λ (x : Node). outcome rule b x.attack) same ∙ on) node.4 where
-      by_outcome : (x : Node) (o : Outcome) (W : Type 0) → o ≡ GoesOn → WinsOr o ((is_winning x.rest ≡ false) × W)
-          → is_winning x.rest ≡ false
-      by_outcome x GoesOn W e w = w.0
-      by_outcome x _ W e w = cc
+no_winning rule t i m b accepted at on = search (rules, accepted_node, same_Some)
 
 module _ (rule : RuleKind) (t : List Node) (table : IsTable t) where
   -- the game from node i at b against these replies is that of the win by fours within n moves
@@ -284,12 +260,7 @@ module _ (rule : RuleKind) (t : List Node) (table : IsTable t) where
       (stands : StandsFor t i (four_plan rule n b)) where
     -- its attack is the chosen move
     its_node : (m : Node) × (slice_get t i ≡ Some m) × (four_move rule n b ≡ Some m.attack)
-    its_node = by_node (slice_get t i) refl (plan-attacks rule t n i b wins stands) (four_move-some rule n b wins) where
-      by_node : (o : Option Node) → slice_get t i ≡ o → option_map (λ m. m.attack) o ≡ four_move rule n b
-          → (p : Point) × (four_move rule n b ≡ Some p)
-          → (m : Node) × (slice_get t i ≡ Some m) × (four_move rule n b ≡ Some m.attack)
-      by_node None e same some = let none : None ≡ Some some.0 = same ∙ some.1 in cc
-      by_node (Some m) e same some = (m, e, sym same)
+    its_node = search (rules, plan-attacks, four_move-some)
 
     module _ (m : Node) (at : slice_get t i ≡ Some m) (chosen_is : four_move rule n b ≡ Some m.attack) where
       no_winning_here : outcome rule b m.attack ≡ GoesOn → is_winning m.rest ≡ false
@@ -297,12 +268,7 @@ module _ (rule : RuleKind) (t : List Node) (table : IsTable t) where
 
       none_same : PlaysSame n i b []
       unfolding attacks game win_attacks win_game
-      none_same = record {
-        same_attacks = rw (at, chosen_is) (ap (λ (l : List Point). m.attack ∷ l)
-            (on_same (outcome rule b m.attack) (is_winning m.rest) [] [] (λ on. (no_winning_here on, refl))));
-        same_end = rw (at, chosen_is) (after_same (outcome rule b m.attack) (is_winning m.rest) Open Open
-            (λ on. (no_winning_here on, refl)));
-      }
+      none_same = search (rules, on_same, no_winning_here, after_same)
 
       module _ (q : Point) (qs : List Point) (later : (j : ℕ) (c : Grid) → IsPosition rule c → wins_by_fours rule (n - 1) c ≡ true
           → StandsFor t j (four_plan rule (n - 1) c) → PlaysSame (n - 1) j c qs) where
@@ -315,10 +281,7 @@ module _ (rule : RuleKind) (t : List Node) (table : IsTable t) where
           end_on : if_node (answer (answers_of m) q) (λ j. game rule t j then_board qs) ≡ one_later (win_game rule (n - 1) then_board qs)
 
         answered_same : (j : ℕ) → answer (answers_of m) q ≡ Some j → PlaysSame (n - 1) j then_board qs → GoesOnSame
-        answered_same j reply same = record {
-          attacks_on = rw reply same.same_attacks;
-          end_on = rw reply (ap one_later same.same_end);
-        }
+        answered_same j reply same = search rules
 
         both_on : outcome rule b m.attack ≡ GoesOn → outcome rule (after b m.attack) q ≡ GoesOn → GoesOnSame
         both_on on reply_on =
@@ -367,15 +330,10 @@ plays_win rule n b lawful wins t is = record {
 -- a number that is found in a range is one of it
 found_low : (f : ℕ → Bool) (a d m : ℕ) → find f (range_with_len a d) ≡ Some m → m < a + d
 found_low f a zero m h = cc
-found_low f a (suc d) m h = by_test (f a) h (found_low f (a + 1) d m) where
-  by_test : (r : Bool) → cond r (Some a) (find f (range_with_len (a + 1) d)) ≡ Some m
-      → (find f (range_with_len (a + 1) d) ≡ Some m → m < a + 1 + d) → m < a + suc d
-  by_test true e rest = let same : a ≡ m = cc in omega (arith, same)
-  by_test false e rest = let low = rest e in omega (arith, low)
+found_low f a (suc d) m h = search (rules, found_low f (a + 1) d m)
 
 least_low : (rule : RuleKind) (b : Grid) (limit m : ℕ) (r : Bool) → cond r (least_moves rule limit b) None ≡ Some m → m ≤ limit
-least_low rule b limit m true h = let low = found_low (λ k. wins_by_fours rule k b) 1 limit m h in omega (arith, low)
-least_low rule b limit m false h = cc
+least_low rule b limit m r h = search (rules, found_low)
 
 own_win_low : (rule : RuleKind) (b : Grid) (m : ℕ) → own_win rule b ≡ Some m → m ≤ OWN_MOVES
 own_win_low rule b m h = least_low rule b OWN_MOVES m (nat_le (four_cost rule OWN_MOVES b) OWN_POSITIONS) h
@@ -385,8 +343,7 @@ chosen_own : (h : HeldTable) (g : Game) (m : ℕ) (p : Point) → by_followed h 
     → own_win g.rule (board_of g) ≡ Some m
     → four_move g.rule m (board_of g) ≡ Some p → chosen h g ≡ record { at = p; followed = Some (OwnWin m) }
 unfolding chosen
-chosen_own h g m p followed held found move =
-    ap (λ (o : Option Choice). or_else o (λ _. chosen_anew h g)) followed ∙ chosen-own h g m p held found move
+chosen_own h g m p followed held found move = search (rules, chosen-own)
 
 -- where a game by a win of the brain's own begins, the win stands in the game, and the step is its first move
 record OwnBegins (s : State) (c : Command) (g : Game) (m : ℕ) : Type 0 where

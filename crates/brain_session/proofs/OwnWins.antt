@@ -1,16 +1,13 @@
 -- The win that the brain finds itself, by what the search of it answers.
-use Rattle.std.proofs.Common.{◌≡◌, ℕ, ◌≤◌, ◌<◌, true, false, sym, subst, ◌∙◌, Some, None}
+use Rattle.std.proofs.Common.{◌≡◌, ℕ, ◌≤◌, ◌<◌, true, false, subst, ◌∙◌, Some, None, rules}
 use Rattle.game_rules.proofs.Common.{Grid, wins_by_fours}
 use Rattle.game_rules.specs.declared.RuleKind.{RuleKind}
 use Rattle.game_rules.proofs.Games.{wins-some}
 use Rattle.strategy_graph.proofs.Following.{accepted-in_table}
-use Rattle.strategy_compiler.proofs.Common.{StandsFor}
 use Rattle.four_search.specs.declared.fewest.FourTable.{FourTable}
 use Rattle.four_search.specs.declared.fewest.FewestWin.{FewestWin}
-use Rattle.four_search.specs.declared.fewest.FewestWin.TheVariants.{Win, None as NoWin, Spent}
 use Rattle.four_search.specs.FewestWins.{IsFewestWin, win_of}
 use Rattle.four_search.specs.FourGame.{four_cost, least_moves}
-use Rattle.four_search.specs.Plans.{four_plan}
 use Rattle.four_search.proofs.Written.{least-none}
 use Rattle.four_search.proofs.Costs.{within, above, wins_by}
 use Rattle.brain_session.specs.declared.TheConstants.{OWN_MOVES, OWN_POSITIONS}
@@ -38,25 +35,13 @@ own_table-moves rule b own is = wins-some rule own.moves b (own_win-wins rule b 
 
 -- the table of the win, with its last node, stands at b
 pub own_table-stands : (rule : RuleKind) (b : Grid) (own : FourTable) → IsOwnTable rule b own → OwnStandsAt rule b own
-own_table-stands rule b own is = record {
-  in_table = accepted-in_table rule own.table own.node b is.accepted;
-  wins = own_win-wins rule b own.moves is.fewest;
-  stands = subst (λ (i : ℕ). StandsFor own.table i (four_plan rule own.moves b)) (sym is.last_node) is.plan.stands;
-  accepted = is.accepted;
-}
+own_table-stands rule b own is = search (rules, accepted-in_table, own_win-wins)
 
 -- ---- what the search answers
 
 found-by : (rule : RuleKind) (b : Grid) (found : FewestWin) → IsFewestWin rule OWN_MOVES OWN_POSITIONS b found
     → IsFound rule b (win_of found)
-found-by rule b (Win own) is = record {
-  fewest = own_win-some rule b own.moves is.fits is.made.win.least;
-  plan = is.made.plan;
-  last_node = is.made.last_node;
-  accepted = is.made.win.written.accepted;
-}
-found-by rule b NoWin is = own_win-none rule b is.none is.fits
-found-by rule b Spent is = own_win-spent rule b is
+found-by rule b found is = search (rules, own_win-some, own_win-none, own_win-spent)
 
 -- on a board that is b
 pub found-on : (rule : RuleKind) (b d : Grid) → d ≡ b → (found : FewestWin) → IsFewestWin rule OWN_MOVES OWN_POSITIONS d found

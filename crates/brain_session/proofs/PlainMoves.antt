@@ -1,6 +1,6 @@
 -- The points of plain moves, where the points of the board come one by one.
 use Rattle.std.proofs.Common.{◌≡◌, ℕ, ◌≤◌, Bool, true, false, cond, ◌&&◌, not, nat_le, nat_lt, refl, sym, ap, ◌∙◌}
-use Rattle.std.proofs.Common.{List, [], ◌∷◌, le-leb, ltb-true, ltb-false, Option, Some, None, find, filter}
+use Rattle.std.proofs.Common.{List, [], ◌∷◌, le-leb, ltb-true, ltb-false, Option, Some, None, find, filter, rules}
 use Rattle.std.proofs.lemmas.Bool.{lt-leb, false_from_ne_true, and_left as no_left, and_right as no_right}
 use Rattle.game_rules.proofs.Common.{Grid, is_empty, points_of, five, mover, other, outcome, is_foul}
 use Rattle.game_rules.specs.declared.RuleKind.{RuleKind}
@@ -56,11 +56,7 @@ module _ (distance : Point → ℕ) where
   pub nearest_of-turn : (f : Point → Bool) (best next found : Option Point) (p : Point) (ps : List Point)
       → nearest_of distance best (filter f (p ∷ ps)) ≡ found → next ≡ cond (f p) (cond (is_nearer distance p best) (Some p) best) best
       → nearest_of distance next (filter f ps) ≡ found
-  nearest_of-turn f best next found p ps h e = by_test (f p) h e where
-    by_test : (r : Bool) → nearest_of distance best (cond r (p ∷ filter f ps) (filter f ps)) ≡ found
-        → next ≡ cond r (cond (is_nearer distance p best) (Some p) best) best → nearest_of distance next (filter f ps) ≡ found
-    by_test true h e = ap (λ (o : Option Point). nearest_of distance o (filter f ps)) e ∙ h
-    by_test false h e = ap (λ (o : Option Point). nearest_of distance o (filter f ps)) e ∙ h
+  nearest_of-turn f best next found p ps h e = search rules
 
 -- ---- the first five point of the other side that may be blocked
 
@@ -74,15 +70,13 @@ block-init rule b m s all ps side of_other points given = rw (given, points, of_
 
 block-here : (rule : RuleKind) (b : Grid) (s : Side) (p : Point) (ps : List Point) (r : Bool) → r ≡ false
     → cond r (Some p) (find (may_block rule b s) ps) ≡ five_to_block rule b → find (may_block rule b s) ps ≡ five_to_block rule b
-block-here rule b s p ps true e h = cc
-block-here rule b s p ps false e h = h
+block-here rule b s p ps r e h = search rules
 
 -- a point that may not be blocked is passed
 pub block-turn : (rule : RuleKind) (b c : Grid) (s : Side) (p : Point) (ps qs : List Point) → c ≡ b → ps ≡ p ∷ qs
     → find (may_block rule b s) ps ≡ five_to_block rule b → may_block rule b s p ≡ false
     → find (may_block rule c s) qs ≡ five_to_block rule c
-block-turn rule b c s p ps qs same steps h fails =
-    rw same (block-here rule b s p qs (may_block rule b s p) fails (ap (find (may_block rule b s)) (sym steps) ∙ h))
+block-turn rule b c s p ps qs same steps h fails = search (rules, block-here)
 
 pub unfit-no_five : (rule : RuleKind) (b : Grid) (s : Side) (p : Point) → five rule b s p ≡ false → may_block rule b s p ≡ false
 unfit-no_five rule b s p e = no_left (five rule b s p) _ e
@@ -101,9 +95,7 @@ pub nearest-init : (rule : RuleKind) (b : Grid) (all ps : List Point) → all �
 nearest-init rule b all ps points given = rw (given, points) (nearest_of-first (off_middle b) (filter (may_play rule b) (points_of b)))
 
 same_best : (may near : Bool) (best other : Option Point) → (may && near) ≡ false → best ≡ cond may (cond near other best) best
-same_best true true best other h = cc
-same_best true false best other h = refl
-same_best false near best other h = refl
+same_best may near best other h = search rules
 
 -- a point that is not taken is passed
 pub nearest-turn : (rule : RuleKind) (b c : Grid) (best : Option Point) (p : Point) (ps qs : List Point) → c ≡ b → ps ≡ p ∷ qs

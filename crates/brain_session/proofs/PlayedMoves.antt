@@ -1,29 +1,25 @@
 -- A board and the moves that were made on it: a move more, the last move taken back, and all stones taken off.
 use Rattle.std.proofs.Common.{◌≡◌, ℕ, ◌+◌, ◌*◌, ◌<◌, ◌≤◌, Bool, true, refl, sym, ap, subst, ◌∙◌, arith}
-use Rattle.std.proofs.Common.{List, [], ◌∷◌, ◌++◌, length, reverse, Decides, eqb-true, eq-eqb, Some}
+use Rattle.std.proofs.Common.{List, [], ◌∷◌, ◌++◌, reverse, Decides, eqb-true, eq-eqb, Some, rules}
 use Rattle.std.proofs.lemmas.Bool.Decides.{same_from_decides}
 use Rattle.std.proofs.lemmas.List.Sums.{count_by-le-length}
 use lib.Pointwise.{pointwise, pointwise_decides}
-use Rattle.game_rules.proofs.Common.{Grid, IsBoard, is_empty, is_empty_cell, put, lift, empties_of, mover, after}
+use Rattle.game_rules.proofs.Common.{Grid, IsBoard, is_empty, put, lift, empties_of, mover, after}
 use Rattle.game_rules.specs.declared.Side.{Side}
 use Rattle.game_rules.specs.declared.Cell.{Cell}
-use Rattle.game_rules.specs.declared.Cell.TheVariants.{Empty, Black as BlackStone, White as WhiteStone}
 use Rattle.game_rules.specs.declared.Point.{Point}
 use Rattle.game_rules.proofs.Boards.{and_left, and_right, lift-put, empties_of-put}
 use Rattle.game_rules.proofs.Positions.{IsBoard-put}
 use Rattle.game_rules.proofs.PointLists.{reverse-push}
 use Rattle.stone_board.specs.Steps.{holds_stone}
 use Rattle.stone_board.proofs.Stones.{put-holds_stone}
-use Rattle.brain_session.proofs.Common.{board_after, empty_board, same_cell, same_board, last_move, Moves, IsKept, without_last}
+use Rattle.brain_session.proofs.Common.{board_after, empty_board, same_cell, same_board, last_move, IsKept, without_last}
 use Rattle.brain_session.proofs.SessionBoards.{empty-board, width-after, height-after}
 
 -- ---- whether two boards are one
 
 same_cell-Decides : (a b : Cell) → Decides (same_cell a b) (a ≡ b)
-same_cell-Decides Empty Empty = (λ h. refl, λ h. refl)
-same_cell-Decides BlackStone BlackStone = (λ h. refl, λ h. refl)
-same_cell-Decides WhiteStone WhiteStone = (λ h. refl, λ h. refl)
-same_cell-Decides _ _ = (λ h. cc, λ h. cc)
+same_cell-Decides a b = search rules
 
 pub same_board-is : (b c : Grid) → same_board b c ≡ true → b ≡ c
 same_board-is b c h =
@@ -41,8 +37,7 @@ same_board-itself b =
 
 -- a test that tells whether two boards are one is that of their widths, heights and cells
 pub same_board-told : (b c : Grid) (r : Bool) → Decides r (b ≡ c) → r ≡ same_board b c
-same_board-told b c r h = same_from_decides r (same_board b c) h
-    (same_board-is b c, λ e. subst (λ (g : Grid). same_board b g ≡ true) e (same_board-itself b))
+same_board-told b c r h = search (rules, same_from_decides, same_board-is, same_board-itself)
 
 -- ---- the moves, the last one first
 
@@ -51,29 +46,17 @@ same_board-told b c r h = same_from_decides r (same_board b c) h
 -- each board on the way is one
 pub IsBoard-after : (start : Grid) (moves : List Point) → IsBoard start → IsBoard (board_after start moves)
 IsBoard-after start [] ok = ok
-IsBoard-after start (p ∷ before) ok = IsBoard-put (board_after start before) (mover (board_after start before)) p
-    (IsBoard-after start before ok)
+IsBoard-after start (p ∷ before) ok = search (rules, IsBoard-put, IsBoard-after start before ok)
 
 -- a move more
 pub kept-play : (start board : Grid) (before : List Point) (made room : ℕ) (p : Point) (side : Side)
     → IsKept (record { start = start; moves = before }) board made room → is_empty board p ≡ true → side ≡ mover board
     → IsKept (record { start = start; moves = p ∷ before }) (put board side p) (made + 1) room
-kept-play start board before made room p side kept empty moves =
-    let ok : IsBoard board = subst IsBoard (sym kept.now) (IsBoard-after start before kept.start_board) in
-    record {
-      start_board = kept.start_board;
-      now = ap (λ (s : Side). put board s p) moves ∙ ap (λ (b : Grid). after b p) kept.now;
-      took_empty = (kept.took_empty, ap (λ (b : Grid). is_empty b p) (sym kept.now) ∙ empty);
-      taken = let fewer = empties_of-put board side p ok empty in let all = kept.taken in omega (arith, fewer, all);
-      room_for_all = kept.room_for_all;
-    }
+kept-play start board before made room p side kept empty moves = search (rules, IsBoard-after, empties_of-put)
 
 -- a board has no more empty points than points
 empties-fit : (b : Grid) (room : ℕ) → IsBoard b → b.width * b.height ≤ room → empties_of b ≤ room
-empties-fit b room ok fits =
-    let most : empties_of b ≤ length b.cells = count_by-le-length is_empty_cell b.cells in
-    let filled = ok.filled in
-    omega (arith, most, filled, fits)
+empties-fit b room ok fits = search (rules, count_by-le-length)
 
 -- there is room for it
 pub kept-room : (start board : Grid) (before : List Point) (made room : ℕ) (p : Point)
@@ -88,17 +71,12 @@ kept-room start board before made room p kept empty =
 -- the last move has its stone on the board
 pub kept-stone : (start board : Grid) (before : List Point) (made room : ℕ) (p : Point)
     → IsKept (record { start = start; moves = p ∷ before }) board made room → holds_stone board p ≡ true
-kept-stone start board before made room p kept =
-    let b : Grid = board_after start before in
-    ap (λ (c : Grid). holds_stone c p) kept.now ∙ put-holds_stone b (mover b) p (IsBoard-after start before kept.start_board)
-    kept.took_empty.1
+kept-stone start board before made room p kept = search (rules, put-holds_stone, IsBoard-after)
 
 -- without it the board is that before it
 pub kept-lift : (start board : Grid) (before : List Point) (made room : ℕ) (p : Point)
     → IsKept (record { start = start; moves = p ∷ before }) board made room → lift board p ≡ board_after start before
-kept-lift start board before made room p kept =
-    let b : Grid = board_after start before in
-    ap (λ (c : Grid). lift c p) kept.now ∙ lift-put b (mover b) p kept.took_empty.1
+kept-lift start board before made room p kept = search (rules, lift-put)
 
 -- the last move taken back
 pub kept-back : (start board : Grid) (before : List Point) (made left room : ℕ) (p : Point)
@@ -122,29 +100,17 @@ kept-back start board before made left room p kept fewer =
 pub kept-cleared : (start board : Grid) (before : List Point) (made room : ℕ)
     → IsKept (record { start = start; moves = before }) board made room
     → IsKept (record { start = empty_board start.width start.height; moves = [] }) (empty_board board.width board.height) 0 room
-kept-cleared start board before made room kept =
-    let wide : board.width ≡ start.width = ap (λ (b : Grid). b.width) kept.now ∙ width-after start before in
-    let high : board.height ≡ start.height = ap (λ (b : Grid). b.height) kept.now ∙ height-after start before in
-    let here : empty_board board.width board.height ≡ empty_board start.width start.height = λ i. empty_board (wide i) (high i) in
-    record {
-      start_board = empty-board start kept.start_board;
-      now = here;
-      took_empty = tt;
-      taken = let same = ap empties_of here in omega (arith, same);
-      room_for_all = kept.room_for_all;
-    }
+kept-cleared start board before made room kept = search (rules, width-after, height-after, empty-board)
 
 -- ---- the same, as the calls say it
 
 -- what the last move is tells how the list of moves goes on
 pub last-cons : (ps : List Point) (p : Point) → last_move ps ≡ Some p → ps ≡ p ∷ without_last ps
-last-cons [] p h = cc
-last-cons (q ∷ before) p h = cc
+last-cons ps p h = search rules
 
 pub kept-as : (start board : Grid) (ps qs : List Point) (made room : ℕ) → ps ≡ qs
     → IsKept (record { start = start; moves = ps }) board made room → IsKept (record { start = start; moves = qs }) board made room
-kept-as start board ps qs made room e kept = subst
-    (λ (ms : List Point). let m : Moves = record { start = start; moves = ms } in IsKept m board made room) e kept
+kept-as start board ps qs made room e kept = search rules
 
 pub kept-pushed : (start board next : Grid) (items more : List Point) (made longer room left : ℕ) (p : Point) (side : Side)
     → IsKept (record { start = start; moves = reverse items }) board made room → is_empty board p ≡ true → side ≡ mover board
@@ -164,8 +130,7 @@ kept-bare start board bare now before items made room none left kept cleared cle
 pub kept-popped : (start board : Grid) (items fewer : List Point) (made room : ℕ) (p : Point) → items ≡ fewer ++ p ∷ []
     → IsKept (record { start = start; moves = reverse items }) board made room
     → IsKept (record { start = start; moves = p ∷ reverse fewer }) board made room
-kept-popped start board items fewer made room p popped kept =
-    kept-as start board (reverse items) (p ∷ reverse fewer) made room (ap reverse popped ∙ reverse-push fewer p) kept
+kept-popped start board items fewer made room p popped kept = search (rules, kept-as, reverse-push)
 
 pub kept-left : (start board next : Grid) (before : List Point) (made left room still : ℕ) (p : Point)
     → IsKept (record { start = start; moves = p ∷ before }) board made room → next ≡ lift board p → left + 1 ≡ made → still ≡ room

@@ -1,9 +1,9 @@
 -- Where a game has come to a held root, a held game by it begins.
 use Rattle.std.proofs.Common.{◌≡◌, ℕ, suc, Bool, true, cond, refl, sym, ap, subst, ◌∙◌, arith, List, [], ◌∷◌, ◌++◌}
-use Rattle.std.proofs.Common.{Option, Some, None, All, option_map}
+use Rattle.std.proofs.Common.{Option, Some, None, All, option_map, rules}
 use Rattle.std.specs.Option.{option_or}
 use Rattle.std.proofs.lemmas.List.Elements.{All-contains, Contains-append_right}
-use Rattle.game_rules.proofs.Common.{Grid, outcome, after}
+use Rattle.game_rules.proofs.Common.{Grid, outcome}
 use Rattle.game_rules.specs.declared.RuleKind.{RuleKind}
 use Rattle.game_rules.specs.declared.Outcome.TheVariants.{GoesOn}
 use Rattle.game_rules.specs.declared.Point.{Point}
@@ -11,12 +11,12 @@ use Rattle.game_rules.proofs.Outcomes.{going}
 use Rattle.strategy_graph.specs.declared.Node.{Node}
 use Rattle.strategy_graph.specs.declared.roots.Root.{Root}
 use Rattle.strategy_graph.specs.declared.roots.Root.TheVariants.{Attack, Defend}
-use Rattle.strategy_graph.proofs.Common.{Answers, answer, Accepted, AcceptedRoot}
+use Rattle.strategy_graph.proofs.Common.{Answers, answer, AcceptedRoot}
 use Rattle.strategy_graph.proofs.Answering.{IsSomeAnd-elim}
 use Rattle.strategy_checker.specs.declared.held.HeldRoot.{HeldRoot}
 use Rattle.strategy_checker.specs.HeldRoots.{HeldTable, IsHeldRoot, IsHeld}
 use Rattle.gomocup_text.specs.declared.Command.{Command}
-use Rattle.brain_session.proofs.Common.{Game, board_after, board_of, State, new_brain, last_move, same_rule, same_board, start_answer}
+use Rattle.brain_session.proofs.Common.{Game, board_after, board_of, State, new_brain, last_move, same_board, start_answer}
 use Rattle.brain_session.proofs.Common.{node_at, root_node, first_node, by_followed, Step, Chooses, row_of, state_after, GoesOnAlong}
 use Rattle.brain_session.proofs.Common.{BeginsHeldGame, IsThere, IsNodeOf, HasComeTo, BeginsByRoot, RootsBeginGames}
 use Rattle.brain_session.proofs.PlayedMoves.{same_board-is, same_board-itself}
@@ -30,9 +30,7 @@ use Rattle.brain_session.proofs.LawfulStates.{LawfulState, IsToMove, LawfulRow, 
 start_leads : (a : Answers) (b start : Grid) (moves : List Point) (q : Point) (before : List Point) → moves ≡ q ∷ before
     → board_after start before ≡ b
     → start_answer a b start moves ≡ answer a q
-start_leads a b start moves q before are at =
-    ap (start_answer a b start) are
-    ∙ ap (λ (r : Bool). cond r (answer a q) None) (subst (λ (c : Grid). same_board b c ≡ true) (sym at) (same_board-itself b))
+start_leads a b start moves q before are at = search (rules, same_board-itself)
 
 -- the node by which a root is followed in a game that has come to it
 record Leads (root : Root) (b : Grid) (g : Game) : Type 0 where
@@ -43,8 +41,7 @@ record Leads (root : Root) (b : Grid) (g : Game) : Type 0 where
 answered_at : (rule : RuleKind) (t : List Node) (a : Answers) (b : Grid) (q : Point) → AcceptedRoot rule t (Defend a) b
     → outcome rule b q ≡ GoesOn
     → (j : ℕ) × (answer a q ≡ Some j)
-answered_at rule t a b q accepted on = IsSomeAnd-elim (answer a q) (λ j. Accepted rule t j (after b q)) _ (λ j reply k. (j, reply))
-    (going (outcome rule b q) _ on (accepted q))
+answered_at rule t a b q accepted on = search (rules, IsSomeAnd-elim, going)
 
 there_leads : (t : List Node) (root : Root) (b : Grid) (g : Game) → AcceptedRoot g.rule t root b → GoesOnAlong g.rule g.start g.moves
     → IsThere root b g → Leads root b g
@@ -67,11 +64,7 @@ there_leads t (Defend a) b g accepted along there =
 
 come_leads : (t : List Node) (r : HeldRoot) (g : Game) → IsHeldRoot t r → GoesOnAlong g.rule g.start g.moves → HasComeTo r g
     → (node : ℕ) × IsNodeOf r.root g node × (root_node g r ≡ Some node)
-come_leads t r g held along come =
-    let led = there_leads t r.root r.board g (subst (λ (k : RuleKind). AcceptedRoot k t r.root r.board)
-    (sym come.rule) held.accepted) along come.there in
-    let same : same_rule r.kind g.rule ≡ true = subst (λ (k : RuleKind). same_rule k g.rule ≡ true) come.rule (same_rule-itself g.rule) in
-    (led.node, led.is_its, ap (λ (x : Bool). cond x (node_at r.root r.board g) None) same ∙ led.leads)
+come_leads t r g held along come = search (rules, there_leads, same_rule-itself)
 
 -- ---- a root to which it has not come leads nowhere
 
@@ -91,9 +84,7 @@ node_there (Attack j) b g i h = sym (same_board-is b (board_of g) (if_some (same
 node_there (Defend a) b g i h = start_there a b g.start g.moves i h
 
 leads_come : (r : HeldRoot) (g : Game) (i : ℕ) → root_node g r ≡ Some i → HasComeTo r g
-leads_come r g i h =
-    let led = if_some (same_rule r.kind g.rule) (node_at r.root r.board g) i h in
-    record { rule = sym (same_rule-is r.kind g.rule led.0); there = node_there r.root r.board g i led.1 }
+leads_come r g i h = search (rules, if_some, same_rule-is, node_there)
 
 leads_nowhere : (r : HeldRoot) (g : Game) → (HasComeTo r g → ⊥) → root_node g r ≡ None
 leads_nowhere r g elsewhere = by_node (root_node g r) refl where

@@ -1,7 +1,7 @@
 -- The rows of the protocol, case by case: what holds of each row that a command may have holds of the row of any command.
-use Rattle.std.proofs.Common.{◌≡◌, ℕ, Bool, true, false, cond, ◌&&◌, List, [], ◌∷◌, refl, ap, ◌≢◌, Option, Some}
-use Rattle.std.proofs.Common.{None}
-use Rattle.game_rules.proofs.Common.{is_on, is_same_point, outcome, mover}
+use Rattle.std.proofs.Common.{◌≡◌, ℕ, Bool, true, false, cond, ◌&&◌, List, [], ◌∷◌, refl, ◌≢◌, Option, Some}
+use Rattle.std.proofs.Common.{None, rules}
+use Rattle.game_rules.proofs.Common.{is_on, outcome, mover}
 use Rattle.game_rules.specs.declared.RuleKind.{RuleKind}
 use Rattle.game_rules.specs.declared.Side.TheVariants.{Black, White}
 use Rattle.game_rules.specs.declared.Point.{Point}
@@ -11,13 +11,13 @@ use Rattle.gomocup_text.specs.declared.Command.TheVariants.{Start, RectStart, Be
 use Rattle.gomocup_text.specs.declared.Command.TheVariants.{Info, About, End, Blank, Malformed, Unknown}
 use Rattle.gomocup_text.specs.declared.Answer.{Answer}
 use Rattle.gomocup_text.specs.declared.Answer.TheVariants.{Ok as SaysOk, About as SaysAbout, Error, Unknown as SaysUnknown}
-use Rattle.gomocup_text.specs.declared.ErrorText.TheVariants.{UnsupportedSize, NoBoard as NoBoardText, NotReading, UnsupportedRule}
-use Rattle.gomocup_text.specs.declared.ErrorText.TheVariants.{BadBoard, BadArguments, GameStarted, GameOver, WrongTurn, BadMove}
+use Rattle.gomocup_text.specs.declared.ErrorText.TheVariants.{NoBoard as NoBoardText, NotReading, UnsupportedRule}
+use Rattle.gomocup_text.specs.declared.ErrorText.TheVariants.{BadBoard, BadArguments, GameOver, WrongTurn}
 use Rattle.brain_session.specs.declared.Reaction.TheVariants.{Silent, Says, Ends}
 use Rattle.brain_session.proofs.Common.{Game, board_of, empty_board, new_game, point_at, Place, NoBoard, Fresh, InGame, Batch, State}
 use Rattle.brain_session.proofs.Common.{new_batch, spoiled, with_batch_stone, game_from, Row, Reacts, Chooses, fails, unread, reading}
 use Rattle.brain_session.proofs.Common.{placed, rule_of, if_supported, is_side, start_row, restart_row, board_row, board_in, stone_row}
-use Rattle.brain_session.proofs.Common.{batch_row, done_row, begin_row, same_side, move_row, turn_row, place_before, last_row, takeback_row}
+use Rattle.brain_session.proofs.Common.{batch_row, done_row, begin_row, same_side, move_row, turn_row, place_before, takeback_row}
 use Rattle.brain_session.proofs.Common.{if_not_reading, row_of}
 
 -- each row that the command c may have in the state s, with what is known where it has it
@@ -51,32 +51,23 @@ pub record RowCases (P : Row → Type 0) (s : State) (c : Command) : Type 0 wher
 
 module _ (P : Row → Type 0) (s : State) (c : Command) (cases : RowCases P s c) where
   by_test : (r : Bool) (x y : Row) → (r ≡ true → P x) → (r ≡ false → P y) → P (cond r x y)
-  by_test true x y h k = h refl
-  by_test false x y h k = k refl
+  by_test r x y h k = search rules
 
   by_rule : (o : Option RuleKind) (u : State) (row : RuleKind → Row) → P (fails UnsupportedRule u)
       → ((rule : RuleKind) → o ≡ Some rule → P (row rule)) → P (if_supported o u row)
-  by_rule None u row none some = none
-  by_rule (Some rule) u row none some = some rule refl
+  by_rule o u row none some = search rules
 
   start_case : (width height : ℕ) → P (start_row s width height)
-  start_case width height = by_test (is_side width && is_side height) _ _
-      (λ e. cases.sized width height (and_left (is_side width) (is_side height) e) (and_right (is_side width) (is_side height) e))
-      (λ e. cases.says (Error UnsupportedSize))
+  start_case width height = search (rules, by_test, and_left, and_right)
 
   restart_case : (place : Place) → s.place ≡ place → P (restart_row s place)
-  restart_case NoBoard e = cases.says (Error NoBoardText)
-  restart_case (Fresh width height) e = cases.again width height (λ none. cc) (ap board_in e)
-  restart_case (InGame g) e = cases.again g.start.width g.start.height (λ none. cc) (ap board_in e)
+  restart_case place e = search rules
 
   board_case : (place : Place) → s.place ≡ place → P (board_row s place)
-  board_case NoBoard e = cases.says (Error NoBoardText)
-  board_case (Fresh width height) e = cases.reads (λ none. cc)
-  board_case (InGame g) e = cases.reads (λ none. cc)
+  board_case place e = search rules
 
   stone_case : (batch : Option Batch) (p : Point) (field : ℕ) → s.batch ≡ batch → P (stone_row s batch p field)
-  stone_case None p field e = cases.says SaysUnknown
-  stone_case (Some b) p field e = cases.stone b p field e
+  stone_case batch p field e = search rules
 
   done_case : (batch : Option Batch) → s.batch ≡ batch → P (done_row s batch)
   done_case None e = cases.says (Error NotReading)
@@ -88,10 +79,7 @@ module _ (P : Row → Type 0) (s : State) (c : Command) (cases : RowCases P s c)
         by_game rule supported (Some g) is = cases.whole rule b g supported e is
 
   begin_case : (place : Place) → s.place ≡ place → P (begin_row s place)
-  begin_case NoBoard e = cases.says (Error NoBoardText)
-  begin_case (InGame g) e = cases.says (Error GameStarted)
-  begin_case (Fresh width height) e = by_rule (rule_of s.wish) s _ (cases.says (Error UnsupportedRule))
-      (λ rule supported. cases.first rule width height supported e)
+  begin_case place e = search (rules, by_rule)
 
   turn_case : (place : Place) (p : Point) → s.place ≡ place → P (turn_row s place p)
   turn_case NoBoard p e = cases.says (Error NoBoardText)
@@ -103,17 +91,10 @@ module _ (P : Row → Type 0) (s : State) (c : Command) (cases : RowCases P s c)
       by_rule (rule_of s.wish) s _ (cases.says (Error UnsupportedRule)) (λ rule supported. cases.later rule g p supported e going others)))
 
   takeback_case : (place : Place) (p : Point) → s.place ≡ place → P (takeback_row s place p)
-  takeback_case NoBoard p e = cases.says (Error NoBoardText)
-  takeback_case (Fresh width height) p e = cases.says (Error BadMove)
-  takeback_case (InGame g) p e = by_moves g.moves refl where
-    by_moves : (moves : List Point) → g.moves ≡ moves → P (last_row s g p moves)
-    by_moves [] is = cases.says (Error BadMove)
-    by_moves (last ∷ before) is = by_test (is_same_point last p) _ _ (λ same. cases.back g last before e is)
-        (λ other. cases.says (Error BadMove))
+  takeback_case place p e = search (rules, by_test)
 
   reading_case : (batch : Option Batch) (row : Row) → s.batch ≡ batch → P row → P (if_not_reading s batch (λ _. row))
-  reading_case None row e h = h
-  reading_case (Some b) row e h = cases.spoils b e
+  reading_case batch row e h = search rules
 
 -- what holds in each case holds of the row of the command
 pub row-cases : (P : Row → Type 0) (s : State) (c : Command) → RowCases P s c → P (row_of s c)

@@ -1,7 +1,7 @@
 -- What a session has read, said and become when it comes to its next line, and how it may end there.
 use Rattle.std.proofs.Common.{◌≡◌, ◌≢◌, ◌<◌, ◌≤◌, ◌+◌, Bool, true, false, cond, List, [], ◌∷◌, ◌++◌}
 use Rattle.std.proofs.Common.{length, take, refl, sym, ap, subst, ◌∙◌, append_assoc, add_comm, arith, length-append, Option, Some}
-use Rattle.std.proofs.Common.{None, ◌⊎◌, inl, inr, ℕ, IfSome, option_to_list}
+use Rattle.std.proofs.Common.{None, ◌⊎◌, inl, inr, ℕ, IfSome, option_to_list, rules}
 use Rattle.std.specs.Io.KnownBytes.{IsAtEnd}
 use Rattle.std.proofs.lemmas.List.{append-nil, map-append}
 use Rattle.std.proofs.Math.Seq.{take-append_seam}
@@ -24,7 +24,7 @@ use Rattle.gomocup_text.specs.declared.Command.TheVariants.{End}
 use Rattle.gomocup_text.specs.declared.Answer.{Answer}
 use Rattle.gomocup_text.proofs.AskedLines.{asked, one_line, no_line, end_among}
 use Rattle.brain_session.specs.declared.Reaction.{Reaction}
-use Rattle.brain_session.specs.declared.Reaction.TheVariants.{Silent, Says, Ends}
+use Rattle.brain_session.specs.declared.Reaction.TheVariants.{Ends}
 use Rattle.brain_session.proofs.Common.{State, brain_step, takes_none, then_answers, answers_from, answer_texts, state_after, TakesCommands}
 use Rattle.brain_session.proofs.Common.{IsWritten, IsAnswered, IsHalfAnswered, Output, Served, served, Writes, HasAnswered, HasNoEnd}
 use Rattle.brain_session.proofs.Common.{IsReadToEnd, ReadsAfterAnswers, StopsAtRead, StopsAtWrite, StopsInTurn, StopsAtStep, within_limit}
@@ -58,10 +58,7 @@ writes_none output = record { wrote = Takes-none output.written; each = refl }
 -- one answer was written
 writes_one : (a : Answer) (old new : Output) → Takes old.written (answer_text a) new.written → IsAskedOnce old.asked new.asked
     → Writes (a ∷ []) old new
-writes_one a old new takes once = record {
-  wrote = subst (λ (text : List ℕ). Takes old.written text new.written) (sym (append-nil (answer_text a))) takes;
-  each = once;
-}
+writes_one a old new takes once = search (rules, append-nil)
 
 -- answers were written, and then more
 writes_then : (first second : List Answer) (old mid new : Output) → Writes first old mid → Writes second mid new
@@ -185,20 +182,14 @@ reads_answered told line left left_now last reads = record {
 
 -- the answer of a reaction was written
 wrote_one : (r : Reaction) (goes_on : Bool) (old new : Output) → IsWritten r goes_on old new → Writes (then_answers r []) old new
-wrote_one Silent goes_on old new is = subst (Writes [] old) (sym is.1) (writes_none old)
-wrote_one (Says a) goes_on old new is = writes_one a old new is.1 is.2
-wrote_one Ends goes_on old new is = subst (Writes [] old) (sym is.1) (writes_none old)
+wrote_one r goes_on old new is = search (rules, writes_none, writes_one)
 
 goes_on_from : (r : Reaction) (old new : Output) → IsWritten r true old new → r ≢ Ends
-goes_on_from Silent old new is = λ e. cc
-goes_on_from (Says a) old new is = λ e. cc
-goes_on_from Ends old new is = let no = is.0 in λ e. cc
+goes_on_from r old new is = search rules
 
 -- END says nothing
 wrote_end : (r : Reaction) (old new : Output) → r ≡ Ends → IsWritten r false old new → new ≡ old
-wrote_end Silent old new e is = is.1
-wrote_end (Says a) old new e is = cc
-wrote_end Ends old new e is = is.1
+wrote_end r old new e is = search rules
 
 -- where these commands, none of which is END, were answered
 module _ (v : Served) (cs : List Command) (no_end : HasNoEnd cs) (answered : HasAnswered v cs) (next : State) where
@@ -352,8 +343,7 @@ StopsAtStep-asked r v c next written so_far needs same unwritten =
 
 -- one read at most tells the end
 one_at_most : (b : Bool) → cond b 1 0 ≤ 1
-one_at_most true = omega arith
-one_at_most false = omega arith
+one_at_most b = search rules
 
 -- the end of the input is told
 pub record EndsAt (r : Reading) (v : Served) : Type 0 where

@@ -1,12 +1,12 @@
 -- The place of a session's board: empty boards, the size of a board along the moves, the board of a running game, and the rows of
 -- the protocol there.
-use Rattle.std.proofs.Common.{Option, Some, None, Result, Ok, Err, OnOk, OnErr, ◌==◌, nat_lt, is_none, IfOk, if◌then◌else◌}
+use Rattle.std.proofs.Common.{Option, Some, None, Result, OnOk, OnErr, ◌==◌, is_none, IfOk, if◌then◌else◌, rules}
 use Rattle.std.proofs.Common.{◌≡◌, inl, ℕ, ◌*◌, ◌<◌, ◌≤◌, Bool, true, false, ◌&&◌, cond, refl, sym, ap, subst}
-use Rattle.std.proofs.Common.{◌∙◌, arith, eqb-true, List, [], ◌∷◌, replicate}
+use Rattle.std.proofs.Common.{◌∙◌, arith, eqb-true, List, [], ◌∷◌}
 use Rattle.std.proofs.Math.Nat.{mul-pos}
 use Rattle.std.proofs.lemmas.List.Folds.{sum_by-replicate}
 use Rattle.std.proofs.lemmas.List.{length-replicate}
-use Rattle.game_rules.proofs.Common.{Grid, IsBoard, is_on, is_empty, is_empty_cell, is_stone_of, cell_at, place_of as cell_place, holds}
+use Rattle.game_rules.proofs.Common.{Grid, IsBoard, is_on, is_empty, is_empty_cell, place_of as cell_place, holds}
 use Rattle.game_rules.proofs.Common.{stones_of, empties_of, IsPosition, outcome, after, mover, is_same_point}
 use Rattle.game_rules.specs.declared.TheConstants.{MIN_SIDE, MAX_SIDE}
 use Rattle.game_rules.specs.declared.RuleKind.{RuleKind}
@@ -27,8 +27,8 @@ use Rattle.gomocup_text.specs.declared.Answer.TheVariants.{Error, Ok as SaysOk}
 use Rattle.gomocup_text.specs.declared.ErrorText.{ErrorText}
 use Rattle.gomocup_text.specs.declared.ErrorText.TheVariants.{UnsupportedRule, GameOver, WrongTurn, BadMove}
 use Rattle.brain_session.specs.declared.game.SessionGame.{SessionGame}
-use Rattle.brain_session.proofs.Common.{Game, Fresh, board_after, empty_board, new_game, Place, InGame, Batch, State, board_of, last_move}
-use Rattle.brain_session.proofs.Common.{is_game, board_in, is_bare, Row, Step, fails, placed, if_supported, same_side, move_row, turn_row}
+use Rattle.brain_session.proofs.Common.{Game, Fresh, board_after, empty_board, new_game, Place, InGame, State, board_of, last_move}
+use Rattle.brain_session.proofs.Common.{is_game, board_in, is_bare, Row, Step, fails, placed, if_supported, move_row, turn_row}
 use Rattle.brain_session.proofs.Common.{last_row, restart_row, takeback_row, EndsAlong, IsPlayed, IsRunning, IsPlace, Moves, IsKeptUp}
 use Rattle.brain_session.proofs.Common.{IsSessionBoard, IsUntouched, without_last, game_of, place_of, IsPointOn, are_one, in_place, IsRow}
 use Rattle.brain_session.proofs.Common.{IsStateOf, Takes, turn_refusal}
@@ -40,19 +40,14 @@ use Rattle.brain_session.proofs.SessionGames.{start-lawful, ends-empty}
 
 -- no stone stands on an empty board
 pub no-stones : (width height : ℕ) (s : Side) → stones_of (empty_board width height) s ≡ 0
-no-stones width height s =
-    sum_by-replicate (λ (c : Cell). cond (is_stone_of s c) 1 0) (width * height) Empty
-    ∙ ap (λ (r : Bool). (width * height) * cond r 1 0) (empty_stone s) ∙ omega arith
+no-stones width height s = search (rules, sum_by-replicate, empty_stone)
 
 -- Black is to move on it
 pub empty-mover : (width height : ℕ) → mover (empty_board width height) ≡ Black
 empty-mover width height = rw (no-stones width height Black, no-stones width height White) refl
 
 no-stone : (width height : ℕ) (s : Side) (p : Point) → holds (empty_board width height) s p ≡ true → true ≡ false
-no-stone width height s p h =
-    let b : Grid = empty_board width height in
-    let stone : is_stone_of s (cell_at b p) ≡ true = and_right (is_on b p) (is_stone_of s (cell_at b p)) h in
-    sym stone ∙ ap (is_stone_of s) (empty_cell (width * height) (cell_place b p)) ∙ empty_stone s
+no-stone width height s p h = search (rules, and_right, empty_cell, empty_stone)
 
 -- an empty board is a lawful position
 pub empty-lawful : (rule : RuleKind) (width height : ℕ) → IsBoard (empty_board width height) → IsPosition rule (empty_board width height)
@@ -90,27 +85,19 @@ height-after = after-same (λ b. b.height) (λ b p. refl)
 -- a move off the board is refused
 pub off-refused : (rule : RuleKind) (start : Grid) (moves : List Point) (p : Point) → is_on (empty_board start.width start.height) p ≡ false
     → outcome rule (board_after start moves) p ≡ Refused
-off-refused rule start moves p off =
-    let b : Grid = board_after start moves in
-    let same : is_on b p ≡ is_on (empty_board start.width start.height) p =
-    ap (λ (w : ℕ). nat_lt p.x w && nat_lt p.y b.height) (width-after start moves)
-    ∙ ap (λ (h : ℕ). nat_lt p.x start.width && nat_lt p.y h) (height-after start moves) in
-    taken_refused rule b p (ap (λ (r : Bool). r && is_empty_cell (cell_at b p)) (same ∙ off))
+off-refused rule start moves p off = search (rules, width-after, height-after, taken_refused)
 
 -- the empty board in the place of a session's board
 pub board_in-place : (m : Moves) (o : Option SessionGame) → board_in (place_of m o) ≡ empty_board m.start.width m.start.height
-board_in-place m None = refl
-board_in-place m (Some c) = refl
+board_in-place m o = search rules
 
 -- ---- a running game
 
 ends-board : (rule : RuleKind) (start : Grid) (moves : List Point) → EndsAlong rule start moves → IsBoard start
-ends-board rule start [] h = absurd h
-ends-board rule start (p ∷ before) h = (start-lawful rule start before h.0).board
+ends-board rule start moves h = search (rules, start-lawful)
 
 played-board : (ended : Bool) (rule : RuleKind) (start : Grid) (moves : List Point) → IsPlayed ended rule start moves → IsBoard start
-played-board true rule start moves h = ends-board rule start moves h
-played-board false rule start moves h = (start-lawful rule start moves h).board
+played-board ended rule start moves h = search (rules, ends-board, start-lawful)
 
 -- a game that runs began on a board
 pub running-board : (h : HeldTable) (g : Game) → IsRunning h g → IsBoard g.start
@@ -120,22 +107,12 @@ running-board h g run = played-board g.ended g.rule g.start g.moves run.played
 
 -- a board on which no stone stands is the empty board of its size
 pub bare-board : (b : Grid) → IsBoard b → is_bare b ≡ true → b ≡ empty_board b.width b.height
-bare-board b board bare =
-    let black : stones_of b Black ≡ 0 = eqb-true (stones_of b Black) 0 (and_left (stones_of b Black == 0) (stones_of b White == 0) bare) in
-    let white : stones_of b White ≡ 0 = eqb-true (stones_of b White) 0 (and_right (stones_of b Black == 0) (stones_of b White == 0) bare) in
-    ap (λ (cs : List Cell). record b { cells = cs }) (bare-cells b.cells black white ∙ ap (λ (n : ℕ). replicate n Empty) board.filled)
+bare-board b board bare = search (rules, eqb-true, and_left, and_right, bare-cells)
 
 -- the empty board of a size that is supported, or that a board has, is a board
 pub board-sized : (width height : ℕ) → MIN_SIDE ≤ width → width ≤ MAX_SIDE → MIN_SIDE ≤ height → height ≤ MAX_SIDE
     → IsBoard (empty_board width height)
-board-sized width height wide width_fits high height_fits =
-    record {
-      wide = wide;
-      width_fits = width_fits;
-      high = high;
-      height_fits = height_fits;
-      filled = length-replicate (width * height) Empty;
-    }
+board-sized width height wide width_fits high height_fits = search (rules, length-replicate)
 
 pub empty-board : (b : Grid) → IsBoard b → IsBoard (empty_board b.width b.height)
 empty-board b board = board-sized b.width b.height board.wide board.width_fits board.high board.height_fits
@@ -144,30 +121,21 @@ empty-board b board = board-sized b.width b.height board.wide board.width_fits b
 pub new-game : (m : Moves) (c : SessionGame) (kind : RuleKind) (side : Side) → IsUntouched m
     → c ≡ record { kind = kind; brain = side; ended = false; guide = None }
     → game_of m c ≡ new_game kind (empty_board m.start.width m.start.height) side
-new-game m c kind side untouched new =
-    ap (game_of m) new
-    ∙ ap (λ (moves : List Point). record (new_game kind m.start side) { moves = moves }) untouched.unmoved
-    ∙ ap (λ (b : Grid). new_game kind b side) untouched.bare
+new-game m c kind side untouched new = search rules
 
 -- where no game has begun none is in play, and the board is untouched
 pub no-game : (m : Moves) (o : Option SessionGame) → is_game (place_of m o) ≡ false → IsSessionBoard m o
     → (place_of m o ≡ Fresh m.start.width m.start.height) × IsUntouched m
-no-game m None none session_board = (refl, session_board)
-no-game m (Some c) none session_board = absurd (cc)
+no-game m o none session_board = search rules
 
 -- the move that was made last is on the board
 last-on : (rule : RuleKind) (start : Grid) (p : Point) (before : List Point) → is_empty (board_after start before) p ≡ true
     → is_on (empty_board start.width start.height) p ≡ true
-last-on rule start p before empty =
-    let b : Grid = board_after start before in
-    ap (λ (w : ℕ). nat_lt p.x w && nat_lt p.y start.height) (sym (width-after start before))
-    ∙ ap (λ (h : ℕ). nat_lt p.x b.width && nat_lt p.y h) (sym (height-after start before))
-    ∙ is_empty-on b p empty
+last-on rule start p before empty = search (rules, width-after, height-after, is_empty-on)
 
 played-on : (ended : Bool) (rule : RuleKind) (start : Grid) (p : Point) (before : List Point) → IsPlayed ended rule start (p ∷ before)
     → is_on (empty_board start.width start.height) p ≡ true
-played-on true rule start p before h = last-on rule start p before (ends-empty rule (board_after start before) p h.1)
-played-on false rule start p before h = last-on rule start p before (GoesOn-empty rule (board_after start before) p h.1)
+played-on ended rule start p before h = search (rules, last-on, ends-empty, GoesOn-empty)
 
 pub running-on : (h : HeldTable) (g : Game) (p : Point) (before : List Point) → g.moves ≡ p ∷ before → IsRunning h g
     → is_on (empty_board g.start.width g.start.height) p ≡ true
@@ -175,13 +143,7 @@ running-on h g p before e run = played-on g.ended g.rule g.start p before (subst
 
 -- a board that is untouched after a move was taken back
 pub untouched : (m : Moves) → IsBoard m.start → (is_none (last_move m.moves) && is_bare m.start) ≡ true → IsUntouched m
-untouched m board e = record {
-  unmoved = none m.moves (and_left (is_none (last_move m.moves)) (is_bare m.start) e);
-  bare = bare-board m.start board (and_right (is_none (last_move m.moves)) (is_bare m.start) e);
-} where
-  none : (moves : List Point) → is_none (last_move moves) ≡ true → moves ≡ []
-  none [] h = refl
-  none (p ∷ before) h = absurd (cc)
+untouched m board e = search (rules, and_left, bare-board, and_right)
 
 -- a game that is kept up is a session's board
 pub session_board-kept : (h : HeldTable) (m : Moves) (c : SessionGame) → IsKeptUp h m c → IsSessionBoard m (Some c)
@@ -191,10 +153,7 @@ session_board-kept h m c kept = (running-board h (game_of m c) kept.running, kep
 pub session_board-after : {T E : Type 0} (h : HeldTable) (m n : Moves) (c d : SessionGame) (r : Result T E) → OnOk r (IsKeptUp h n d)
     → OnErr r (n ≡ m)
     → OnErr r (d ≡ c) → IsSessionBoard m (Some c) → IsSessionBoard n (Some d)
-session_board-after h m n c d (Ok x) kept played game session_board = session_board-kept h n d kept
-session_board-after h m n c d (Err e) kept played game session_board =
-    subst (λ (x : Moves). IsSessionBoard x (Some d)) (sym played)
-    (subst (λ (x : SessionGame). IsSessionBoard m (Some x)) (sym game) session_board)
+session_board-after h m n c d r kept played game session_board = search (rules, session_board-kept)
 
 -- a session's board that is untouched after the last move was taken back
 pub untouched-before : (m : Moves) (o : Option SessionGame) → IsSessionBoard m o
@@ -205,10 +164,7 @@ untouched-before m (Some c) session_board e = untouched (record m { moves = with
 -- the same of the moves after the call that took it back
 pub untouched_by : (m n : Moves) (o : Option SessionGame) → IsSessionBoard m o → n ≡ record m { moves = without_last m.moves }
     → true ≡ (is_none (last_move n.moves) && is_bare n.start) → IsUntouched n
-untouched_by m n o session_board taken e =
-    let before : (is_none (last_move (without_last m.moves)) && is_bare m.start) ≡ true =
-    ap (λ (x : Moves). is_none (last_move x.moves) && is_bare x.start) (sym taken) ∙ sym e in
-    subst IsUntouched (sym taken) (untouched-before m o session_board before)
+untouched_by m n o session_board taken e = search (rules, untouched-before)
 
 -- ---- a move of the opponent
 
@@ -219,24 +175,19 @@ takes-by s r q a b e f = λ i. record { reaction = sym e i; next = placed s (sym
 -- an error leaves the place as it is
 fails-takes : (s : State) (e : ErrorText) (r : Reaction) (place : Place) → s.batch ≡ None → r ≡ Says (Error e) → place ≡ s.place
     → Takes (fails e s) s r (placed s place)
-fails-takes s e r place unread says same =
-    ap (λ (b : Option Batch). record { reaction = Says (Error e); next = record s { batch = b } }) unread
-    ∙ takes-by s r (Says (Error e)) place s.place says same
+fails-takes s e r place unread says same = search (rules, takes-by)
 
 -- what the row of the reply says in a game is its step, also where the reply begins the game and is no bad move
 move-takes : (s : State) (g : Game) (p : Point) (o : Outcome) (r : Reaction) (next : Game) → s.batch ≡ None
     → (o ≡ Refused → s.place ≡ InGame g)
     → IsRow s.held (move_row (in_place s.held (InGame g)) g p o) r (InGame next) → Takes (move_row s g p o) s r (placed s (InGame next))
-move-takes s g p Refused r next unread here is = fails-takes s BadMove r (InGame next) unread is.0 (is.1 ∙ sym (here refl))
-move-takes s g p _ r next unread here is = takes-by s r _ (InGame next) _ is.0 is.1
+move-takes s g p o r next unread here is = search (rules, fails-takes, takes-by)
 
 -- the same in a state that holds this
 held-takes : (h : HeldTable) (s : State) (g : Game) (p : Point) (o : Outcome) (r : Reaction) (next : Game) → s.held ≡ h → s.batch ≡ None
     → (o ≡ Refused → s.place ≡ InGame g)
     → IsRow h (move_row (in_place h (InGame g)) g p o) r (InGame next) → Takes (move_row s g p o) s r (placed s (InGame next))
-held-takes h s g p o r next holds unread here is =
-    move-takes s g p o r next unread here
-    (subst (λ (k : HeldTable). IsRow k (move_row (in_place k (InGame g)) g p o) r (InGame next)) (sym holds) is)
+held-takes h s g p o r next holds unread here is = search (rules, move-takes)
 
 -- ---- RESTART
 
@@ -247,15 +198,13 @@ cleared-untouched m n cleared = subst IsUntouched (sym cleared) (record { unmove
 -- and a board of its size may stand in the place
 pub cleared-place : (h : HeldTable) (m n : Moves) → IsBoard m.start
     → n ≡ record { start = empty_board m.start.width m.start.height; moves = [] } → IsPlace h (place_of n None)
-cleared-place h m n board cleared =
-    subst (λ (x : Moves). IsPlace h (place_of x None)) (sym cleared) (empty-board m.start board)
+cleared-place h m n board cleared = search (rules, empty-board)
 
 -- it is what a RESTART makes of the session's board
 pub restart-takes : (m n : Moves) (o : Option SessionGame) (s : State)
     → n ≡ record { start = empty_board m.start.width m.start.height; moves = [] }
     → Takes (restart_row s (place_of m o)) s (Says SaysOk) (placed s (place_of n None))
-restart-takes m n None s cleared = takes-by s (Says SaysOk) (Says SaysOk) _ _ refl (ap (λ (x : Moves). place_of x None) cleared)
-restart-takes m n (Some c) s cleared = takes-by s (Says SaysOk) (Says SaysOk) _ _ refl (ap (λ (x : Moves). place_of x None) cleared)
+restart-takes m n o s cleared = search (rules, takes-by)
 
 -- ---- TURN
 
@@ -269,26 +218,18 @@ row_by s ended wrong rule row = if ended then fails GameOver s else if wrong the
 
 open-row : (s : State) (ended wrong : Bool) (rule : Option RuleKind) (row : Row) → refused_by ended wrong rule ≡ None
     → row_by s ended wrong rule (λ _. row) ≡ row
-open-row s true wrong rule row e = absurd (cc)
-open-row s false true rule row e = absurd (cc)
-open-row s false false None row e = absurd (cc)
-open-row s false false (Some k) row e = refl
+open-row s ended wrong rule row e = search rules
 
 -- the row of a TURN that may come in a game
 turn-in_game : (h : HeldTable) (g : Game) (rule : Option RuleKind) (s : State) (p : Point) → turn_refusal (InGame g) rule ≡ None
     → IsStateOf h (InGame g) rule s → turn_row s (InGame g) p ≡ move_row s g p (outcome g.rule (board_of g) p)
-turn-in_game h g rule s p e at =
-    let row : Row = move_row s g p (outcome g.rule (board_of g) p) in
-    ap (λ (o : Option RuleKind). row_by s g.ended (same_side (mover (board_of g)) g.brain) o (λ _. row)) at.rule_is
-    ∙ open-row s g.ended (same_side (mover (board_of g)) g.brain) rule row e
+turn-in_game h g rule s p e at = search (rules, open-row)
 
 -- the row of a TURN on a board on which no game has begun, with a rule
 turn-fresh : (h : HeldTable) (width height : ℕ) (kind : RuleKind) (s : State) (p : Point) → IsStateOf h (Fresh width height) (Some kind) s
     → turn_row s (Fresh width height) p ≡ move_row s (new_game kind (empty_board width height) White) p
     (outcome kind (empty_board width height) p)
-turn-fresh h width height kind s p at =
-    ap (λ (o : Option RuleKind). if_supported o s
-    (λ k. let g : Game = new_game k (empty_board width height) White in move_row s g p (outcome k (board_of g) p))) at.rule_is
+turn-fresh h width height kind s p at = search rules
 
 -- a TURN off the board is a bad move
 pub turn-off : (h : HeldTable) (m : Moves) (o : Option SessionGame) (rule : Option RuleKind) (s : State) (p : Point)
@@ -315,13 +256,7 @@ pub turn-taken : {E : Type 0} (h : HeldTable) (g : Game) (rule : Option RuleKind
     → IfOk r (λ x. IsRow h (move_row (in_place h (InGame g)) g q (outcome g.rule (board_of g) q)) x (InGame next))
     → IfOk r (λ x. (s : State) (p : Point) → IsStateOf h (InGame g) rule s → IsPointOn b p at
     → Takes (turn_row s (InGame g) p) s x (placed s (InGame next)))
-turn-taken h g rule b at q (Err e) next may is taken = tt
-turn-taken h g rule b at q (Ok x) next may is taken = λ s p state point.
-    let there : IsPointOn b p (Some q) = subst (IsPointOn b p) is point in
-    let here = subst (λ (y : Point). IsRow h (move_row (in_place h (InGame g)) g y (outcome g.rule (board_of g) y)) x (InGame next)) there.1
-    taken in
-    subst (λ (w : Row). Takes w s x (placed s (InGame next))) (sym (turn-in_game h g rule s p may state))
-    (held-takes h s g p (outcome g.rule (board_of g) p) x next state.held_is state.unread (λ _. state.place_is) here)
+turn-taken h g rule b at q r next may is taken = search (rules, turn-in_game, held-takes)
 
 -- a TURN at a point of a board on which no game has begun, whose reply was taken
 pub first-taken : (h : HeldTable) (width height : ℕ) (kind : RuleKind) (s : State) (p : Point) (r : Reaction) (next : Game)
@@ -329,22 +264,14 @@ pub first-taken : (h : HeldTable) (width height : ℕ) (kind : RuleKind) (s : St
     → (let g : Game = new_game kind (empty_board width height) White in
     IsRow h (move_row (in_place h (InGame g)) g p (outcome kind (empty_board width height) p)) r (InGame next))
     → Takes (turn_row s (Fresh width height) p) s r (placed s (InGame next))
-first-taken h width height kind s p r next at on taken =
-    let g : Game = new_game kind (empty_board width height) White in
-    subst (λ (w : Row). Takes w s r (placed s (InGame next))) (sym (turn-fresh h width height kind s p at))
-    (held-takes h s g p (outcome kind (empty_board width height) p) r next at.held_is at.unread
-    (λ refused. absurd (moved kind (empty_board width height) p (empty-empty width height p on) refused)) taken)
+first-taken h width height kind s p r next at on taken = search (rules, turn-fresh, held-takes, moved, empty-empty)
 
 -- ---- TAKEBACK
 
 -- the move p is not the last one, if the point that was told is not
 not-last : (b : Grid) (q p : Point) (at : Option Point) → is_on b q ≡ true → IsPointOn b p at → are_one (Some q) at ≡ false
     → is_same_point q p ≡ false
-not-last b q p None on point e = by_test (is_same_point q p) refl where
-  by_test : (r : Bool) → is_same_point q p ≡ r → r ≡ false
-  by_test true same = let wrong : true ≡ false = sym on ∙ same_point-on b q p same ∙ point in cc
-  by_test false same = refl
-not-last b q p (Some w) on point e = ap (is_same_point q) (sym point.1) ∙ e
+not-last b q p at on point e = search (rules, same_point-on)
 
 -- a TAKEBACK of a point at which the last move was not made
 pub takeback-bad : (m : Moves) (o : Option SessionGame) (s : State) (p : Point) (at : Option Point) → s.place ≡ place_of m o

@@ -1,6 +1,6 @@
 -- What a session says and where it stands, command by command, up to END.
-use Rattle.std.proofs.Common.{◌≡◌, ◌≢◌, List, [], ◌∷◌, ◌++◌, refl, sym, ap, ◌∙◌, arith, zero, suc, inl, inr}
-use Rattle.std.proofs.Common.{Contains}
+use Rattle.std.proofs.Common.{◌≡◌, ◌≢◌, List, [], ◌∷◌, ◌++◌, refl, sym, ap, ◌∙◌, arith, suc, inl, inr}
+use Rattle.std.proofs.Common.{Contains, rules}
 use Rattle.std.proofs.lemmas.List.Elements.{Contains-append_cases}
 use Rattle.game_rules.proofs.Common.{outcome}
 use Rattle.game_rules.specs.declared.Side.TheVariants.{White}
@@ -11,7 +11,7 @@ use Rattle.gomocup_text.specs.declared.Command.{Command}
 use Rattle.gomocup_text.specs.declared.Command.TheVariants.{End}
 use Rattle.gomocup_text.specs.declared.Answer.{Answer}
 use Rattle.brain_session.specs.declared.Reaction.{Reaction}
-use Rattle.brain_session.specs.declared.Reaction.TheVariants.{Silent, Says, Ends}
+use Rattle.brain_session.specs.declared.Reaction.TheVariants.{Ends}
 use Rattle.brain_session.proofs.Common.{Game, board_of, empty_board, new_game, State, move_row, row_of, step_by, brain_step, then_answers}
 use Rattle.brain_session.proofs.Common.{answers_from, then_state, state_after, HasNoEnd}
 use Rattle.brain_session.proofs.RowCases.{row-cases}
@@ -56,8 +56,7 @@ pub later_go_on : (c : Command) (cs : List Command) → HasNoEnd (c ∷ cs) → 
 later_go_on c cs no_end = λ w. no_end (suc w.0, omega (arith, w.1), w.2)
 
 only_item : (c d : Command) → Contains (c ∷ []) d → c ≡ d
-only_item c d (zero, within, is) = is
-only_item c d (suc k, within, is) = absurd (omega (arith, within))
+only_item c d h = search rules
 
 pub HasNoEnd-push : (cs : List Command) (c : Command) → HasNoEnd cs → c ≢ End → HasNoEnd (cs ++ (c ∷ []))
 HasNoEnd-push cs c no_end goes_on = λ w. elim (Contains-append_cases cs (c ∷ []) End w) [
@@ -66,14 +65,10 @@ HasNoEnd-push cs c no_end goes_on = λ w. elim (Contains-append_cases cs (c ∷ 
 ]
 
 answers_go_on : (r : Reaction) (xs ys : List Answer) → r ≢ Ends → then_answers r (xs ++ ys) ≡ then_answers r xs ++ ys
-answers_go_on Silent xs ys goes_on = refl
-answers_go_on (Says a) xs ys goes_on = refl
-answers_go_on Ends xs ys goes_on = absurd (goes_on refl)
+answers_go_on r xs ys goes_on = search rules
 
 pub state_goes_on : (r : Reaction) (s later : State) → r ≢ Ends → then_state r s later ≡ later
-state_goes_on Silent s later goes_on = refl
-state_goes_on (Says a) s later goes_on = refl
-state_goes_on Ends s later goes_on = absurd (goes_on refl)
+state_goes_on r s later goes_on = search rules
 
 -- what is said at some commands and then at others, if END is not among the first
 pub answers-append : (s : State) (cs ds : List Command) → HasNoEnd cs →
@@ -105,9 +100,7 @@ unfolding answers_from
 answers-one s c = refl
 
 same_state : (r : Reaction) (s : State) → then_state r s s ≡ s
-same_state Silent s = refl
-same_state (Says a) s = refl
-same_state Ends s = refl
+same_state r s = search rules
 
 pub state-one : (s : State) (c : Command) → state_after s (c ∷ []) ≡ (brain_step s c).next
 unfolding state_after

@@ -1,7 +1,7 @@
 -- Steps of the brain: the step of a command by what its row says, and the stones of a batch that fit the board.
 use Rattle.std.proofs.Common.{◌≡◌, ℕ, ◌<◌, Bool, true, false, ◌&&◌, ◌||◌, not, refl, sym, ap, subst, ◌∙◌, arith}
-use Rattle.std.proofs.Common.{List, [], ◌∷◌, ◌++◌, length, get_or, Option, Some, None, Result, Ok, Err, IfOk, IfSome, IsOk}
-use Rattle.std.proofs.Common.{IsNone, is_none, is_some, All, ◌==◌, if◌then◌else◌, option_map}
+use Rattle.std.proofs.Common.{List, [], ◌∷◌, ◌++◌, length, get_or, Option, Some, None, Result, IfOk, IfSome, IsOk, rules}
+use Rattle.std.proofs.Common.{IsNone, is_some, All, ◌==◌, if◌then◌else◌, option_map}
 use Rattle.std.proofs.lemmas.List.Elements.{All-push}
 use Rattle.std.proofs.lemmas.List.Quantifiers.{all_pairs_push}
 use Rattle.std.proofs.lemmas.List.Folds.{list_any_at}
@@ -11,23 +11,20 @@ use Rattle.game_rules.specs.declared.Point.{Point}
 use Rattle.foul_judge.specs.Lawful.{refusal}
 use Rattle.strategy_checker.specs.HeldRoots.{HeldTable, IsHeld}
 use Rattle.gomocup_text.specs.declared.Command.{Command}
-use Rattle.gomocup_text.specs.declared.Command.TheVariants.{Begin, Done, Turn, Takeback, Malformed, Unknown}
-use Rattle.gomocup_text.specs.declared.Answer.TheVariants.{Unknown as SaysUnknown}
-use Rattle.gomocup_text.specs.declared.ErrorText.TheVariants.{BadArguments}
+use Rattle.gomocup_text.specs.declared.Command.TheVariants.{Done, Turn}
 use Rattle.brain_session.specs.declared.Reaction.{Reaction}
-use Rattle.brain_session.specs.declared.Reaction.TheVariants.{Silent, Says}
+use Rattle.brain_session.specs.declared.Reaction.TheVariants.{Silent}
 use Rattle.brain_session.specs.declared.batch.BatchStone.{BatchStone}
-use Rattle.brain_session.proofs.Common.{Game, Batch, Place, NoBoard, InGame, State, empty_board, point_at, new_batch, spoiled, has_stone_at}
-use Rattle.brain_session.proofs.Common.{with_batch_stone, with_stone_at, game_from, chosen, Row, Reacts, fails, unread, reading, placed}
-use Rattle.brain_session.proofs.Common.{if_supported, rule_of, with_choice, begin_row, turn_row, takeback_row, batch_row, done_row}
-use Rattle.brain_session.proofs.Common.{board_in, row_of, step_by, brain_step, if_not_reading, IsPlace, IsBrain, StonesFit, begins_none}
+use Rattle.brain_session.proofs.Common.{Game, Batch, Place, NoBoard, State, empty_board, point_at, new_batch, spoiled, has_stone_at}
+use Rattle.brain_session.proofs.Common.{with_batch_stone, with_stone_at, game_from, Row, Reacts, reading, placed}
+use Rattle.brain_session.proofs.Common.{rule_of, turn_row, done_row}
+use Rattle.brain_session.proofs.Common.{board_in, row_of, brain_step, if_not_reading, IsPlace, IsBrain, StonesFit, begins_none}
 use Rattle.brain_session.proofs.Common.{is_following, is_settled, takes_none, IsBegun, IsPointOn, IsStateOf, Takes, has_no_place_in_batch}
 use Rattle.brain_session.proofs.Common.{is_spoiled}
 use Rattle.game_rules.proofs.Boards.{and_left, and_right, on_x}
 
 none_from : {X : Type 0} (o : Option X) → IsNone o → o ≡ None
-none_from None e = refl
-none_from (Some x) e = absurd (cc)
+none_from o e = search rules
 
 -- ---- the steps of a session's board
 
@@ -36,26 +33,17 @@ pub turn-takes : {E : Type 0} (r : Result Reaction E) (s : State) (place new : P
     (p : Point) → s.place ≡ place → rule ≡ rule_of s.wish → IsNone s.batch → IsPointOn (board_in place) p at
     → IfOk r (λ x. (t : State) (q : Point) → IsStateOf s.held place rule t → IsPointOn (board_in place) q at
     → Takes (turn_row t place q) t x (placed t new)) → IfOk r (λ x. Takes (turn_row s s.place p) s x (record s { place = new }))
-turn-takes (Err e) s place new rule at p here by_wish none point rows = tt
-turn-takes (Ok x) s place new rule at p here by_wish none point rows =
-    let unread = none_from s.batch none in
-    let row = rows s p (record { held_is = refl; place_is = here; rule_is = sym by_wish; unread = unread }) point in
-    subst (λ (w : Place). Takes (turn_row s w p) s x (record s { place = new })) (sym here)
-    (subst (λ (b : Option Batch). Takes (turn_row s place p) s x (record s { place = new; batch = b })) (sym unread) row)
+turn-takes r s place new rule at p here by_wish none point rows = search (rules, none_from)
 
 -- a point that the brain was told is on the board
 pub told-on : (b : Grid) (p : Point) (at : Option Point) → IsPointOn b p at → IfSome at (λ q. is_on b q ≡ true)
-told-on b p None point = tt
-told-on b p (Some q) point = subst (λ (x : Point). is_on b x ≡ true) (sym point.1) point.0
+told-on b p at point = search rules
 
 -- ---- batches
 
 no-stone_at : (stones : List BatchStone) (p : Point) → has_stone_at stones p ≡ false → (k : ℕ) (d : BatchStone) → k < length stones
     → is_same_point (get_or stones k d).at p ≡ false
-no-stone_at stones p none k d less = by_test (is_same_point (get_or stones k d).at p) refl where
-  by_test : (r : Bool) → is_same_point (get_or stones k d).at p ≡ r → r ≡ false
-  by_test true e = let some : has_stone_at stones p ≡ true = list_any_at (λ (x : BatchStone). is_same_point x.at p) stones k d less e in cc
-  by_test false e = refl
+no-stone_at stones p none k d less = search (rules, list_any_at)
 
 -- no stones fit, those of a batch fit that was spoiled, and those after a line of the batch
 pub none_fit : (b : Grid) → StonesFit b new_batch
@@ -97,25 +85,12 @@ no-board rule b fit = by_parts b.bad b.stones fit.on_board where
 -- the brain begins a game from the batch, by what was begun
 pub done-takes : (s : State) (b : Batch) (kind : RuleKind) (r : Reaction) (place : Place) → s.batch ≡ Some b → Some kind ≡ rule_of s.wish
     → IsBegun s.held (game_from kind (board_in s.place) b) (Some (place, r)) → Takes (done_row s s.batch) s r (placed s place)
-done-takes s b kind r place read by_wish begun =
-    let row : done_row s s.batch ≡ batch_row s (game_from kind (board_in s.place) b) =
-    ap (done_row s) read ∙ ap (λ (o : Option RuleKind). if_supported o (unread s) (λ k. batch_row s (game_from k (board_in s.place) b)))
-    (sym by_wish) in
-    subst (λ (w : Row). Takes w s r (placed s place)) (sym row) (by_game (game_from kind (board_in s.place) b) begun) where
-      by_game : (o : Option Game) → IsBegun s.held o (Some (place, r)) → Takes (batch_row s o) s r (placed s place)
-      by_game None begun = absurd begun
-      by_game (Some g) begun = ap (λ (x : Reaction). record { reaction = x; next = placed s (InGame (with_choice g (chosen s.held g))) })
-          (sym begun.0) ∙ ap (λ (w : Place). record { reaction = r; next = placed s w }) (sym begun.1)
+done-takes s b kind r place read by_wish begun = search rules
 
 pub done-row : (s : State) (kind : RuleKind) (r : Reaction) (place : Place) → is_some s.batch ≡ true → Some kind ≡ rule_of s.wish
     → IfSome s.batch (λ b. IsBegun s.held (game_from kind (board_in s.place) b) (Some (place, r)))
     → Takes (done_row s s.batch) s r (placed s place)
-done-row s kind r place read by_wish begun = by_batch s.batch refl read begun where
-  by_batch : (o : Option Batch) → s.batch ≡ o → is_some o ≡ true
-      → IfSome o (λ b. IsBegun s.held (game_from kind (board_in s.place) b) (Some (place, r)))
-      → Takes (done_row s s.batch) s r (placed s place)
-  by_batch None e read begun = absurd (cc)
-  by_batch (Some b) e read begun = done-takes s b kind r place e by_wish begun
+done-row s kind r place read by_wish begun = search (rules, done-takes)
 
 -- without a board nothing is begun
 pub none-begun : (h : HeldTable) (kind : RuleKind) (place : Place) (o : Option Batch) → place ≡ NoBoard
@@ -135,44 +110,24 @@ fit-after b (Some x) at field on fit = fit-with b x at field on fit
 -- the brain as it stands after the line, by what the batch became
 pub stone-running : (s : State) (p : Point) (at : Option Point) (field : ℕ) (next : Option Batch) → IsBrain s
     → IsPointOn (board_in s.place) p at → next ≡ option_map (λ x. with_stone_at x at field) s.batch → IsBrain (record s { batch = next })
-stone-running s p at field next brain point is = record {
-  held = brain.held;
-  place = brain.place;
-  batch = subst (λ (o : Option Batch). IfSome o (StonesFit (board_in s.place))) (sym is)
-      (fit-after (board_in s.place) s.batch at field (told-on (board_in s.place) p at point) brain.batch);
-}
+stone-running s p at field next brain point is = search (rules, fit-after, told-on)
 
 -- the brain in another place, where no batch is read
 pub placed-running : (s : State) (place : Place) → IsHeld s.held → IsNone s.batch → IsPlace s.held place
     → IsBrain (record s { place = place })
-placed-running s place held none is = record {
-  held = held;
-  place = is;
-  batch = subst (λ (o : Option Batch). IfSome o (StonesFit (board_in place))) (sym (none_from s.batch none)) tt;
-}
+placed-running s place held none is = search (rules, none_from)
 
 -- ---- the step of each command
 
 outside-row : (s : State) (c : Command) (b : Batch) → has_no_place_in_batch c ≡ true → s.batch ≡ Some b
     → row_of s c ≡ Reacts Silent (reading s (spoiled b))
 unfolding row_of
-outside-row s Begin b e read = ap (λ (o : Option Batch). if_not_reading s o (λ _. begin_row s s.place)) read
-outside-row s (Turn x y) b e read = ap (λ (o : Option Batch). if_not_reading s o (λ _. turn_row s s.place (point_at x y))) read
-outside-row s (Takeback x y) b e read = ap (λ (o : Option Batch). if_not_reading s o (λ _. takeback_row s s.place (point_at x y))) read
-outside-row s Malformed b e read = ap (λ (o : Option Batch). if_not_reading s o (λ _. fails BadArguments s)) read
-outside-row s Unknown b e read = ap (λ (o : Option Batch). if_not_reading s o (λ _. Reacts (Says SaysUnknown) s)) read
-outside-row s _ b e read = absurd (cc)
+outside-row s c b e read = search rules
 
 -- a command that has no place in the batch that is read
 pub spoiled-step : (s : State) (c : Command) → is_spoiled s c ≡ true
     → brain_step s c ≡ record { reaction = Silent; next = record s { batch = option_map spoiled s.batch } }
-spoiled-step s c e = by_batch s.batch refl (and_left (is_some s.batch) (has_no_place_in_batch c) e) where
-  by_batch : (o : Option Batch) → s.batch ≡ o → is_some s.batch ≡ true
-      → brain_step s c ≡ record { reaction = Silent; next = record s { batch = option_map spoiled s.batch } }
-  by_batch None read some = absurd (cc)
-  by_batch (Some b) read some =
-      ap (step_by s) (outside-row s c b (and_right (is_some s.batch) (has_no_place_in_batch c) e) read)
-      ∙ ap (λ (o : Option Batch). record { reaction = Silent; next = record s { batch = option_map spoiled o } }) (sym read)
+spoiled-step s c e = search (rules, and_left, outside-row, and_right)
 
 -- the step of a command is that of the one that it is
 pub at-command : {E : Type 0} (r : Result Reaction E) (s new : State) (c d : Command) → c ≡ d → IfOk r (λ x. Takes (row_of s d) s x new)
@@ -196,33 +151,16 @@ said-unread s new row r none takes = subst (λ (w : Row). Takes w s r new) (sym 
 
 -- a command that has no place in a batch is taken only where none is read
 pub unread-at : (s : State) (c d : Command) → c ≡ d → has_no_place_in_batch d ≡ true → is_spoiled s c ≡ false → IsNone s.batch
-unread-at s c d same outside e = by_some (is_some s.batch)
-    (ap (λ (r : Bool). is_some s.batch && r) (sym (ap has_no_place_in_batch same ∙ outside)) ∙ e) where
-      by_some : (r : Bool) → (r && true) ≡ false → r ≡ false
-      by_some true e = e
-      by_some false e = refl
+unread-at s c d same outside e = search rules
 
 -- a batch that is done and takes none: no game begins from it, or there is no rule
 pub done-free : {E : Type 0} (r : Result Reaction E) (s : State) (c : Command) → c ≡ Done → (begins_none s.batch ≡ true → IsOk r)
     → (IsNone (rule_of s.wish) → IsOk r) → takes_none s c ≡ true → IsOk r
-done-free r s c is none unsupported free = by_batch (begins_none s.batch) (rule_of s.wish) refl refl
-    (subst (λ (d : Command). takes_none s d ≡ true) is free) where
-      by_batch : (t : Bool) (o : Option RuleKind) → begins_none s.batch ≡ t → rule_of s.wish ≡ o → takes_none s Done ≡ true → IsOk r
-      by_batch true o e f free = none e
-      by_batch false None e f free = unsupported (ap is_some f)
-      by_batch false (Some rule) e f free =
-          let none : is_none (rule_of s.wish) ≡ true = ap (λ (t : Bool). t || is_none (rule_of s.wish)) (sym e) ∙ free in
-          let some : is_none (rule_of s.wish) ≡ false = ap is_none f in absurd (cc)
+done-free r s c is none unsupported free = search rules
 
 -- a TURN that takes no memory
 pub turn-free : {E : Type 0} (r : Result Reaction E) (s : State) (c : Command) (x y : ℕ) → c ≡ Turn x y → IsNone s.batch
     → (is_following s.place ≡ true → IsOk r) → (is_settled s.held (turn_row s s.place (point_at x y)) ≡ true → IsOk r)
     → takes_none s c ≡ true → IsOk r
 unfolding row_of
-turn-free r s c x y is none following settled free =
-    by_following (is_following s.place) refl (subst (λ (d : Command). takes_none s d ≡ true) is free) where
-      by_following : (t : Bool) → is_following s.place ≡ t → takes_none s (Turn x y) ≡ true → IsOk r
-      by_following true e free = following e
-      by_following false e free =
-          settled (ap (is_settled s.held) (sym (row-unread s (turn_row s s.place (point_at x y)) none))
-          ∙ ap (λ (t : Bool). t || is_settled s.held (row_of s (Turn x y))) (sym e) ∙ free)
+turn-free r s c x y is none following settled free = search (rules, row-unread)

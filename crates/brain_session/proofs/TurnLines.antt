@@ -1,6 +1,6 @@
 -- The lines TURN of points are read as these turns.
 use Rattle.std.proofs.Common.{◌≡◌, ℕ, suc, ◌≤◌, nat_lt, Bool, true, false, ◌&&◌, not, List, [], ◌∷◌, ◌++◌, map}
-use Rattle.std.proofs.Common.{refl, sym, ap, subst, ◌∙◌, arith, append_assoc, eqb-true, nat_eq, lt-ltb, All, codes}
+use Rattle.std.proofs.Common.{refl, sym, ap, subst, ◌∙◌, arith, append_assoc, eqb-true, nat_eq, lt-ltb, All, codes, rules}
 use Rattle.std.specs.List.{list_all}
 use Rattle.std.specs.Fmt.{digits}
 use Rattle.std.proofs.lemmas.List.{map-append}
@@ -42,11 +42,7 @@ is_turn q (Turn x y) = nat_eq x q.x && nat_eq y q.y
 is_turn q _ = false
 
 turn_is : (q : Point) (c : Command) → is_turn q c ≡ true → c ≡ Turn q.x q.y
-turn_is q (Turn x y) h =
-    let across : x ≡ q.x = eqb-true x q.x (and_left (nat_eq x q.x) (nat_eq y q.y) h) in
-    let down : y ≡ q.y = eqb-true y q.y (and_right (nat_eq x q.x) (nat_eq y q.y) h) in
-    cc
-turn_is q _ h = cc
+turn_is q c h = search (rules, eqb-true, and_left, and_right)
 
 -- whether the line of the point has no line feed, and is read as its turn
 abbrev reads_back : Point → Bool
@@ -67,14 +63,7 @@ read_back q some = all_at largest reads_back q all_read (on (lt-ltb q.x MAX_SIDE
 
 no_feed : (bytes : List ℕ) → list_all (λ byte. not (is_line_feed byte)) bytes ≡ true → HasNoLineFeed bytes
 no_feed [] h = tt
-no_feed (byte ∷ bytes) h = (
-  by_test (is_line_feed byte) (and_left (not (is_line_feed byte)) _ h),
-  no_feed bytes
-      (and_right (not (is_line_feed byte)) _ h),
-) where
-  by_test : (r : Bool) → not r ≡ true → r ≡ false
-  by_test false e = refl
-  by_test true e = cc
+no_feed (byte ∷ bytes) h = search (rules, and_left, and_right, no_feed bytes (and_right (not (is_line_feed byte)) _ h))
 
 -- one line, and more behind it
 line_read : (q : Point) (more : List ℕ) → IsSomeBoards q → commands (turn_line q ++ more) ≡ Turn q.x q.y ∷ commands more
@@ -109,11 +98,7 @@ legal_somes : (rule : RuleKind) (b : Grid) (ps qs : List Point) → b.width ≤ 
 legal_somes rule b ps [] wide high are = All-nil IsSomeBoards
 legal_somes rule b [] (q ∷ qs) wide high are = absurd are
 legal_somes rule b (p ∷ ps) (q ∷ qs) wide high are =
-    let on : is_on b q ≡ true = and_left (is_on b q) _ are.1 in
-    let across = on_x b q on in
-    let down = on_y b q on in
-    All-cons IsSomeBoards q qs (record { within = omega (arith, across, wide); below = omega (arith, down, high) })
-    (legal_somes rule (after (after b p) q) ps qs wide high are.2)
+    search (rules, and_left, on_x, on_y, All-cons, legal_somes rule (after (after b p) q) ps qs wide high are.2)
 
 -- behind whole lines, of which the last is answered so with the turns behind it, the bytes are those of the answers before, and of these
 in_bytes : (held : HeldTable) (front : List ℕ) (before : List Command) (c : Command) (qs : List Point) (said : List Answer)

@@ -1,5 +1,5 @@
 use Rattle.std.proofs.Common.{◌≡◌, ◌∙◌, true, false, sym, ap, subst, refl, arith, inl, inr, Option, Some, None, Result, Ok, Err}
-use Rattle.std.proofs.Common.{◌++◌, IsErrOf, is_some, option_to_list}
+use Rattle.std.proofs.Common.{◌++◌, IsErrOf, is_some, option_to_list, rules}
 use Rattle.std.specs.Result.{IsErrAnd}
 use Rattle.renju_io.specs.Asked.{IsAskedWithin}
 use Rattle.renju_io.specs.Lines.{ReaderState, reads_for}
@@ -19,12 +19,10 @@ use Rattle.brain_session.proofs.sessions.serve.Goals as goal
 
 -- the error that `?` hands on is the one that came
 same_error : {T : Type 0} (r : Result T ServeError) (came e : ServeError) → IsErrAnd r (λ y. y ≡ came) → IsErrOf r e → came ≡ e
-same_error (Ok t) came e same is = absurd same
-same_error (Err y) came e same is = let last : y ≡ e = cc in sym same ∙ last
+same_error r came e same is = search rules
 
 none_is : (o : Option Command) → ((c : Command) → o ≡ Some c → ⊥) → o ≡ None
-none_is None never = refl
-none_is (Some c) never = absurd (never c refl)
+none_is o never = search rules
 
 ok_is : (o p : Option Command) → ◌≡◌ {A = Result (Option Command) ServeError} (Ok o) (Ok p) → o ≡ p
 ok_is o p is = cc
