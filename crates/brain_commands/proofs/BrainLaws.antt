@@ -9,7 +9,7 @@ use Rattle.gomocup_text.specs.declared.Command.TheVariants.{End}
 use Rattle.brain_session.specs.declared.sessions.ServeError.{ServeError}
 use Rattle.brain_session.specs.declared.sessions.ServeError.TheVariants.{ReadFailed, WriteFailed, Exhausted, Memory as NoMemory}
 use Rattle.brain_session.specs.States.{State, new_brain}
-use Rattle.brain_session.specs.Serving.{Output, Served, served, HasAnswered, IsReadToEnd, StopsAtRead, StopsAtWrite, StopsAtStep}
+use Rattle.brain_session.specs.Serving.{Output, Served, served, HasAnswered, IsReadToEnd, StopsAtRead, StopsInTurn, StopsAtStep}
 use Rattle.brain_session.specs.Serving.{within_limit, IsTooLong}
 use Rattle.command_base.specs.declared.status.Status.{Status}
 use Rattle.command_base.specs.declared.status.Status.TheVariants.{Done, Memory, ReadFault, WriteFault, TooLong}
@@ -31,12 +31,14 @@ abbrev pub did : State → State → (input output : Change (Option (List ℕ)))
 did first last input output = served first last (shown_before output) (shown_after output)
 
 -- how a session ended of a brain that is new and holds this, as `serve` tells it
-pub record IsServed (first last : State) (input output : Change (Option (List ℕ))) (outcome : Result (Unit {0}) ServeError) : Type 0 where
+pub record IsServed (first last : State) (input output : Change (Option (List ℕ))) (last_read : Option ℕ)
+    (outcome : Result (Unit {0}) ServeError) : Type 0 where
   pub ok : OnOk outcome (IfSome input.before (λ left. HasAnswered (did first last input output) (commands left)))
   pub ended : OnOk outcome (IsReadToEnd input.before input.after)
   pub read_failed : IsErrOf outcome ReadFailed → StopsAtRead (did first last input output) input.before input.after
   pub source_failed : IsErrOf outcome ReadFailed → HasFailed input
-  pub write_failed : IsErrOf outcome WriteFailed → IfSome input.before (λ left. StopsAtWrite (did first last input output) (commands left))
+  pub in_turn : IsErrOf outcome WriteFailed → IfSome input.before
+      (λ left. StopsInTurn (did first last input output) (commands left) input.before input.after last_read)
   pub sink_failed : IsErrOf outcome WriteFailed → HasFailed output
   pub exhausted : IsErrOf outcome Exhausted → IfSome input.before
       (λ left. HasAnswered (did first last input output) (commands (within_limit left)))
@@ -53,21 +55,21 @@ both-told : {X : Type 0} (P Q : X → Type 0) (o : Option X) → IfSome o P → 
 both-told P Q None p q = tt
 both-told P Q (Some x) p q = (p, q)
 
-module _ (held : HeldTable) (last : State) (input output : Change (Option (List ℕ))) where
-  session-by : (status : Status) → EndsSession (session_of held last output) input output status
-      → EndsBrain held input output (status_number status)
+module _ (held : HeldTable) (last : State) (input output : Change (Option (List ℕ))) (last_read : Option ℕ) where
+  session-by : (status : Status) → EndsSession (session_of held last output) input output last_read status
+      → EndsBrain held input output last_read (status_number status)
   session-by status how = inl (record { status = status; last = last; ends = refl; how = how })
 
-  by-outcome : (outcome : Result (Unit {0}) ServeError) → IsServed (new_brain held) last input output outcome
-      → EndsBrain held input output (status_number (session_status outcome))
+  by-outcome : (outcome : Result (Unit {0}) ServeError) → IsServed (new_brain held) last input output last_read outcome
+      → EndsBrain held input output last_read (status_number (session_status outcome))
   by-outcome (Ok done) is = session-by Done (is.ok, is.ended)
   by-outcome (Err ReadFailed) is = session-by ReadFault (is.source_failed refl, is.read_failed refl)
-  by-outcome (Err WriteFailed) is = session-by WriteFault (is.sink_failed refl, is.write_failed refl)
+  by-outcome (Err WriteFailed) is = session-by WriteFault (is.sink_failed refl, is.in_turn refl)
   by-outcome (Err Exhausted) is = session-by TooLong (both-told _ _ input.before (is.exhausted refl) (is.too_long refl), is.few_past refl)
   by-outcome (Err NoMemory) is = by-memory (is.memory refl) where
     by-memory : (last ≡ new_brain held) × (shown_after output ≡ shown_before output) × (input.after ≡ input.before)
         × IsNotAsked input.asked_before input.asked_after
-        ⊎ IfSome input.before (λ left. StopsAtStep (session_of held last output) (commands left)) → EndsBrain held input output 6
+        ⊎ IfSome input.before (λ left. StopsAtStep (session_of held last output) (commands left)) → EndsBrain held input output last_read 6
     by-memory (inl none) = inr (record {
       ends = refl;
       unread = record { same = none.2; faults = is.source_uncounted (λ e. absurd (cc)); asked = none.3 };
@@ -80,11 +82,11 @@ module _ (held : HeldTable) (last : State) (input output : Change (Option (List 
     by-memory (inr stops) = session-by Memory stops
 
 -- how a brain ended that was to hold this
-pub session-ends : (held : HeldTable) (first last : State) (input output : Change (Option (List ℕ)))
+pub session-ends : (held : HeldTable) (first last : State) (input output : Change (Option (List ℕ))) (last_read : Option ℕ)
     (outcome : Result (Unit {0}) ServeError) → first ≡ new_brain held
-    → IsServed first last input output outcome → EndsBrain held input output (status_number (session_status outcome))
-session-ends held first last input output outcome new is =
-    by-outcome held last input output outcome (subst (λ (s : State). IsServed s last input output outcome) new is)
+    → IsServed first last input output last_read outcome → EndsBrain held input output last_read (status_number (session_status outcome))
+session-ends held first last input output last_read outcome new is =
+    by-outcome held last input output last_read outcome (subst (λ (s : State). IsServed s last input output last_read outcome) new is)
 
 -- ---- a session that nothing hinders
 
@@ -95,7 +97,7 @@ not-too_long bytes (inr end) long = long.no_end end
 
 module _ (held : HeldTable) (run : Run) (bytes : List ℕ) (free : IsUnhinderedSession run bytes) where
   by-status : (status : Status) (last : State) → run.status ≡ status_number status
-      → EndsSession (session_of held last run.output) run.input run.output status
+      → EndsSession (session_of held last run.output) run.input run.output run.last status
       → HasServed held run bytes ⊎ (run.status ≡ status_number Memory)
   by-status Done last ends how =
       let answered = told-some (λ told. HasAnswered (session_of held last run.output) (commands told)) run.input.before bytes free.told
@@ -110,7 +112,7 @@ module _ (held : HeldTable) (run : Run) (bytes : List ℕ) (free : IsUnhinderedS
       absurd (not-too_long bytes free.fits long.1)
   by-status _ last ends how = absurd how
 
-  session-serves : EndsBrain held run.input run.output run.status → HasServed held run bytes ⊎ (run.status ≡ status_number Memory)
+  session-serves : EndsBrain held run.input run.output run.last run.status → HasServed held run bytes ⊎ (run.status ≡ status_number Memory)
   session-serves (inl session) = by-status session.status session.last session.ends session.how
   session-serves (inr unbegun) = inr unbegun.ends
 
@@ -122,12 +124,12 @@ brain-answers run is bytes free = session-serves nothing_held run bytes free is.
 
 -- a brain that holds what a file gives plays by it
 pub plays-by-file : (name : List ℕ) (run : Run) (held : HeldTable) → IsAskedOnly run.shelf → HoldsFile TableOrBook run.shelf name held
-    → EndsBrain held run.input run.output run.status → IsBrainWith name run
+    → EndsBrain held run.input run.output run.last run.status → IsBrainWith name run
 plays-by-file name run held once holds ends = record {
   once = once;
-  ends = by-end (subst (λ (t : HeldTable). EndsBrain t run.input run.output run.status) holds.gives.2 ends);
+  ends = by-end (subst (λ (t : HeldTable). EndsBrain t run.input run.output run.last run.status) holds.gives.2 ends);
 } where
-  by-end : EndsBrain (held_by holds.gives.0) run.input run.output run.status
+  by-end : EndsBrain (held_by holds.gives.0) run.input run.output run.last run.status
       → PlaysByFile name run ⊎ TellsFile FileSays name run ⊎ IsUnbegun run.input run.output run.status
   by-end (inl session) = inl (record {
     bytes = holds.bytes;
@@ -145,12 +147,12 @@ module _ (name : List ℕ) (run : Run) (files : Files) (told : run.shelf.before 
     (fit : GivesHeld name files file) where
   -- what a file gives is played by, unless the shelf failed or memory ran out before
   pub ends-by : PlaysByFile name run ⊎ TellsFile FileSays name run ⊎ IsUnbegun run.input run.output run.status
-      → IsSession (held_by file) run.input run.output run.status ⊎ HasFailed run.shelf ⊎ IsUnbegun run.input run.output run.status
+      → IsSession (held_by file) run.input run.output run.last run.status ⊎ HasFailed run.shelf ⊎ IsUnbegun run.input run.output run.status
   ends-by (inl plays) =
       let at = subst (λ (l : List ℕ). IsHeldText plays.file l) (same-bytes name run files told fit.bytes fit.found plays.bytes plays.loaded)
       plays.at in
-      inl (subst (λ (f : HeldFile). IsSession (held_by f) run.input run.output run.status) (one-held file plays.file fit.bytes fit.at at)
-      plays.session)
+      inl (subst (λ (f : HeldFile). IsSession (held_by f) run.input run.output run.last run.status)
+      (one-held file plays.file fit.bytes fit.at at) plays.session)
   ends-by (inr (inl tells)) = inr
       (inl (not-told name run files told fit.bytes fit.found FileSays fit.fits (held-not_told file fit.bytes fit.at) tells.status tells.text
       tells.why))
@@ -160,8 +162,8 @@ module _ (name : List ℕ) (run : Run) (files : Files) (told : run.shelf.before 
 pub brain-with-answers : (name : List ℕ) (run : Run) → IsBrainWith name run → (file : HeldFile)
     → IsUnhinderedShelf (λ files. GivesHeld name files file) run → AnswersAll (held_by file) run
 brain-with-answers name run is file free bytes session = by-end (ends-by name run free.files free.told file free.fit is.ends) where
-  by-end : IsSession (held_by file) run.input run.output run.status ⊎ HasFailed run.shelf ⊎ IsUnbegun run.input run.output run.status
-      → HasServed (held_by file) run bytes ⊎ (run.status ≡ status_number Memory)
+  by-end : IsSession (held_by file) run.input run.output run.last run.status ⊎ HasFailed run.shelf
+      ⊎ IsUnbegun run.input run.output run.status → HasServed (held_by file) run bytes ⊎ (run.status ≡ status_number Memory)
   by-end (inl served) = session-serves (held_by file) run bytes session (inl served)
   by-end (inr (inl failed)) = absurd (free.shelf_sound failed)
   by-end (inr (inr unbegun)) = inr unbegun.ends

@@ -32,7 +32,7 @@ use Rattle.gomocup_text.specs.declared.Command.{Command as Asked}
 use Rattle.gomocup_text.specs.declared.Answer.{Answer}
 use Rattle.brain_session.specs.States.{State, new_brain}
 use Rattle.brain_session.specs.ChosenMoves.{root_node}
-use Rattle.brain_session.specs.Serving.{StopsAtWrite, StopsAtStep, HasAnswered, within_limit, IsTooLong}
+use Rattle.brain_session.specs.Serving.{StopsInTurn, StopsAtStep, HasAnswered, within_limit, IsTooLong}
 use Rattle.brain_session.specs.HeldGames.{IsTight, IsLedTo}
 use Rattle.brain_session.specs.declared.Reaction.{Reaction}
 use Rattle.brain_session.specs.declared.Reaction.TheVariants.{Says}
@@ -182,7 +182,7 @@ given_lines bytes given left (Some rest) told gives = first_lines bytes given re
 
 module _ (held : HeldTable) (run : Run) (bytes : List ℕ) (told : run.input.before ≡ Some bytes) where
   lines_by : (status : Status) (last : State) → run.status ≡ status_number status
-      → EndsSession (session_of held last run.output) run.input run.output status
+      → EndsSession (session_of held last run.output) run.input run.output run.last status
       → AnsweredLines held run bytes
   lines_by Done last ends how =
       let answered = told-some (λ all. HasAnswered (session_of held last run.output) (commands all)) run.input.before bytes told how.0 in
@@ -205,7 +205,9 @@ module _ (held : HeldTable) (run : Run) (bytes : List ℕ) (told : run.input.bef
         ends = inl refl;
       }
   lines_by WriteFault last ends how =
-      let stops = told-some (λ all. StopsAtWrite (session_of held last run.output) (commands all)) run.input.before bytes told how.1 in
+      let in_turn = told-some (λ all. StopsInTurn (session_of held last run.output) (commands all)
+      run.input.before run.input.after run.last) run.input.before bytes told how.1 in
+      let stops = in_turn.stops in
       record {
         asked = stops.earlier;
         front = (stops.command ∷ stops.later, stops.among);
@@ -237,7 +239,7 @@ module _ (held : HeldTable) (run : Run) (bytes : List ℕ) (told : run.input.bef
       }
   lines_by _ last ends how = absurd how
 
-answered_lines : (held : HeldTable) (run : Run) → IsSession held run.input run.output run.status
+answered_lines : (held : HeldTable) (run : Run) → IsSession held run.input run.output run.last run.status
     → IfSome run.input.before (AnsweredLines held run)
 answered_lines held run session = where-told run.input.before
     (λ bytes told. lines_by held run bytes told session.status session.last session.ends session.how)

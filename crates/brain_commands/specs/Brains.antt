@@ -8,7 +8,7 @@ use Rattle.gomocup_text.specs.Commands.{commands}
 use Rattle.gomocup_text.specs.declared.Command.TheVariants.{End}
 use Rattle.brain_session.specs.States.{State, new_brain}
 use Rattle.brain_session.specs.Sessions.{session_text}
-use Rattle.brain_session.specs.Serving.{Output, Served, served, HasAnswered, IsReadToEnd, StopsAtRead, StopsAtWrite, StopsAtStep}
+use Rattle.brain_session.specs.Serving.{Output, Served, served, HasAnswered, IsReadToEnd, StopsAtRead, StopsInTurn, StopsAtStep}
 use Rattle.brain_session.specs.Serving.{within_limit, IsTooLong}
 use Rattle.command_base.specs.declared.status.Status.{Status}
 use Rattle.command_base.specs.declared.status.Status.TheVariants.{Done, Usage, ShelfFault, RefusedText, RefusedTable, Spent, Memory}
@@ -47,31 +47,33 @@ abbrev pub session_of : HeldTable → State → Change (Option (List ℕ)) → S
 session_of held last output = served (new_brain held) last (shown_before output) (shown_after output)
 
 -- How a session ends with a status. Done: each line up to END or the end of input is answered. ReadFault: the whole lines of the
--- bytes that the input gave, and no more. WriteFault: each line before the one whose answer was not written whole. TooLong: the
--- lines that end within the bytes that a session may have, none of which is END, and the input has more bytes, of which no more is
--- read than shows that. Memory: each line before one at which memory ran out.
-abbrev pub EndsSession : Served → (input output : Change (Option (List ℕ))) → Status → Type 0
-EndsSession v input output Done = IfSome input.before (λ bytes. HasAnswered v (commands bytes)) × IsReadToEnd input.before input.after
-EndsSession v input output ReadFault = HasFailed input × StopsAtRead v input.before input.after
-EndsSession v input output WriteFault = HasFailed output × IfSome input.before (λ bytes. StopsAtWrite v (commands bytes))
-EndsSession v input output TooLong =
+-- bytes that the input gave, and no more. WriteFault: each line before the one whose answer was not written whole, and no read was
+-- made once that line had ended. TooLong: the lines that end within the bytes that a session may have, none of which is END, and the
+-- input has more bytes, of which no more is read than shows that. Memory: each line before one at which memory ran out.
+abbrev pub EndsSession : Served → (input output : Change (Option (List ℕ))) → Option ℕ → Status → Type 0
+EndsSession v input output last_read Done =
+    IfSome input.before (λ bytes. HasAnswered v (commands bytes)) × IsReadToEnd input.before input.after
+EndsSession v input output last_read ReadFault = HasFailed input × StopsAtRead v input.before input.after
+EndsSession v input output last_read WriteFault =
+    HasFailed output × IfSome input.before (λ bytes. StopsInTurn v (commands bytes) input.before input.after last_read)
+EndsSession v input output last_read TooLong =
     IfSome input.before (λ bytes. HasAnswered v (commands (within_limit bytes)) × IsTooLong bytes)
     × IsAskedNoMore (MAX_SESSION_BYTES + 1) input
-EndsSession v input output Memory = IfSome input.before (λ bytes. StopsAtStep v (commands bytes))
-EndsSession v input output Usage = ⊥
-EndsSession v input output ShelfFault = ⊥
-EndsSession v input output RefusedText = ⊥
-EndsSession v input output RefusedTable = ⊥
-EndsSession v input output Spent = ⊥
-EndsSession v input output NotFound = ⊥
-EndsSession v input output Full = ⊥
+EndsSession v input output last_read Memory = IfSome input.before (λ bytes. StopsAtStep v (commands bytes))
+EndsSession v input output last_read Usage = ⊥
+EndsSession v input output last_read ShelfFault = ⊥
+EndsSession v input output last_read RefusedText = ⊥
+EndsSession v input output last_read RefusedTable = ⊥
+EndsSession v input output last_read Spent = ⊥
+EndsSession v input output last_read NotFound = ⊥
+EndsSession v input output last_read Full = ⊥
 
--- a brain that holds this served the input
-pub record IsSession (held : HeldTable) (input output : Change (Option (List ℕ))) (number : ℕ) : Type 0 where
+-- a brain that holds this served the input, of which the last read that did not fail gave so many bytes
+pub record IsSession (held : HeldTable) (input output : Change (Option (List ℕ))) (last_read : Option ℕ) (number : ℕ) : Type 0 where
   pub status : Status
   pub last : State
   pub ends : number ≡ status_number status
-  pub how : EndsSession (session_of held last output) input output status
+  pub how : EndsSession (session_of held last output) input output last_read status
 
 -- the status of a session that ended so
 abbrev pub session_status : Result (Unit {0}) ServeError → Status
@@ -82,8 +84,8 @@ session_status (Err Exhausted) = TooLong
 session_status (Err NoMemory) = Memory
 
 -- how a brain ends that is to hold this
-abbrev pub EndsBrain : HeldTable → (input output : Change (Option (List ℕ))) → ℕ → Type 0
-EndsBrain held input output number = IsSession held input output number ⊎ IsUnbegun input output number
+abbrev pub EndsBrain : HeldTable → (input output : Change (Option (List ℕ))) → Option ℕ → ℕ → Type 0
+EndsBrain held input output last_read number = IsSession held input output last_read number ⊎ IsUnbegun input output number
 
 -- What a session needs to come to its end: an input that tells these bytes, which are not too many or have END before they are,
 -- and devices that count no fault in the run.
@@ -107,7 +109,7 @@ AnswersAll held run = (bytes : List ℕ) → IsUnhinderedSession run bytes → H
 -- what `brain` does in a run: it holds nothing, and leaves the shelf unasked
 pub record IsBrain (run : Run) : Type 0 where
   pub shelf : IsUnasked run.shelf
-  pub ends : EndsBrain nothing_held run.input run.output run.status
+  pub ends : EndsBrain nothing_held run.input run.output run.last run.status
 
 -- `brain`, which needs nothing more than its session does
 abbrev pub brain_command : Command
@@ -127,7 +129,7 @@ pub record PlaysByFile (name : List ℕ) (run : Run) : Type 0 where
   pub fits : length bytes ≤ MAX_INPUT_BYTES
   pub file : HeldFile
   pub at : IsHeldText file bytes
-  pub session : IsSession (held_by file) run.input run.output run.status
+  pub session : IsSession (held_by file) run.input run.output run.last run.status
 
 -- What `brain FILE` does in a run: it asks the shelf once, and plays by what the file gives, or tells why it does not, or memory ran
 -- out before.

@@ -107,8 +107,10 @@ pub record AnsweredLines (held : HeldTable) (run : Run) (bytes : List ℕ) : Typ
 -- were answered, whatever the session ended with, unless the shelf failed or memory ran out before.
 pub record IsPlayedBy (file : HeldFile) (run : Run) : Type 0 where
   pub plays : PlaysByRoots file.table file.roots
-  pub ends : IsSession (held_by file) run.input run.output run.status ⊎ HasFailed run.shelf ⊎ IsUnbegun run.input run.output run.status
-  pub answered : IsSession (held_by file) run.input run.output run.status → IfSome run.input.before (AnsweredLines (held_by file) run)
+  pub ends : IsSession (held_by file) run.input run.output run.last run.status
+      ⊎ HasFailed run.shelf ⊎ IsUnbegun run.input run.output run.status
+  pub answered : IsSession (held_by file) run.input run.output run.last run.status
+      → IfSome run.input.before (AnsweredLines (held_by file) run)
 
 -- Where a session ended, or the input failed, FILE is the text of a table or of a book that is accepted; and of what each such file gives
 -- this holds.
@@ -132,8 +134,8 @@ pub record PlaysByFours (held : HeldTable) : Type 0 where
 -- own
 pub record PlaysOwnWins (run : Run) : Type 0 where
   pub plays : PlaysByFours nothing_held
-  pub ends : IsSession nothing_held run.input run.output run.status ⊎ IsUnbegun run.input run.output run.status
-  pub answered : IsSession nothing_held run.input run.output run.status → IfSome run.input.before (AnsweredLines nothing_held run)
+  pub ends : IsSession nothing_held run.input run.output run.last run.status ⊎ IsUnbegun run.input run.output run.status
+  pub answered : IsSession nothing_held run.input run.output run.last run.status → IfSome run.input.before (AnsweredLines nothing_held run)
 
 -- What `brain` and `brain FILE` show of the games that the brain plays by wins of its own, of which those of `brain FILE` are games of a
 -- brain that holds what a FILE gives.

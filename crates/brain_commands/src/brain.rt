@@ -29,8 +29,9 @@ pub fn play_with<I: Source, O: Sink, F: Shelf>(
     output: &mut O,
     shelf: &mut F,
 ) -> Status
-    ensures plays { (words : List (List ℕ)) → IsBrainWith file.now (program_run words (change I.left I.faults I.asked input.old input.new)
-        (change O.written O.faults O.asked output.old output.new) (change F.files F.faults F.asked shelf.old shelf.new) (status_number result)) }
+    ensures plays { (words : List (List ℕ)) → IsBrainWith file.now
+        (program_run words (change I.left I.faults I.asked input.old input.new) (change O.written O.faults O.asked output.old output.new)
+        (change F.files F.faults F.asked shelf.old shelf.new) (I.last input.new) (status_number result)) }
     ensures taken { GivesByEach (I.left input.old) (I.left input.new) (I.asked input.old) (I.asked input.new) }
     ensures input { HasNotFallen (I.faults input.old) (I.faults input.new) }
     ensures output { HasNotFallen (O.faults output.old) (O.faults output.new) }
@@ -57,7 +58,7 @@ pub fn play<I: Source, O: Sink>(
     output: &mut O,
 ) -> Status
     ensures ends { EndsBrain (held_or_none held) (change I.left I.faults I.asked input.old input.new)
-        (change O.written O.faults O.asked output.old output.new) (status_number result) }
+        (change O.written O.faults O.asked output.old output.new) (I.last input.new) (status_number result) }
     ensures taken { GivesByEach (I.left input.old) (I.left input.new) (I.asked input.old) (I.asked input.new) }
     ensures input { HasNotFallen (I.faults input.old) (I.faults input.new) }
     ensures output { HasNotFallen (O.faults output.old) (O.faults output.new) }

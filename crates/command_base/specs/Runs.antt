@@ -28,18 +28,20 @@ change told faults asked old new = record {
   asked_after = asked new;
 }
 
--- the words, the bytes that the input has left, those that stand in the output, the files of the shelf, and the status as
--- a number
+-- the words, the bytes that the input has left, those that stand in the output, the files of the shelf, how many bytes the last read
+-- of the input gave that did not fail, and the status as a number
 pub record Run : Type 0 where
   pub words : List (List ℕ)
   pub input : Change (Option (List ℕ))
   pub output : Change (Option (List ℕ))
   pub shelf : Change (Option Files)
+  pub last : Option ℕ
   pub status : ℕ
 
--- the run with these words, these changes of input, output and shelf, and this number
-abbrev pub program_run : List (List ℕ) → (input output : Change (Option (List ℕ))) → Change (Option Files) → ℕ → Run
-program_run words input output shelf status = record { words = words; input = input; output = output; shelf = shelf; status = status }
+-- the run with these words, these changes of input, output and shelf, this last read, and this number
+abbrev pub program_run : List (List ℕ) → (input output : Change (Option (List ℕ))) → Change (Option Files) → Option ℕ → ℕ → Run
+program_run words input output shelf last status =
+    record { words = words; input = input; output = output; shelf = shelf; last = last; status = status }
 
 -- the device failed
 abbrev pub HasFailed : {T : Type 0} → Change T → Type 0

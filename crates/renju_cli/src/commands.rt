@@ -89,9 +89,11 @@ pub(crate) fn run<I: Source, O: Sink, F: Shelf>(
     shelf: &mut F,
 ) -> Status
     ensures report { Report (program_run (map string_bytes words.now) (change I.left I.faults I.asked input.old input.new)
-        (change O.written O.faults O.asked output.old output.new) (change F.files F.faults F.asked shelf.old shelf.new) (status_number result)) }
+        (change O.written O.faults O.asked output.old output.new) (change F.files F.faults F.asked shelf.old shelf.new)
+        (I.last input.new) (status_number result)) }
     ensures devices { KeepsDevices (program_run (map string_bytes words.now) (change I.left I.faults I.asked input.old input.new)
-        (change O.written O.faults O.asked output.old output.new) (change F.files F.faults F.asked shelf.old shelf.new) (status_number result)) }
+        (change O.written O.faults O.asked output.old output.new) (change F.files F.faults F.asked shelf.old shelf.new)
+        (I.last input.new) (status_number result)) }
 {
     match form_of(words) {
         None => deliver(Status::Usage, USAGE.as_bytes(), output),

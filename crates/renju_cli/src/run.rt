@@ -43,59 +43,75 @@ pub fn run_renju<I: Source, O: Sink, F: Shelf>(
 ) -> u8
     // The status and the bytes are those that are due for the words and the devices.
     ensures report { Report (program_run (map string_bytes words.now) (change I.left I.faults I.asked input.old input.new)
-        (change O.written O.faults O.asked output.old output.new) (change F.files F.faults F.asked shelf.old shelf.new) result) }
+        (change O.written O.faults O.asked output.old output.new) (change F.files F.faults F.asked shelf.old shelf.new)
+        (I.last input.new) result) }
     // What status 0 of `check` shows: the input is a table that is accepted and wins.
     ensures won { ShowsWin (program_run (map string_bytes words.now) (change I.left I.faults I.asked input.old input.new)
-        (change O.written O.faults O.asked output.old output.new) (change F.files F.faults F.asked shelf.old shelf.new) result) }
+        (change O.written O.faults O.asked output.old output.new) (change F.files F.faults F.asked shelf.old shelf.new)
+        (I.last input.new) result) }
     // What statuses 0, 9 and 5 of `fours` show: a win by fours with the fewest moves, that there is none, or too small a budget.
     ensures searched { ShowsSearch (program_run (map string_bytes words.now) (change I.left I.faults I.asked input.old input.new)
-        (change O.written O.faults O.asked output.old output.new) (change F.files F.faults F.asked shelf.old shelf.new) result) }
+        (change O.written O.faults O.asked output.old output.new) (change F.files F.faults F.asked shelf.old shelf.new)
+        (I.last input.new) result) }
     // What statuses 0, 9 and 5 of `threats` show: the first sequence of threats, that there is none, or too small a budget.
     ensures sequences { ShowsSequence (program_run (map string_bytes words.now) (change I.left I.faults I.asked input.old input.new)
-        (change O.written O.faults O.asked output.old output.new) (change F.files F.faults F.asked shelf.old shelf.new) result) }
+        (change O.written O.faults O.asked output.old output.new) (change F.files F.faults F.asked shelf.old shelf.new)
+        (I.last input.new) result) }
     // What statuses 0, 9, 5 and 12 of `solve` show: an accepted table of a win, that there is none by threats, too small a budget,
     // or no room for a table; and where it is sure to find the win.
     ensures solved { ShowsSolution (program_run (map string_bytes words.now) (change I.left I.faults I.asked input.old input.new)
-        (change O.written O.faults O.asked output.old output.new) (change F.files F.faults F.asked shelf.old shelf.new) result) }
+        (change O.written O.faults O.asked output.old output.new) (change F.files F.faults F.asked shelf.old shelf.new)
+        (I.last input.new) result) }
     // What `brain FILE` shows: where FILE is a table that is accepted, or a book of which each entry is, a game by a root of it begins
     // wherever its position is come to, and the games that are played by it are won.
     ensures held_games { ShowsHeldGames (program_run (map string_bytes words.now) (change I.left I.faults I.asked input.old input.new)
-        (change O.written O.faults O.asked output.old output.new) (change F.files F.faults F.asked shelf.old shelf.new) result) }
+        (change O.written O.faults O.asked output.old output.new) (change F.files F.faults F.asked shelf.old shelf.new)
+        (I.last input.new) result) }
     // What `brain` and `brain FILE` show of the wins by fours that the brain finds itself: the games that are played by them are won.
     ensures own_games { ShowsOwnGames (program_run (map string_bytes words.now) (change I.left I.faults I.asked input.old input.new)
-        (change O.written O.faults O.asked output.old output.new) (change F.files F.faults F.asked shelf.old shelf.new) result) }
+        (change O.written O.faults O.asked output.old output.new) (change F.files F.faults F.asked shelf.old shelf.new)
+        (I.last input.new) result) }
     // What status 0 of `drill` shows: the counts of the number, of which there are no others; each table of a win is accepted, and
     // each game is won.
     ensures drilled { ShowsDrill (program_run (map string_bytes words.now) (change I.left I.faults I.asked input.old input.new)
-        (change O.written O.faults O.asked output.old output.new) (change F.files F.faults F.asked shelf.old shelf.new) result) }
+        (change O.written O.faults O.asked output.old output.new) (change F.files F.faults F.asked shelf.old shelf.new)
+        (I.last input.new) result) }
     // What status 0 of `image` shows: the text of the image of a table, which is accepted exactly where the table is, with the same
     // games, and whose board is won exactly where that of the table is.
     ensures imaged { ShowsImage (program_run (map string_bytes words.now) (change I.left I.faults I.asked input.old input.new)
-        (change O.written O.faults O.asked output.old output.new) (change F.files F.faults F.asked shelf.old shelf.new) result) }
+        (change O.written O.faults O.asked output.old output.new) (change F.files F.faults F.asked shelf.old shelf.new)
+        (I.last input.new) result) }
     // What the statuses of `referee` without FILE show: the verdict on the game.
     ensures judged { ShowsVerdict (program_run (map string_bytes words.now) (change I.left I.faults I.asked input.old input.new)
-        (change O.written O.faults O.asked output.old output.new) (change F.files F.faults F.asked shelf.old shelf.new) result) }
+        (change O.written O.faults O.asked output.old output.new) (change F.files F.faults F.asked shelf.old shelf.new)
+        (I.last input.new) result) }
     // What status 0 of `referee FILE` shows: the verdict on the game, and whether it was played by the table of FILE, which is
     // accepted. Where it was, it went by the table, and the side of the table did not lose it.
     ensures refereed { ShowsReferee (program_run (map string_bytes words.now) (change I.left I.faults I.asked input.old input.new)
-        (change O.written O.faults O.asked output.old output.new) (change F.files F.faults F.asked shelf.old shelf.new) result) }
+        (change O.written O.faults O.asked output.old output.new) (change F.files F.faults F.asked shelf.old shelf.new)
+        (I.last input.new) result) }
     // What statuses 0 and 5 of `defend` show: exactly the moves that hold against continuous fours, or an accepted table by which the
     // other side wins whatever is played first; or too small a budget after some move.
     ensures defended { ShowsDefence (program_run (map string_bytes words.now) (change I.left I.faults I.asked input.old input.new)
-        (change O.written O.faults O.asked output.old output.new) (change F.files F.faults F.asked shelf.old shelf.new) result) }
+        (change O.written O.faults O.asked output.old output.new) (change F.files F.faults F.asked shelf.old shelf.new)
+        (I.last input.new) result) }
     // What status 0 of `book` shows: each entry of the book is accepted and wins.
     ensures booked { ShowsBook (program_run (map string_bytes words.now) (change I.left I.faults I.asked input.old input.new)
-        (change O.written O.faults O.asked output.old output.new) (change F.files F.faults F.asked shelf.old shelf.new) result) }
+        (change O.written O.faults O.asked output.old output.new) (change F.files F.faults F.asked shelf.old shelf.new)
+        (I.last input.new) result) }
     // What status 0 of `bind` shows: a book of the tables of its files, which are accepted, each with its rule, position and moves,
     // and with a root that says the same.
     ensures bound { ShowsBinding (program_run (map string_bytes words.now) (change I.left I.faults I.asked input.old input.new)
-        (change O.written O.faults O.asked output.old output.new) (change F.files F.faults F.asked shelf.old shelf.new) result) }
+        (change O.written O.faults O.asked output.old output.new) (change F.files F.faults F.asked shelf.old shelf.new)
+        (I.last input.new) result) }
     // A command with a lawful input, enough work and devices without a fault answers, unless memory runs out.
     ensures complete { IsComplete (program_run (map string_bytes words.now) (change I.left I.faults I.asked input.old input.new)
-        (change O.written O.faults O.asked output.old output.new) (change F.files F.faults F.asked shelf.old shelf.new) result) }
+        (change O.written O.faults O.asked output.old output.new) (change F.files F.faults F.asked shelf.old shelf.new)
+        (I.last input.new) result) }
     // What is left of the devices, and which of them counted no fault.
     ensures devices { KeepsDevices (program_run (map string_bytes words.now) (change I.left I.faults I.asked input.old input.new)
-        (change O.written O.faults O.asked output.old output.new) (change F.files F.faults F.asked shelf.old shelf.new) result) }
+        (change O.written O.faults O.asked output.old output.new) (change F.files F.faults F.asked shelf.old shelf.new)
+        (I.last input.new) result) }
 {
     run(alloc, words, input, output, shelf).number()
 }

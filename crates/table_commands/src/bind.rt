@@ -45,8 +45,9 @@ pub fn bind_book<O: Sink, F: Shelf>(
     shelf: &mut F,
 ) -> Status
     requires names { AreNames (map string_bytes names.now) }
-    ensures binds { (words : List (List ℕ)) (input : Change (Option (List ℕ))) → IsUnasked input → IsBind (map string_bytes names.now)
-        (program_run words input (change O.written O.faults O.asked output.old output.new) (change F.files F.faults F.asked shelf.old shelf.new) (status_number result)) }
+    ensures binds { (words : List (List ℕ)) (input : Change (Option (List ℕ))) (last : Option ℕ) → IsUnasked input →
+        IsBind (map string_bytes names.now) (program_run words input (change O.written O.faults O.asked output.old output.new)
+        (change F.files F.faults F.asked shelf.old shelf.new) last (status_number result)) }
     ensures output { HasNotFallen (O.faults output.old) (O.faults output.new) }
     ensures shelf { HasNotFallen (F.faults shelf.old) (F.faults shelf.new) }
     ensures files { F.files shelf.new ≡ F.files shelf.old }

@@ -75,8 +75,9 @@ pub fn referee_with<I: Source, O: Sink, F: Shelf>(
     output: &mut O,
     shelf: &mut F,
 ) -> Status
-    ensures referees { (words : List (List ℕ)) → IsRefereeWith file.now (program_run words (change I.left I.faults I.asked input.old input.new)
-        (change O.written O.faults O.asked output.old output.new) (change F.files F.faults F.asked shelf.old shelf.new) (status_number result)) }
+    ensures referees { (words : List (List ℕ)) → IsRefereeWith file.now
+        (program_run words (change I.left I.faults I.asked input.old input.new) (change O.written O.faults O.asked output.old output.new)
+        (change F.files F.faults F.asked shelf.old shelf.new) (I.last input.new) (status_number result)) }
     ensures taken { GivesByEach (I.left input.old) (I.left input.new) (I.asked input.old) (I.asked input.new) }
     ensures input { HasNotFallen (I.faults input.old) (I.faults input.new) }
     ensures output { HasNotFallen (O.faults output.old) (O.faults output.new) }

@@ -8,12 +8,13 @@ returns-clause-ends g c =
     let input = change g.I.Source.left g.I.Source.faults g.I.Source.asked c.args.input.now c.serve.new.source in
     let output = change g.O.Sink.written g.O.Sink.faults g.O.Sink.asked c.args.output.now c.serve.new.sink in
     rw c.status_of.ensures.status
-    (session-ends (held_or_none c.args.held) c.in-Ok.brain c.serve.new.brain input output c.serve.result c.in-Ok.ensures.new (record {
+    (session-ends (held_or_none c.args.held) c.in-Ok.brain c.serve.new.brain input output (g.I.Source.last c.serve.new.source)
+    c.serve.result c.in-Ok.ensures.new (record {
       ok = c.serve.ensures.ok;
       ended = c.serve.ensures.ended;
       read_failed = c.serve.ensures.read_failed;
       source_failed = c.serve.ensures.source_failed;
-      write_failed = c.serve.ensures.write_failed;
+      in_turn = c.serve.ensures.in_turn;
       sink_failed = c.serve.ensures.sink_failed;
       exhausted = c.serve.ensures.exhausted;
       too_long = c.serve.ensures.too_long;

@@ -53,7 +53,8 @@ returns-in-Some-BrainWith-clause-report g c =
     let words = map string_bytes c.args.words.now in
     let run : Run = program_run words (change g.I.Source.left g.I.Source.faults g.I.Source.asked c.args.input.now c.play_with.new.input)
     (change g.O.Sink.written g.O.Sink.faults g.O.Sink.asked c.args.output.now c.play_with.new.output)
-    (change g.F.Shelf.files g.F.Shelf.faults g.F.Shelf.asked c.args.shelf.now c.play_with.new.shelf) (status_number c.play_with.result) in
+    (change g.F.Shelf.files g.F.Shelf.faults g.F.Shelf.asked c.args.shelf.now c.play_with.new.shelf)
+    (g.I.Source.last c.play_with.new.input) (status_number c.play_with.result) in
     let form : IsForm words BrainWith = subst (λ (f : Form). IsForm words f) c.in-Some-BrainWith.field-0-is
     c.in-Some-BrainWith.ensures.form in
     let two : length c.args.words.now ≡ 2 = same-count string_bytes _ _ form.spelled in
@@ -68,7 +69,7 @@ returns-in-Some-RefereeWith-clause-report g c =
     let run : Run = program_run words (change g.I.Source.left g.I.Source.faults g.I.Source.asked c.args.input.now c.referee_with.new.input)
     (change g.O.Sink.written g.O.Sink.faults g.O.Sink.asked c.args.output.now c.referee_with.new.output)
     (change g.F.Shelf.files g.F.Shelf.faults g.F.Shelf.asked c.args.shelf.now c.referee_with.new.shelf)
-    (status_number c.referee_with.result) in
+    (g.I.Source.last c.referee_with.new.input) (status_number c.referee_with.result) in
     let form : IsForm words RefereeWith = subst (λ (f : Form). IsForm words f) c.in-Some-RefereeWith.field-0-is
     c.in-Some-RefereeWith.ensures.form in
     let two : length c.args.words.now ≡ 2 = same-count string_bytes _ _ form.spelled in
@@ -85,7 +86,8 @@ returns-in-Some-Bind-clause-report g c =
     let input = change g.I.Source.left g.I.Source.faults g.I.Source.asked c.args.input.now c.args.input.now in
     let run : Run = program_run words input
     (change g.O.Sink.written g.O.Sink.faults g.O.Sink.asked c.args.output.now c.bind_book.new.output)
-    (change g.F.Shelf.files g.F.Shelf.faults g.F.Shelf.asked c.args.shelf.now c.bind_book.new.shelf) (status_number c.bind_book.result) in
+    (change g.F.Shelf.files g.F.Shelf.faults g.F.Shelf.asked c.args.shelf.now c.bind_book.new.shelf)
+    (g.I.Source.last c.args.input.now) (status_number c.bind_book.result) in
     let form : IsForm words Bind = subst (λ (f : Form). IsForm words f) c.in-Some-Bind.field-0-is c.in-Some-Bind.ensures.form in
     bind-reported run _ form (words-after string_bytes c.args.words.now)
-    (c.bind_book.ensures.binds words input (record { same = refl; faults = refl; asked = refl }))
+    (c.bind_book.ensures.binds words input (g.I.Source.last c.args.input.now) (record { same = refl; faults = refl; asked = refl }))

@@ -2,7 +2,7 @@ use Rattle.std.proofs.Common.{inl}
 use Rattle.table_commands.proofs.bind.bind_book.Goals as goal
 
 pub returns-in-Ok-clause-binds : goal.returns-in-Ok-clause-binds
-returns-in-Ok-clause-binds g c = λ words input unasked. record {
+returns-in-Ok-clause-binds g c = λ words input last unasked. record {
   input = unasked;
   each = c.bind_files.ensures.each;
   ends = inl (record {
