@@ -314,6 +314,10 @@ def refusals():
             Path(folder, "renju").write_text(f"#!/bin/sh\necho {words}\nexit 4\n")
             said = f"why.py: the program says {words}, which is no refusal of this text\n"
             expect(f"why.py: other words, {words}", run("why.py", [], text, env={**os.environ, "RENJU": f"{folder}/renju"})[::2], (1, said))
+        Path(folder, "renju").write_text("#!/bin/sh\necho refused line 8\nexit 3\n")
+        said = "why.py: the program says refused line 8, and here it is line 9: after its first word stands wins alone, rest and a node, or only\n"
+        bad = TABLE.replace("8,7 wins", "8,7 win")
+        expect("why.py: another line", run("why.py", [], bad, env={**os.environ, "RENJU": f"{folder}/renju"})[::2], (1, said))
 
 
 def drawn_with(position, moves, framed, said):

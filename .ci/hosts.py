@@ -230,7 +230,7 @@ def commented():
             '<img src="g.svg" width="480" alt="The board of g.txt, with the moves from 7 on as stones numbered from 1">', "- " + lines[6] + ".", "- " + lines[7] + ".",
             "## `o.txt`: `open 2`", "- No win was found in its last moves.",
         ])
-        table = "| Game | Its end | Won from move | A win was missed |\n|---|---|---|---|\n| `g.txt` | `won black 9` | 7 |  |\n| `o.txt` | `open 2` |  |  |\n"
+        table = "| Game | Its end | A win by threats from move | A win was missed |\n|---|---|---|---|\n| `g.txt` | `won black 9` | 7 |  |\n| `o.txt` | `open 2` |  |  |\n"
         expect("games.py: the games of a page", table in page, True)
         expect("games.py: its picture", Path(folder, "p", "g.svg").read_text().startswith("<svg"), True)
         expect("games.py: the page again", run("games.py", [*ASKED, "--page", "p", "o.txt"], cwd=folder)[0], 0)

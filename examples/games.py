@@ -152,6 +152,11 @@ class Story:
             if self.has_win(move) and not is_last and not self.has_win(move + 2):
                 yield move
 
+    def is_doubtful(self, move):
+        """Whether the positions were too few to say that the side has no win before its next move."""
+        later = self.found.get(move + 2)
+        return later is not None and not later.is_denied
+
     def comments(self):
         for move, found in self.found.items():
             yield f"before move {move}, {self.game.spelled(move)}, {self.game.side(move).capitalize()} has {found.words(self.limits.depth)}"
@@ -164,8 +169,7 @@ class Story:
             yield f"{self.game.winner.capitalize()} won from move {first} on, with {found.words(self.limits.depth)}"
             yield from self.held(first)
         for move in self.missed():
-            later = self.found.get(move + 2)
-            doubt = f" (undecided at {move + 2})" if later and not later.is_denied else ""
+            doubt = f" (undecided at {move + 2})" if self.is_doubtful(move) else ""
             yield f"{self.game.side(move).capitalize()} missed {self.found[move].words(self.limits.depth)} at move {move}, with {self.game.spelled(move)}{doubt}"
 
     def held(self, first):
@@ -211,10 +215,10 @@ def section(story):
 
 
 def summary(stories):
-    """A line for each game of a page: how it ended, from which move on it was won, and who missed a win at which moves."""
-    rows = ["| Game | Its end | Won from move | A win was missed |", "|---|---|---|---|"]
+    """A line for each game of a page: how it ended, from which move on the winner had a win, and who missed one at which moves."""
+    rows = ["| Game | Its end | A win by threats from move | A win was missed |", "|---|---|---|---|"]
     for story in stories:
-        missed = ", ".join(f"by {story.game.side(move).capitalize()} at {move}" for move in story.missed())
+        missed = ", ".join(f"by {story.game.side(move).capitalize()} at {move}{'?' if story.is_doubtful(move) else ''}" for move in story.missed())
         rows.append(f"| `{story.game.name}` | `{story.game.verdict}` | {story.won_from() or ''} | {missed} |")
     return "\n".join(rows)
 

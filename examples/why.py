@@ -6,8 +6,8 @@
 FILE, or standard input, is handed to the program, with at most N arrivals, and the first line is its answer. Where a table is refused
 the moves of that line are replayed from the position on, and it is said what is wrong at the last of them, and which line of the text
 has it; where board and table should not bear the program out, the script says that and ends with status 1. Where a text is refused
-it says what is wrong in its line. --names writes points as players do, h8 for 7,7. --picture draws the moves, and what is wrong in
-a red frame.
+it says what is wrong in its line, and ends so where it is another. --names writes points as players do, h8 for 7,7. --picture draws
+the moves, and what is wrong in a red frame.
 
 The status is that of the program: 0 where it accepts, 3 where the text is refused, 4 where the table is, and 5 where it has more
 arrivals.
@@ -165,6 +165,9 @@ def of_text(told, data):
     try:
         found = read(data)
     except Wrong as error:
+        line = re.fullmatch(r"refused line (\d+)", told)
+        if line and not str(error).startswith(f"line {line[1]}: "):
+            raise Wrong(f"the program says {told}, and here it is {error}")
         return str(error)
     if isinstance(found, Position):
         return "it is a position, and has no table; fours and solve of renju write one"
