@@ -33,7 +33,7 @@ use Rattle.position_commands.specs.Fours.{AreLimits}
 abbrev pub defences_at : ℕ → PositionFile → List Point
 defences_at limit file = defences_of file.kind limit file.board
 
--- a branch for each move that goes on and does not hold, with the plan of the fewest win by fours after it
+-- a branch for each move that goes on and does not hold, with the plan of the win by fours with the fewest moves after it
 abbrev pub plans_at : ℕ → PositionFile → Branches
 plans_at limit file = plans_after file.kind limit file.board (beaten_of file.kind limit file.board)
 
@@ -54,9 +54,9 @@ abbrev pub start_at : PositionFile → List Node → Answers → TableFile
 start_at file table start =
     record { kind = file.kind; board = file.board; table = table; root = Defend start; moves = start_depth table start }
 
--- The text is that of the one table of the plans: a branch for each move that goes on, with the plan of the fewest win by continuous
--- fours after it. Its start is accepted at the position, is no deeper than the limit, and reaches each node; no two nodes are equal,
--- and there are at most two for each empty point and each move of the limit.
+-- The text is that of the one table of the plans: a branch for each move that goes on and does not hold (where none holds, each that goes
+-- on), with the plan of the win by fours with the fewest moves after it. Its start is accepted at the position, is no deeper than the
+-- limit, and reaches each node; no two nodes are equal, and there are at most two for each empty point and each move of the limit.
 pub record IsLostText (limit : ℕ) (file : PositionFile) (text : List ℕ) : Type 0 where
   pub table : List Node
   pub start : Answers

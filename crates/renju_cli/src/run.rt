@@ -90,8 +90,9 @@ pub fn run_renju<I: Source, O: Sink, F: Shelf>(
     ensures refereed { ShowsReferee (program_run (map string_bytes words.now) (change I.left I.faults I.asked input.old input.new)
         (change O.written O.faults O.asked output.old output.new) (change F.files F.faults F.asked shelf.old shelf.new)
         (I.last input.new) result) }
-    // What statuses 0 and 5 of `defend` show: exactly the moves that hold against continuous fours, or an accepted table by which the
-    // other side wins whatever is played first; or too small a budget after some move.
+    // What statuses 0 and 5 of `defend` show: exactly the moves that hold against continuous fours, or the one table of the plans of the
+    // wins by fours with the fewest moves, which is accepted, so that the other side wins whatever is played first; or too small a budget
+    // after some move.
     ensures defended { ShowsDefence (program_run (map string_bytes words.now) (change I.left I.faults I.asked input.old input.new)
         (change O.written O.faults O.asked output.old output.new) (change F.files F.faults F.asked shelf.old shelf.new)
         (I.last input.new) result) }
