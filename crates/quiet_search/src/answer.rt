@@ -1,0 +1,145 @@
+//! The answer of the search, and its rounds.
+//!
+//! A root whose moves are all disproved is searched again, with more moves tried and the win after a pass searched harder, a few times.
+#![tactic(auto)]
+
+ghost use Rattle.std.specs.Prelude.{◌≤◌, ◌<◌, length, IfOk, IfSome, OnOk};
+ghost use Rattle.quiet_search.specs.declared.TheConstants.{MAX_DEPTH, MAX_LISTED};
+ghost use Rattle.quiet_search.specs.Trees.{IsSmall};
+
+use crate::finder::{Finder, Width};
+use crate::known::Memory;
+use crate::notes::Note;
+use crate::steps::Ended;
+use crate::tree_growth::lone_leaf;
+use crate::zones::Zones;
+use foul_judge::{Position, Seen};
+use proof_tree::ProofTree;
+use row_shapes::Rule;
+use std::alloc::{AllocError, Global};
+use stone_board::Point;
+use strategy_compiler::{Compiler, SearchError};
+
+/// So many rounds are searched at most.
+const ROUNDS: u32 = 4;
+
+/// The first round's width, and how much more each round has than the one before.
+const FIRST_PASS: u64 = 200;
+
+const FIRST_MOVES: u32 = 20;
+
+const MORE_PASS: u64 = 6;
+
+const MORE_MOVES: u32 = 2;
+
+/// Searches a win with quiet moves for the side to move, within about `depth` moves, 1 to `MAX_DEPTH`. Each round grows a tree of at most
+/// `nodes` nodes, 1 to `MAX_LISTED`, and the last of them is left: its nodes are the positions that were listed.
+///
+/// A node that is told is one of the compiler, and nothing more is said of it: a table that is finished from it has to be checked.
+/// `None` says nothing of the position. `Full` says that the compiler has no room for a node,
+/// `Memory` that there is no memory.
+pub fn quiet_search<R: Rule>(
+    alloc: Global,
+    position: &Position<R>,
+    depth: u32,
+    nodes: u32,
+    tree: &mut ProofTree,
+    compiler: &mut Compiler,
+) -> Result<Option<u32>, SearchError>
+    requires some_depth { 1 ≤ depth }
+    requires depth_fits { depth ≤ MAX_DEPTH }
+    requires some_nodes { 1 ≤ nodes }
+    requires nodes_fit { nodes ≤ MAX_LISTED }
+    ensures node { IfOk result (λ found. IfSome found (λ i. i < length compiler.new)) }
+    ensures listed { OnOk result (length tree.new.links ≤ nodes) }
+{
+    let mut finder = Finder::<R>::new(alloc, position, depth)?;
+    let ended = finder.rounds(tree, compiler, nodes)?;
+    Ok(told(compiler, ended))
+}
+
+/// What the last round says.
+fn told(compiler: &Compiler, ended: Ended) -> Option<u32>
+    ensures node { IfSome result (λ i. i < length compiler.now) }
+{
+    match ended {
+        Ended::Proved(win) => within(compiler, win),
+        Ended::Disproved | Ended::Spent => None,
+    }
+}
+
+/// The node, if it is one of the compiler.
+fn within(compiler: &Compiler, win: Option<u32>) -> Option<u32>
+    ensures node { IfSome result (λ i. i < length compiler.now) }
+{
+    let node = win?;
+    if node < compiler.len() {
+        Some(node)
+    } else {
+        None
+    }
+}
+
+impl<R: Rule> Finder<R> {
+    /// A finder at the position that has searched nothing.
+    fn new(alloc: Global, position: &Position<R>, depth: u32) -> Result<Finder<R>, AllocError> {
+        let root = position.copy()?;
+        let attacker = root.side();
+        let size = root.board().cells().len();
+        let mut notes = Vec::new(alloc);
+        notes.push(Note::open(Point { x: 0, y: 0 }, None))?;
+        Ok(Finder {
+            alloc,
+            root,
+            attacker,
+            depth,
+            width: Width {
+                round: 1,
+                pass: FIRST_PASS,
+                moves: FIRST_MOVES,
+            },
+            memory: Memory::new(alloc)?,
+            zones: Zones::new(alloc, attacker, size)?,
+            notes,
+            answers: Vec::new(alloc),
+            quiet: Vec::new(alloc),
+        })
+    }
+
+    /// Round after round, until one ends otherwise than disproved.
+    fn rounds(
+        &mut self,
+        tree: &mut ProofTree,
+        compiler: &mut Compiler,
+        nodes: u32,
+    ) -> Result<Ended, SearchError>
+        requires some_nodes { 1 ≤ nodes }
+        requires nodes_fit { nodes ≤ MAX_LISTED }
+        ensures small { OnOk result (IsSmall tree.new nodes) }
+    {
+        *tree = lone_leaf(self.alloc, nodes)?;
+        let mut ended = self.run(tree, compiler, nodes)?;
+        for _ in 1..ROUNDS {
+            let Ended::Disproved = ended else {
+                return Ok(ended);
+            };
+            self.widen()?;
+            *tree = lone_leaf(self.alloc, nodes)?;
+            ended = self.run(tree, compiler, nodes)?;
+        }
+        Ok(ended)
+    }
+
+    /// Begins the next round: the tree's notes are those of one leaf again, and the width grows. What was won stays remembered.
+    fn widen(&mut self) -> Result<(), AllocError> {
+        self.notes.truncate(0);
+        self.notes.push(Note::open(Point { x: 0, y: 0 }, None))?;
+        self.answers.truncate(0);
+        self.width = Width {
+            round: self.width.round.saturating_add(1),
+            pass: self.width.pass.saturating_mul(MORE_PASS),
+            moves: self.width.moves.saturating_mul(MORE_MOVES),
+        };
+        Ok(())
+    }
+}

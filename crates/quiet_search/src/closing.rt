@@ -1,0 +1,214 @@
+//! What is settled is compiled and remembered, from a leaf up to the first node that is open.
+#![tactic(auto)]
+
+ghost use Rattle.std.specs.Prelude.{◌≡◌, nat_lt};
+ghost use Rattle.std.specs.List.{list_all};
+ghost use Rattle.quiet_search.specs.Trees.{IsSmall};
+
+use crate::MOST_ANSWERS;
+use crate::finder::Finder;
+use crate::notes::Note;
+use crate::steps::{Place, Step};
+use crate::tree_growth::{link_of, numbers_of, settle_leaf};
+use foul_judge::Seen;
+use proof_tree::{Kind, Link, ProofTree};
+use row_shapes::Rule;
+use std::alloc::AllocError;
+use stone_board::Point;
+use strategy_compiler::{Compiler, SearchError};
+use strategy_graph::{Node, Replies, Reply, Rest};
+
+/// The node that is listed for the reply, if one is.
+fn listed(answers: &[Reply], p: Point) -> Option<u32> {
+    let found = answers.iter().find(|reply| reply.at == p)?;
+    Some(found.next)
+}
+
+/// Whether each answer names a node below `len`.
+fn are_below(answers: &[Reply], len: u32) -> bool
+    ensures below { result ≡ list_all (λ r. nat_lt r.next len) answers.now }
+{
+    answers.iter().all(|reply| reply.next < len)
+}
+
+impl<R: Rule> Finder<R> {
+    /// Puts the node of an attack in, with the answers that differ from the rest. Nothing is told where it is no node of a table.
+    pub(crate) fn compile(
+        &self,
+        compiler: &mut Compiler,
+        attack: Point,
+        rest: u32,
+        answers: &[Reply],
+    ) -> Result<Option<u32>, SearchError> {
+        let mut replies = Replies::new(self.alloc);
+        for at in self.root.board().points() {
+            if let Some(next) = listed(answers, at) {
+                if next != rest {
+                    replies.push(Reply { at, next })?;
+                }
+            }
+        }
+        let len = compiler.len();
+        if rest >= len || !replies.is_rising() || !are_below(replies.as_slice(), len) {
+            return Ok(None);
+        }
+        let number = compiler.adopt(Node {
+            attack,
+            replies,
+            rest: Rest::To(rest),
+        })?;
+        Ok(Some(number))
+    }
+
+    /// Settles the leaf as won by a node, or as disproved where none was compiled.
+    pub(crate) fn settle_by(
+        &mut self,
+        tree: &mut ProofTree,
+        place: Place,
+        node: Option<u32>,
+    ) -> Step
+        requires small { IsSmall tree.old place.most }
+        ensures small { IsSmall tree.new place.most }
+    {
+        match node {
+            Some(number) => self.win(tree, place, number),
+            None => settle_leaf(tree, false, place.most),
+        }
+        Step::Done
+    }
+
+    /// Whether so many answers more are to be kept.
+    pub(crate) fn has_room(&self, more: usize) -> bool {
+        self.answers.len().saturating_add(more) <= MOST_ANSWERS
+    }
+
+    /// Notes the rest at a node of the defender, and the answers to the replies that get no node.
+    pub(crate) fn write_rest(
+        &mut self,
+        leaf: u32,
+        rest: u32,
+        answers: &[Reply],
+    ) -> Result<(), AllocError> {
+        let note = self.note(leaf);
+        let first = u32::try_from(self.answers.len()).unwrap_or(u32::MAX);
+        let count = u32::try_from(answers.len()).unwrap_or(0);
+        self.answers.extend_from_slice(answers)?;
+        self.write(
+            leaf,
+            Note {
+                rest: Some(rest),
+                first,
+                count,
+                ..note
+            },
+        );
+        Ok(())
+    }
+
+    /// Compiles and remembers what is settled on the way up.
+    pub(crate) fn go_up(
+        &mut self,
+        tree: &ProofTree,
+        compiler: &mut Compiler,
+        way: &[u32],
+    ) -> Result<(), SearchError> {
+        for k in 0..way.len() {
+            let node = way[k];
+            let numbers = numbers_of(tree, node);
+            if !numbers.is_settled() {
+                return Ok(());
+            }
+            let link = link_of(tree, node);
+            let won = numbers.proof == 0;
+            if won && self.note(node).win.is_none() {
+                self.close(tree, compiler, node, link)?;
+            }
+            if let Kind::Attack = link.kind {
+                self.remember(&way[k..], won)?;
+            }
+        }
+        Ok(())
+    }
+
+    /// Remembers a settled position of the attacker, the first of the way.
+    fn remember(&mut self, way: &[u32], won: bool) -> Result<(), AllocError> {
+        let Some(view) = self.reach(way)? else {
+            return Ok(());
+        };
+        let round = self.width.round;
+        let win = match way {
+            [] => None,
+            [first, ..] => self.note(*first).win,
+        };
+        match win {
+            Some(node) => self.memory.keep_won(view.board(), node),
+            None if won => Ok(()),
+            None => self.memory.keep_lost(view.board(), round),
+        }
+    }
+
+    /// Finds the win of a proved node with children: that of its proved child, or the attack with all its answers.
+    fn close(
+        &mut self,
+        tree: &ProofTree,
+        compiler: &mut Compiler,
+        i: u32,
+        link: Link,
+    ) -> Result<(), SearchError> {
+        let win = match link.kind {
+            Kind::Attack => self.win_of_child(tree, link),
+            Kind::Defend => self.close_defence(compiler, i, link)?,
+        };
+        if let Some(node) = win {
+            self.write_win(i, node);
+        }
+        Ok(())
+    }
+
+    /// The win of the first proved child.
+    fn win_of_child(&self, tree: &ProofTree, link: Link) -> Option<u32> {
+        for k in link.first..link.first.saturating_add(link.count) {
+            if numbers_of(tree, k).proof == 0 {
+                return self.note(k).win;
+            }
+        }
+        None
+    }
+
+    /// The attack that leads to a proved node of the defender, with the answers that were found at once and those of its children.
+    fn close_defence(
+        &mut self,
+        compiler: &mut Compiler,
+        i: u32,
+        link: Link,
+    ) -> Result<Option<u32>, SearchError> {
+        let note = self.note(i);
+        let Some(rest) = note.rest else {
+            return Ok(None);
+        };
+        let answers = self.all_answers(note, link)?;
+        let node = self.compile(compiler, note.at, rest, answers.as_slice())?;
+        if let Some(number) = node {
+            self.mark_quiet(number)?;
+        }
+        Ok(node)
+    }
+
+    /// The answers that were found at once, and the wins of the children.
+    fn all_answers(&self, note: Note, link: Link) -> Result<Vec<Reply>, AllocError> {
+        let mut answers = Vec::new(self.alloc);
+        for k in note.first..note.first.saturating_add(note.count) {
+            let place = k as usize;
+            if place < self.answers.len() {
+                answers.push(self.answers[place])?;
+            }
+        }
+        for k in link.first..link.first.saturating_add(link.count) {
+            let child = self.note(k);
+            if let Some(next) = child.win {
+                answers.push(Reply { at: child.at, next })?;
+            }
+        }
+        Ok(answers)
+    }
+}

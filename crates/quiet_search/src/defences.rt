@@ -1,0 +1,147 @@
+//! The defender's leaves: the block of a four, or the replies that may harm the win which follows a pass.
+#![tactic(auto)]
+
+ghost use Rattle.std.specs.Prelude.{OnOk};
+ghost use Rattle.quiet_search.specs.Trees.{IsSmall};
+
+use crate::candidates::{in_order, least_point};
+use crate::finder::{Finder, after_move, answer_of, is_on, rest_of};
+use crate::notes::Note;
+use crate::replies::Met;
+use crate::steps::{Children, Place, Step};
+use crate::tree_growth::settle_leaf;
+use foul_judge::{Position, Seen};
+use proof_tree::{Numbers, ProofTree};
+use row_shapes::{FivePoints, Rule};
+use std::alloc::AllocError;
+use stone_board::{Point, Points};
+use strategy_compiler::{Compiler, SearchError};
+
+/// The numbers of the one block of a four.
+const BLOCK: Numbers = Numbers {
+    proof: 1,
+    disproof: 1,
+};
+
+impl<R: Rule> Finder<R> {
+    /// Settles a leaf of the defender, or gives it children.
+    pub(crate) fn defend(
+        &mut self,
+        view: &mut Position<R>,
+        tree: &mut ProofTree,
+        compiler: &mut Compiler,
+        place: Place,
+    ) -> Result<Step, SearchError>
+        requires small { IsSmall tree.old place.most }
+        ensures small { OnOk result (IsSmall tree.new place.most) }
+    {
+        match view.fives_in_short(self.attacker) {
+            FivePoints::One(block) => self.defend_four(view, tree, compiler, place, block),
+            FivePoints::None => self.defend_quiet(view, tree, compiler, place),
+            FivePoints::Several => {
+                settle_leaf(tree, false, place.most);
+                Ok(Step::Done)
+            }
+        }
+    }
+
+    /// After a four: the block has a child, and the five answers all other replies.
+    fn defend_four(
+        &mut self,
+        view: &mut Position<R>,
+        tree: &mut ProofTree,
+        compiler: &mut Compiler,
+        place: Place,
+        block: Point,
+    ) -> Result<Step, SearchError>
+        requires small { IsSmall tree.old place.most }
+        ensures small { OnOk result (IsSmall tree.new place.most) }
+    {
+        let rest = compiler.winning(block)?;
+        if !is_on::<R>(view, block) {
+            let node = self.compile(compiler, place.at, rest, &[])?;
+            return Ok(self.settle_by(tree, place, node));
+        }
+        let hint = answer_of(compiler, place.hint, block);
+        let mut children = Children::new(self.alloc);
+        children.push(BLOCK, Note::open(block, hint))?;
+        self.write_rest(place.leaf, rest, &[])?;
+        self.expand(tree, &children, place.most)
+    }
+
+    /// After another attack: the defender's fours deny it, no win after a pass does, and else the replies that may harm are met.
+    fn defend_quiet(
+        &mut self,
+        view: &mut Position<R>,
+        tree: &mut ProofTree,
+        compiler: &mut Compiler,
+        place: Place,
+    ) -> Result<Step, SearchError>
+        requires small { IsSmall tree.old place.most }
+        ensures small { OnOk result (IsSmall tree.new place.most) }
+    {
+        if self.is_denied(view)? {
+            settle_leaf(tree, false, place.most);
+            return Ok(Step::Done);
+        }
+        match self.met_replies(view, compiler, place)? {
+            None => {
+                settle_leaf(tree, false, place.most);
+                Ok(Step::Done)
+            }
+            Some(met) => self.take_met(tree, compiler, place, &met),
+        }
+    }
+
+    /// What the replies that may harm the win after a pass come to. `None` says that there is no such win with a zone, or that one
+    /// of the replies denies the attack.
+    fn met_replies(
+        &mut self,
+        view: &mut Position<R>,
+        compiler: &mut Compiler,
+        place: Place,
+    ) -> Result<Option<Met>, SearchError> {
+        let Some(rest) = self.win_after_pass(view, compiler, place)? else {
+            return Ok(None);
+        };
+        let Some(replies) = self.harmful_replies(view, compiler, rest)? else {
+            return Ok(None);
+        };
+        self.meet_all(view, compiler, place, rest, replies.as_slice())
+    }
+
+    /// The node that wins after a pass: that of the hint, if it has a zone here, or one of fours or threats.
+    fn win_after_pass(
+        &mut self,
+        view: &Position<R>,
+        compiler: &mut Compiler,
+        place: Place,
+    ) -> Result<Option<u32>, SearchError> {
+        let hinted = rest_of(compiler, place.hint);
+        if self.serves(compiler, hinted, view.board())? {
+            return Ok(hinted);
+        }
+        let Some(q) = least_point(view.board(), self.attacker) else {
+            return Ok(None);
+        };
+        let Some(mut passed) = after_move::<R>(view, q)? else {
+            return Ok(None);
+        };
+        self.force(&mut passed, self.width.pass, place.left, compiler)
+    }
+
+    /// The replies that may harm the zone of the rest, those first that are tried first; nothing where it has no zone.
+    fn harmful_replies(
+        &mut self,
+        view: &Position<R>,
+        compiler: &Compiler,
+        rest: u32,
+    ) -> Result<Option<Points>, AllocError> {
+        let Some(zone) = self.zone_at(compiler, rest, view.board())? else {
+            return Ok(None);
+        };
+        let harmful = self.zones.harmful(view.board(), zone)?;
+        let replies = in_order(self.alloc, view.board(), self.attacker, harmful.as_slice())?;
+        Ok(Some(replies))
+    }
+}

@@ -1,0 +1,294 @@
+//! The finder: what the search keeps beside its tree, and the calls of the searches that it stands on.
+#![tactic(auto)]
+
+use crate::known::{Known, Memory};
+use crate::notes::Note;
+use crate::zones::Zones;
+use foul_judge::{Outcome, Position, Seen};
+use four_search::{FourAnswer, finds_fours, four_search};
+use proof_number::{ProofAnswer, proof_number};
+use proof_tree::ProofTree;
+use row_shapes::Rule;
+use std::alloc::{AllocError, Global};
+use stone_board::{Board, Point, Side};
+use strategy_compiler::{Compiler, SearchError};
+use strategy_graph::{Node, Reply, answer_among};
+
+/// So many positions are looked at for fours at one position.
+const FOUR_POSITIONS: u64 = 200;
+
+/// Within so many moves fours are looked for, and the defender's.
+const FOUR_MOVES: u32 = 20;
+
+const DENIAL_MOVES: u32 = 12;
+
+/// Within so many moves threats are looked for.
+const THREAT_MOVES: u32 = 15;
+
+/// How wide a round searches: its number from 1 on, how hard the win after a pass is searched, and how many moves are tried.
+#[derive(Clone, Copy)]
+pub(crate) struct Width {
+    pub(crate) round: u32,
+    pub(crate) pass: u64,
+    pub(crate) moves: u32,
+}
+
+/// What a search for fours and threats comes to.
+#[derive(Clone, Copy)]
+enum Forced {
+    /// This node wins.
+    Won(u32),
+    /// No win by threats is there.
+    Denied,
+    /// None was found.
+    Open,
+}
+
+/// What the search keeps beside its tree.
+#[derive(Drop)]
+pub(crate) struct Finder<R: Rule> {
+    pub(crate) alloc: Global,
+    pub(crate) root: Position<R>,
+    pub(crate) attacker: Side,
+    pub(crate) depth: u32,
+    pub(crate) width: Width,
+    pub(crate) memory: Memory,
+    pub(crate) zones: Zones<R>,
+    pub(crate) notes: Vec<Note>,
+    /// The answers to replies that got no node, of all nodes of the tree.
+    pub(crate) answers: Vec<Reply>,
+    /// Which nodes of the compiler play a quiet move.
+    pub(crate) quiet: Vec<bool>,
+}
+
+/// The nodes of the compiler.
+pub(crate) fn nodes_of(compiler: &Compiler) -> &[Node] {
+    compiler.nodes()
+}
+
+/// The node's attack, if the compiler has the node.
+pub(crate) fn attack_of(compiler: &Compiler, node: u32) -> Option<Point> {
+    let nodes = nodes_of(compiler);
+    let place = node as usize;
+    if place < nodes.len() {
+        Some(nodes[place].attack)
+    } else {
+        None
+    }
+}
+
+/// The node that answers the reply after this node, if there is one.
+pub(crate) fn answer_of(compiler: &Compiler, node: Option<u32>, q: Point) -> Option<u32> {
+    let place = node? as usize;
+    let nodes = nodes_of(compiler);
+    if place < nodes.len() {
+        answer_among(&nodes[place].replies, nodes[place].rest, q)
+    } else {
+        None
+    }
+}
+
+/// The node that answers what is not listed after this node, if there is one.
+pub(crate) fn rest_of(compiler: &Compiler, node: Option<u32>) -> Option<u32> {
+    let place = node? as usize;
+    let nodes = nodes_of(compiler);
+    if place < nodes.len() {
+        nodes[place].rest.node()
+    } else {
+        None
+    }
+}
+
+/// Whether the move goes on.
+pub(crate) fn is_on<R: Rule>(view: &mut Position<R>, p: Point) -> bool {
+    matches!(view.outcome(p), Outcome::GoesOn)
+}
+
+/// The position after a move, if the move goes on.
+pub(crate) fn after_move<R: Rule>(
+    view: &Position<R>,
+    p: Point,
+) -> Result<Option<Position<R>>, AllocError> {
+    let mut next = view.copy()?;
+    match next.outcome(p) {
+        Outcome::GoesOn => {
+            next.play(p);
+            Ok(Some(next))
+        }
+        _ => Ok(None),
+    }
+}
+
+impl<R: Rule> Finder<R> {
+    /// The note of node `i` of the tree.
+    pub(crate) fn note(&self, i: u32) -> Note {
+        let place = i as usize;
+        if place < self.notes.len() {
+            self.notes[place]
+        } else {
+            Note::open(Point { x: 0, y: 0 }, None)
+        }
+    }
+
+    /// Writes the note of node `i` of the tree.
+    pub(crate) fn write(&mut self, i: u32, note: Note) {
+        let place = i as usize;
+        if place < self.notes.len() {
+            self.notes[place] = note;
+        }
+    }
+
+    /// Notes the node that wins at node `i` of the tree.
+    pub(crate) fn write_win(&mut self, i: u32, node: u32) {
+        let note = self.note(i);
+        self.write(
+            i,
+            Note {
+                win: Some(node),
+                ..note
+            },
+        );
+    }
+
+    /// Whether a node of the compiler is known to play a quiet move.
+    pub(crate) fn is_quiet(&self, node: u32) -> bool {
+        let place = node as usize;
+        place < self.quiet.len() && self.quiet[place]
+    }
+
+    /// Marks a node of the compiler as one that plays a quiet move.
+    pub(crate) fn mark_quiet(&mut self, node: u32) -> Result<(), AllocError> {
+        let place = node as usize;
+        if place >= self.quiet.len() {
+            self.quiet.resize(place.saturating_add(1), false)?;
+        }
+        if place < self.quiet.len() {
+            self.quiet[place] = true;
+        }
+        Ok(())
+    }
+
+    /// The number of the zone of a node of the compiler at a board where the attacker is to move, if it has one.
+    pub(crate) fn zone_at(
+        &mut self,
+        compiler: &Compiler,
+        node: u32,
+        board: &Board,
+    ) -> Result<Option<u32>, AllocError> {
+        self.zones.zone_of(nodes_of(compiler), node, board)
+    }
+
+    /// Whether a node, if there is one, has a zone at the board: then it wins there.
+    pub(crate) fn serves(
+        &mut self,
+        compiler: &Compiler,
+        node: Option<u32>,
+        board: &Board,
+    ) -> Result<bool, AllocError> {
+        match node {
+            None => Ok(false),
+            Some(number) => {
+                let zone = self.zone_at(compiler, number, board)?;
+                Ok(zone.is_some())
+            }
+        }
+    }
+
+    /// The node of a win by fours or threats for the side to move, if one is known or found with this budget.
+    pub(crate) fn force(
+        &mut self,
+        view: &mut Position<R>,
+        budget: u64,
+        left: u32,
+        compiler: &mut Compiler,
+    ) -> Result<Option<u32>, SearchError> {
+        let known = self.memory.find(view.board());
+        if known.won.is_some() {
+            return Ok(known.won);
+        }
+        if known.lost == self.width.round || left == 0 || known.tried > budget {
+            return Ok(None);
+        }
+        let found = self.search_forced(view, known, budget, left, compiler)?;
+        let board = view.board();
+        match found {
+            Forced::Won(node) => {
+                self.memory.keep_won(board, node)?;
+                Ok(Some(node))
+            }
+            Forced::Denied => {
+                self.keep_tried(board, u64::MAX)?;
+                Ok(None)
+            }
+            Forced::Open => {
+                self.keep_tried(board, budget.saturating_add(1))?;
+                Ok(None)
+            }
+        }
+    }
+
+    /// Remembers how hard fours and threats were searched on the board.
+    fn keep_tried(&mut self, board: &Board, tried: u64) -> Result<(), AllocError> {
+        let known = self.memory.find(board);
+        self.memory.keep(board, Known { tried, ..known })
+    }
+
+    /// The same where nothing is known: first fours, where they were not searched, then threats.
+    fn search_forced(
+        &mut self,
+        view: &mut Position<R>,
+        known: Known,
+        budget: u64,
+        left: u32,
+        compiler: &mut Compiler,
+    ) -> Result<Forced, SearchError> {
+        if known.tried == 0 {
+            let fours = find_fours_win::<R>(self.alloc, view, left, compiler)?;
+            if let Some(node) = fours {
+                return Ok(Forced::Won(node));
+            }
+        }
+        if budget == 0 {
+            return Ok(Forced::Open);
+        }
+        find_threats_win::<R>(self.alloc, view, budget, left, compiler)
+    }
+
+    /// Whether the defender, to move, is seen to win by fours.
+    pub(crate) fn is_denied(&self, view: &mut Position<R>) -> Result<bool, AllocError> {
+        finds_fours::<R, Position<R>>(self.alloc, view, DENIAL_MOVES, FOUR_POSITIONS)
+    }
+}
+
+/// The node of a win by continuous fours within the moves left, if one is found.
+fn find_fours_win<R: Rule>(
+    alloc: Global,
+    view: &mut Position<R>,
+    left: u32,
+    compiler: &mut Compiler,
+) -> Result<Option<u32>, SearchError> {
+    let depth = left.min(FOUR_MOVES).max(1);
+    match four_search::<R, Position<R>>(alloc, view, depth, FOUR_POSITIONS, compiler)? {
+        FourAnswer::Win(win) => Ok(Some(win.node)),
+        FourAnswer::None | FourAnswer::Spent => Ok(None),
+    }
+}
+
+/// The node of a win by threats within the moves left, if one is found with the budget.
+fn find_threats_win<R: Rule>(
+    alloc: Global,
+    view: &mut Position<R>,
+    budget: u64,
+    left: u32,
+    compiler: &mut Compiler,
+) -> Result<Forced, SearchError> {
+    let depth = left.min(THREAT_MOVES).max(1);
+    let positions = budget.min(1_000_000).max(1);
+    let mut tree = ProofTree::new(alloc)?;
+    let found = proof_number::<R, Position<R>>(alloc, view, depth, positions, &mut tree, compiler)?;
+    match found {
+        ProofAnswer::Win(win) => Ok(Forced::Won(win.node)),
+        ProofAnswer::None => Ok(Forced::Denied),
+        ProofAnswer::Spent => Ok(Forced::Open),
+    }
+}

@@ -1,0 +1,53 @@
+//! The search for wins with quiet moves, and its zones.
+//!
+//! A quiet move threatens nothing at once, but after it a pass would lose. The search grows a tree of attacks and replies at its
+//! most-proving leaf (Allis, van der Meulen and van den Herik, "Proof-Number Search"). After a quiet attack the win that follows a
+//! pass is found first, and its zone tells which replies may harm it (the relevance zones of Wu and Lin, for Connect6, where the pass
+//! is a null move). The others are answered by that win and get no node; those that may harm it are met by wins that are known
+//! already, by fours and threats of their own, or get a node.
+//!
+//! The search is free: nothing is said of a node that it tells but that it is one of the compiler. Who calls it gives the table to
+//! the checker. So what it remembers is tested where it is used, and no bound of it is taken on trust.
+//!
+//! Beside the compiler's nodes, with a flag for each, it keeps at most `MAX_LISTED` nodes of the tree, each with a note, and
+//! `MOST_ANSWERS` answers to replies without a node; `REMEMBERED` positions, and as many zones of a node at a board; and `MOST_MARKS`
+//! marks of zones with those of one question more.
+#![tactic(auto)]
+
+mod answer;
+mod attacks;
+mod candidates;
+mod closing;
+mod defences;
+mod finder;
+mod known;
+mod marks;
+mod notes;
+mod replies;
+mod steps;
+mod tree_growth;
+mod values;
+mod zone_frames;
+mod zone_walk;
+mod zones;
+
+pub use answer::quiet_search;
+pub use strategy_compiler::SearchError;
+
+/// The most moves within which a win with quiet moves is searched.
+pub const MAX_DEPTH: u32 = 60;
+
+/// The most nodes of a tree.
+pub const MAX_LISTED: u32 = 4_000_000;
+
+/// The greatest number that a node begins with.
+const MOST_NUMBER: u32 = 1_000;
+
+/// So many positions are remembered at most, and so many zones.
+const REMEMBERED: u32 = 65_536;
+
+/// So many answers to replies without a node are kept at most.
+const MOST_ANSWERS: usize = 16_777_216;
+
+/// So many marks of zones are kept at most before all are forgotten.
+const MOST_MARKS: usize = 16_777_216;

@@ -1,0 +1,199 @@
+//! The replies that may harm the win after a pass: each is met by a node that is known, or stays open.
+#![tactic(auto)]
+
+ghost use Rattle.std.specs.Prelude.{OnOk};
+ghost use Rattle.quiet_search.specs.Trees.{IsSmall};
+
+use crate::finder::{Finder, after_move, answer_of};
+use crate::notes::Note;
+use crate::steps::{Children, Place, Step};
+use foul_judge::{Outcome, Position, Seen};
+use proof_tree::{Numbers, ProofTree};
+use row_shapes::Rule;
+use std::alloc::{AllocError, Global};
+use stone_board::Point;
+use strategy_compiler::{Compiler, SearchError};
+use strategy_graph::Reply;
+
+/// The budget of threats after one reply.
+const REPLY_BUDGET: u64 = 10;
+
+/// The numbers of a reply that stays open.
+const OPEN: Numbers = Numbers {
+    proof: 2,
+    disproof: 10,
+};
+
+/// The node of the rest, the answers that were found, the nodes that gave them, and the replies that stay open.
+#[derive(Drop)]
+pub(crate) struct Met {
+    rest: u32,
+    answers: Vec<Reply>,
+    serving: Vec<u32>,
+    children: Children,
+}
+
+impl Met {
+    /// None is met yet.
+    fn new(alloc: Global, rest: u32) -> Met {
+        Met {
+            rest,
+            answers: Vec::new(alloc),
+            serving: Vec::new(alloc),
+            children: Children::new(alloc),
+        }
+    }
+
+    /// Adds the answer to one reply.
+    fn add_answer(&mut self, answer: Reply) -> Result<(), AllocError> {
+        self.answers.push(answer)?;
+        Ok(())
+    }
+}
+
+/// Adds a node at the end.
+fn add_node(nodes: &mut Vec<u32>, node: u32) -> Result<(), AllocError> {
+    nodes.push(node)?;
+    Ok(())
+}
+
+/// What a reply comes to.
+#[derive(Clone, Copy)]
+enum Judged {
+    /// It is met by this node.
+    By(u32),
+    /// It stays open, with this hint.
+    Open(Option<u32>),
+    /// It is no reply: it fouls.
+    No,
+    /// It denies the attack.
+    Denies,
+}
+
+impl<R: Rule> Finder<R> {
+    /// Meets one reply after another. `None` says that one of them denies the attack.
+    pub(crate) fn meet_all(
+        &mut self,
+        view: &mut Position<R>,
+        compiler: &mut Compiler,
+        place: Place,
+        rest: u32,
+        replies: &[Point],
+    ) -> Result<Option<Met>, SearchError> {
+        let mut met = Met::new(self.alloc, rest);
+        add_node(&mut met.serving, rest)?;
+        for q in replies {
+            match self.judge(view, compiler, place, &mut met.serving, *q)? {
+                Judged::No => {}
+                Judged::Denies => return Ok(None),
+                Judged::By(next) => met.add_answer(Reply { at: *q, next })?,
+                Judged::Open(hint) => {
+                    let hinted = if place.hint.is_some() {
+                        hint
+                    } else {
+                        Some(rest)
+                    };
+                    met.children.push(OPEN, Note::open(*q, hinted))?;
+                }
+            }
+        }
+        Ok(Some(met))
+    }
+
+    /// What a reply comes to.
+    fn judge(
+        &mut self,
+        view: &mut Position<R>,
+        compiler: &mut Compiler,
+        place: Place,
+        serving: &mut Vec<u32>,
+        q: Point,
+    ) -> Result<Judged, SearchError> {
+        match view.outcome(q) {
+            Outcome::GoesOn => {}
+            Outcome::Fouls(_) => return Ok(Judged::No),
+            _ => return Ok(Judged::Denies),
+        }
+        let Some(mut next) = after_move::<R>(view, q)? else {
+            return Ok(Judged::Denies);
+        };
+        let known = self.memory.find(next.board());
+        if let Some(node) = known.won {
+            return Ok(Judged::By(node));
+        }
+        if known.lost == self.width.round {
+            return Ok(Judged::Denies);
+        }
+        let hint = answer_of(compiler, place.hint, q);
+        match self.answer_to(&mut next, compiler, hint, place.left, serving)? {
+            None => Ok(Judged::Open(hint)),
+            Some(node) => {
+                self.memory.keep_won(next.board(), node)?;
+                Ok(Judged::By(node))
+            }
+        }
+    }
+
+    /// A node that wins after the reply: one that has met another reply, the hint's answer, or one of fours or threats.
+    fn answer_to(
+        &mut self,
+        next: &mut Position<R>,
+        compiler: &mut Compiler,
+        hint: Option<u32>,
+        left: u32,
+        serving: &mut Vec<u32>,
+    ) -> Result<Option<u32>, SearchError> {
+        if let Some(node) = self.first_serving(next, compiler, serving.as_slice())? {
+            return Ok(Some(node));
+        }
+        let found = if self.serves(compiler, hint, next.board())? {
+            hint
+        } else {
+            self.force(next, REPLY_BUDGET, left, compiler)?
+        };
+        if let Some(node) = found {
+            add_node(serving, node)?;
+        }
+        Ok(found)
+    }
+
+    /// The first of these nodes that has a zone at the position.
+    fn first_serving(
+        &mut self,
+        next: &Position<R>,
+        compiler: &Compiler,
+        serving: &[u32],
+    ) -> Result<Option<u32>, AllocError> {
+        for node in serving {
+            if self.serves(compiler, Some(*node), next.board())? {
+                return Ok(Some(*node));
+            }
+        }
+        Ok(None)
+    }
+
+    /// Compiles the attack where each reply is met; else the replies that stay open get children.
+    pub(crate) fn take_met(
+        &mut self,
+        tree: &mut ProofTree,
+        compiler: &mut Compiler,
+        place: Place,
+        met: &Met,
+    ) -> Result<Step, SearchError>
+        requires small { IsSmall tree.old place.most }
+        ensures small { OnOk result (IsSmall tree.new place.most) }
+    {
+        if met.children.is_empty() {
+            let node = self.compile(compiler, place.at, met.rest, met.answers.as_slice())?;
+            if let Some(number) = node {
+                self.mark_quiet(number)?;
+            }
+            return Ok(self.settle_by(tree, place, node));
+        }
+        if !self.has_room(met.answers.len()) {
+            return Ok(Step::Spent);
+        }
+        self.write_rest(place.leaf, met.rest, met.answers.as_slice())?;
+        self.expand(tree, &met.children, place.most)
+    }
+}
