@@ -35,10 +35,11 @@ brain_with_words name = codes "brain" ∷ name ∷ []
 abbrev pub nothing_held : HeldTable
 nothing_held = record { table = []; roots = [] }
 
--- what the output shows before and after
+-- what the output shows before the run
 abbrev pub shown_before : Change (Option (List ℕ)) → Output
 shown_before output = record { written = output.before; asked = output.asked_before }
 
+-- what it shows after the run
 abbrev pub shown_after : Change (Option (List ℕ)) → Output
 shown_after output = record { written = output.after; asked = output.asked_after }
 

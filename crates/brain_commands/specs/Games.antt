@@ -61,7 +61,8 @@ GamesGoWell t named asked =
 -- What holds of a table and roots of it that are held: each root wins within the moves that are named for it; where the opponent
 -- moves first, none of its moves wins or draws; a game by a root begins wherever a game has come to it; each goes well, whatever a
 -- session is told; the lines of legal replies in one are answered byte for byte by the lines of the table's attacks; and so it is, and the
--- game is won or still open, where a reader of the lines alone sees the position of a root whose side moves first, and of none before it.
+-- game is won or still open, where a reader of the lines alone sees, at DONE or at BEGIN, the position of a root whose side moves
+-- first, and of none before it.
 pub record PlaysByRoots (t : List Node) (named : List NamedRoot) : Type 0 where
   pub win : All (λ r. RootWins r.root.kind r.root.root r.moves r.root.board) named
   pub tight : All (λ r. IsTight r.root.kind r.root.board r.root.root) named

@@ -48,9 +48,8 @@ pub record BeginsByLines (held : HeldTable) (front : List ℕ) (r : HeldRoot) : 
   pub roots : held.roots ≡ earlier ++ r ∷ later
   pub first : All (λ e. e.kind ≡ r.kind → e.board ≡ r.board → ⊥) earlier
 
--- Who sends such lines to a brain that holds this, and legal replies behind them, gets the lines of the table's attacks against them, one
--- for
--- one, byte for byte; and the game from the root's node is won within its depth, or the replies have run out.
+-- Who sends such lines to a brain that holds this, and legal replies behind them, gets the lines of the table's attacks against them,
+-- one for one, byte for byte; and the game from the root's node is won within its depth, or the replies have run out.
 abbrev pub LinesWin : HeldTable → Type 0
 LinesWin held =
     (front : List ℕ) (r : HeldRoot) (i : ℕ) (qs : List Point) → (begins : BeginsByLines held front r) → r.root ≡ Attack i

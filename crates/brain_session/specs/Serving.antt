@@ -108,8 +108,8 @@ pub record StopsAtWrite (v : Served) (asked : List Command) : Type 0 where
   pub part : TakesPart written.written (answer_text answer) v.output_after.written
   pub once : IsAskedOnce written.asked v.output_after.asked
 
--- No read was made before each line that had ended was among those answered: the last read gave the final ones of the bytes that were
--- given, and the lines that end within those before are among these.
+-- The last read gave the final ones of the bytes that were given, and the lines that end within the bytes before it are the first of
+-- those answered.
 pub record ReadsAfterAnswers (answered : List Command) (left left_after : Option (List ℕ)) (last_after : Option ℕ) : Type 0 where
   pub before : List ℕ
   pub final : List ℕ

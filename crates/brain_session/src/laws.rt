@@ -78,8 +78,8 @@ pub fn sessions_are_drawn()
 
 /// Where a reader of the lines sees the position of a held root whose side moves first, under its rule and of none held before it,
 /// sent by BOARD, or the empty board at BEGIN, and the brain answers by a move, each list of legal replies that is sent behind is
-/// answered by the attacks of the table, byte for byte, and the game is won
-/// within the depth of the root, or the replies have run out.
+/// answered by the attacks of the table, byte for byte, and the game is won within the depth of the root, or the replies have run
+/// out. Nothing is said so of a start, nor of a root that TURN leads to: `roots_begin_games` says of them when a game begins.
 pub fn held_lines_win()
     ensures win { HeldLinesWin }
 {}

@@ -29,7 +29,7 @@ change told faults asked old new = record {
 }
 
 -- the words, the bytes that the input has left, those that stand in the output, the files of the shelf, how many bytes the last read
--- of the input gave that did not fail, and the status as a number
+-- of the input gave that did not fail, if there was one, and the status as a number
 pub record Run : Type 0 where
   pub words : List (List ℕ)
   pub input : Change (Option (List ℕ))

@@ -87,7 +87,7 @@ is_beside d q = not (is_same_point d.at q) && not (is_same_point d.first q) && n
 abbrev pub IsBeside : DoublePoint → Point → Type 0
 IsBeside d q = is_beside d q ≡ true
 
--- one of the first double points of the side in reading order, of so many at most, with the first two five points that its stone leaves
+-- one of the first MOST_KEPT double points of the side in reading order, with the first two five points that its stone leaves
 pub record IsFirstDouble (rule : RuleKind) (b : Grid) (s : Side) (d : DoublePoint) : Type 0 where
   pub listed : Contains (take MOST_KEPT (filter (is_double_point rule b s) (points_of b))) d.at
   pub fives : take 2 (five_points rule (put b s d.at) s) ≡ d.first ∷ d.second ∷ []
