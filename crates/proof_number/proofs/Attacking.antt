@@ -15,22 +15,25 @@ use Rattle.proof_tree.specs.declared.Kind.{Kind}
 use Rattle.proof_tree.specs.declared.Kind.TheVariants.{Attack, Defend}
 use Rattle.proof_tree.specs.declared.Numbers.{Numbers}
 use Rattle.proof_tree.proofs.SumLaws.{IsFresh, fresh-sum}
-use Rattle.threat_game.proofs.Common.{threat_tree, move_at, nowhere, OthersFail, tried_moves}
+use Rattle.threat_game.proofs.Common.{threat_tree, move_at, nowhere, OthersFail, tried_moves, one_if}
 use Rattle.proof_number.specs.declared.notes.Note.{Note}
 use Rattle.proof_number.specs.declared.search.Search.{Search}
 use Rattle.proof_number.specs.Searches.Grows.{known_grown}
 use Rattle.proof_number.proofs.Opening.{leaf-facts}
 use Rattle.proof_number.proofs.Common.{no_note, note_at, AreTried, GameTree, HasTried, board_at, left_at, IsTrueMemo, Grows, HasGrown}
 use Rattle.proof_number.proofs.Common.{HasSpent, IsAtLeaf, IsExpandedAt, IsSettledAt, StandsAt, attacks_behind, behind_at, defences_behind}
-use Rattle.proof_number.proofs.Common.{game_of, is_attack, sum_below}
+use Rattle.proof_number.proofs.Common.{game_of, is_attack, sum_below, threat_wins, wins_behind}
 use Rattle.threat_game.proofs.TreeLaws.{IsTriedMove, replies-positive, tried-at, tried-behind}
 use Rattle.proof_number.proofs.ExpandedCounts.{Expansion, IsNewNote, expanded-grown, new_behind, unwritten_child, sum-nothing, sum-under}
+use Rattle.proof_number.proofs.ExpandedCounts.{unproved_child, unwritten_win}
 use Rattle.proof_number.proofs.Expanding.{IsNewChild}
 use Rattle.proof_number.proofs.Recording.{keeps-all}
-use Rattle.proof_number.proofs.RunningOut.{defences-out}
+use Rattle.proof_number.proofs.RunningOut.{runs-out}
+use Rattle.proof_number.proofs.WinLaws.{tried-wins}
 use Rattle.proof_number.proofs.Steps.{attack-moves, attack-no_five, leaf-compiled, leaf-lawful, leaf-noted, lost-step}
-use Rattle.proof_number.proofs.Sums.{sum-le, sum-less, sum-list}
+use Rattle.proof_number.proofs.Sums.{sum-le, sum-list, sum-one}
 use Rattle.threat_game.proofs.AttackLaws.{none-tried, tried-enough, tried-or-saved}
+use Rattle.game_rules.specs.Games.{wins_by_threats}
 
 -- the note of a node of which nothing is known
 abbrev pub open_note : ℕ → Point → Note
@@ -133,7 +136,7 @@ module _ {rule : RuleKind} {s : Search} {t : Tree} {c : List Node} {leaf : ℕ} 
               absurd (omega (arith, nothing.1))
           | inr saved ↦ inl saved
         ];
-      })
+      }) (λ root. inr empty)
 
   left-noted : left_at (game_of rule s t).left leaf ≡ (note_at s.notes.items leaf).left
   left-noted = get_or-map (λ (n : Note). n.left) s.notes.items leaf no_note 0 (leaf-noted stands)
@@ -148,16 +151,14 @@ module _ {rule : RuleKind} {s : Search} {t : Tree} {c : List Node} {leaf : ℕ} 
       (eq-eqb (link_at t.links leaf).count 0 here.childless)
       ∙ ap (λ r. cond (not r) (defences_behind (link_at t.links leaf).kind rule (left_at g.left leaf) (board_at g leaf)) 0) here.leaf_open
       ∙ ap (λ (k : Kind). defences_behind k rule (left_at g.left leaf) (board_at g leaf)) attack in
-      let nothing = sum-nothing (length t.links) (λ i. 0) (λ i l. refl) in
-      let low = sum-less (length t.links) (λ i. 0) (behind_at defences_behind g) leaf
-      (threat_tree rule (left_at g.left leaf) (board_at g leaf) - 1) here.in_tree (λ j l other. omega arith) (omega (arith, own)) in
+      let low = sum-one (length t.links) (behind_at defences_behind g) leaf here.in_tree in
       let tree_is : threat_tree rule (note_at s.notes.items leaf).left s.board ≡ threat_tree rule (left_at g.left leaf) (board_at g leaf) =
       ap (λ (n : ℕ). threat_tree rule n s.board) (sym left-noted) ∙ ap (threat_tree rule (left_at g.left leaf)) here.view_is in
       let first : left_at g.left 0 ≡ s.depth = get_or-map (λ (n : Note). n.left) s.notes.items 0 no_note 0
       (let l = leaf-noted stands in omega (arith, l)) ∙ here.searching.depth in
       let root_is : threat_tree rule (left_at g.left 0) s.root ≡ threat_tree rule s.depth s.root =
       ap (λ (n : ℕ). threat_tree rule n s.root) first in
-      omega (arith, nothing, low, tree_is, root_is, here.searching.counted.defences)
+      omega (arith, own, low, tree_is, root_is, here.searching.counted.defences)
 
   module _ (m : ℕ) (left_is : (note_at s.notes.items leaf).left ≡ suc m) where
     one-move : 1 ≤ m
@@ -174,7 +175,7 @@ module _ {rule : RuleKind} {s : Search} {t : Tree} {c : List Node} {leaf : ℕ} 
     moves-spent over = record {
       spent = (let a = defences-fit in let d = moves-few rule s.board lawful-here no-five others m one-move in let e =
           tree-here in omega (arith, over, a, d, e));
-      ran_out = defences-out stands attack over;
+      ran_out = runs-out stands Attack attack (inr over);
       same = refl;
       keeps = keeps-all s;
     }
@@ -262,6 +263,16 @@ module _ {rule : RuleKind} {s : Search} {t : Tree} {c : List Node} {leaf : ℕ} 
       written-none = sum-nothing (length more) (λ j. unwritten_child (link_at t.links leaf).kind (note_at ms j))
           (λ j low. ap (λ (k : Kind). unwritten_child k (note_at ms j)) attack)
 
+      unproved-none : sum_below (length more) (λ j. unproved_child (link_at t.links leaf).kind (numbers_at more j)) ≡ 0
+      unproved-none = sum-nothing (length more) (λ j. unproved_child (link_at t.links leaf).kind (numbers_at more j))
+          (λ j low. ap (λ (k : Kind). unproved_child k (numbers_at more j)) attack)
+
+      wins-none : sum_below (length more)
+          (λ j. unwritten_win rule (link_at t.links leaf).kind (board_at (game_of rule s t) leaf) (note_at ms j)) ≡ 0
+      wins-none = sum-nothing (length more)
+          (λ j. unwritten_win rule (link_at t.links leaf).kind (board_at (game_of rule s t) leaf) (note_at ms j))
+          (λ j low. ap (λ (k : Kind). unwritten_win rule k (board_at (game_of rule s t) leaf) (note_at ms j)) attack)
+
       attackers-none : sum_below (length more) (λ j. cond (is_attack (other_kind (link_at t.links leaf).kind)) 1 0) ≡ 0
       attackers-none = sum-nothing (length more) (λ j. cond (is_attack (other_kind (link_at t.links leaf).kind)) 1 0)
           (λ j low. ap (λ (k : Kind). cond (is_attack (other_kind k)) 1 0) attack)
@@ -278,6 +289,13 @@ module _ {rule : RuleKind} {s : Search} {t : Tree} {c : List Node} {leaf : ℕ} 
           let defences_left : defences_behind (link_at t.links leaf).kind rule (left_at (game_of rule s t).left leaf)
           (board_at (game_of rule s t) leaf) ≡ threat_tree rule (suc m) s.board - 1 =
           at-leaf-is (λ k n b. defences_behind k rule n b ≡ threat_tree rule (suc m) s.board - 1) refl in
+          let wins = same-sum wins_behind in
+          let tried = tried-wins rule m s.board no-five in
+          let all_wins = sum-list (λ p. behind_replies rule (threat_wins rule m) (after s.board p)) nowhere (tried_moves rule s.board) in
+          let wins_left : wins_behind (link_at t.links leaf).kind rule (left_at (game_of rule s t).left leaf)
+          (board_at (game_of rule s t) leaf) ≡ threat_wins rule (suc m) s.board - one_if (wins_by_threats rule (suc m) s.board) =
+          at-leaf-is (λ k n b. wins_behind k rule n b ≡ threat_wins rule (suc m) s.board - one_if (wins_by_threats rule (suc m) s.board))
+          refl in
           let budget = here.searching.counted.attacked_fits in
           let count = count-is in
           let defended = defended-is in
@@ -303,13 +321,15 @@ module _ {rule : RuleKind} {s : Search} {t : Tree} {c : List Node} {leaf : ℕ} 
             defended_more = omega (arith, defended);
             attacked_fits = omega (arith, count, budget);
             defended_fits = omega (arith, defended, fits);
-            nodes_counted = omega (arith, count, defended, size);
             low = λ kind. fresh-sum kind more fresh;
             met = λ defends q on none. let bad : Attack ≡ Defend = sym attack ∙ defends in cc;
             short = omega (arith, count, unwritten);
             attackers_counted = omega (arith, count, attackers-none);
+            few_counted = omega (arith, count, unproved-none, attackers-none);
+            defenders_counted = omega (arith, defended, size, attackers-none);
             attacks_counted = omega (arith, count, attacks, all, attacks_left);
             defences_counted = omega (arith, defended, defences, all, each, defences_left);
+            wins_counted = omega (arith, wins-none, wins, tried, all_wins, wins_left);
           } in
           subst (λ (d : List Node). HasGrown rule s v t u d leaf) (append-nil c)
           (expanded-grown x))

@@ -1,6 +1,6 @@
 -- A search whose tree has one node: the root is open, or it is settled as won or lost.
 use Rattle.std.proofs.Common.{◌≡◌, ◌∙◌, ℕ, ◌+◌, ◌-◌, ◌<◌, ◌≤◌, Bool, true, false, cond, ◌&&◌, not, refl}
-use Rattle.std.proofs.Common.{sym, ap, subst, arith, List, [], length, nat_eq, Result, Ok, OnOk}
+use Rattle.std.proofs.Common.{sym, ap, subst, arith, List, [], length, nat_eq, Result, Ok, OnOk, min, inl}
 use Rattle.std.proofs.lemmas.Bool.{eq-eqb, ne_eqb}
 use Rattle.std.proofs.lemmas.List.{get_or-set_same, length-map, length-set}
 use Rattle.game_rules.proofs.Common.{Grid, IsPosition, mover, WinsByThreats, has_five}
@@ -15,17 +15,20 @@ use Rattle.proof_tree.specs.declared.Kind.{Kind}
 use Rattle.proof_tree.specs.declared.Kind.TheVariants.{Attack, Defend}
 use Rattle.proof_tree.specs.declared.Numbers.{Numbers}
 use Rattle.proof_tree.proofs.SumLaws.{lone-childless}
-use Rattle.threat_game.proofs.Common.{threat_tree, IsThreatWin}
+use Rattle.threat_game.proofs.Common.{threat_tree, IsThreatWin, one_if}
 use Rattle.proof_number.specs.declared.notes.Note.{Note}
 use Rattle.proof_number.specs.declared.search.Search.{Search}
 use Rattle.proof_number.proofs.Common.{no_note, note_at, win_of, CanGrow, GameTree, IsGameTree, TellsTruly, WinsAt, board_at, left_at}
 use Rattle.proof_number.proofs.Common.{IsLostAt, IsTrueOf, AreWritten, CanBegin, HasBegun, IsSameAim, IsCounted, IsNotedWin, IsSettledAt}
 use Rattle.proof_number.proofs.Common.{Searches, attacks_behind, behind_at, behind_leaves, defences_behind, game_of, is_attack, noted_won}
 use Rattle.proof_number.proofs.Common.{sum_below, unwritten, known_searching}
+use Rattle.proof_number.proofs.Common.{IsBare, attack_nodes, threat_wins, unproved, wins_behind, won_at}
 use Rattle.proof_number.proofs.GameTruths.{board-root, left-root}
 use Rattle.strategy_compiler.proofs.Growing.{grows-length, win-some, writes-nothing, writes-tells}
 use Rattle.proof_number.proofs.Sums.{sum-suc, sum-zero}
 use Rattle.threat_game.proofs.TreeLaws.{tree-positive, one_where}
+use Rattle.proof_number.proofs.WinLaws.{won-counts, won-one, wins-own}
+use Rattle.game_rules.specs.Games.{wins_by_threats}
 
 -- ---- five points that are listed
 
@@ -40,6 +43,9 @@ pub record IsRootOf (rule : RuleKind) (s : Search) (t : Tree) (c : List Node) : 
   pub noted : 0 < (note_at s.notes.items 0).moves → IsNotedWin rule s.depth s.root c (win_of (note_at s.notes.items 0))
   pub has_win : numbers_at t.numbers 0 ≡ settled_numbers true → 0 < (note_at s.notes.items 0).moves
   pub few : length c + one_where (nat_eq (note_at s.notes.items 0).moves 0) ≤ s.before + 1
+  pub wins : length c + cond (nat_eq (note_at s.notes.items 0).moves 0) (one_if (wins_by_threats rule s.depth s.root)) 0
+      ≤ s.before + one_if (wins_by_threats rule s.depth s.root)
+  pub bare : numbers_at t.numbers 0 ≡ settled_numbers false → IsBare rule s.depth s.root
 
 -- the search beside its tree, where one position of the attacker is counted
 pub record IsBegun (rule : RuleKind) (s : Search) (t : Tree) (c : List Node) : Type 0 where
@@ -109,6 +115,7 @@ module _ {rule : RuleKind} {s : Search} {t : Tree} {c : List Node} (begun : IsBe
     lost = λ i low none gone.
         subst (λ (k : ℕ). IsLostAt (link_at t.links k).kind Game (left_at Game.left k) (board_at Game k)) (only i low)
         (at-root (λ k n b. IsLostAt k Game n b) (root.lost (lost-root i low gone)));
+    root = λ none gone. at-root (λ k n b. IsBare rule n s.root) (root.bare gone);
   }
 
   lone-written : AreWritten Game s.notes.items c (λ i. ⊥)
@@ -139,15 +146,44 @@ module _ {rule : RuleKind} {s : Search} {t : Tree} {c : List Node} (begun : IsBe
       let b = sum-zero f in
       ap (λ (n : ℕ). sum_below n f) begun.one_node ∙ omega (arith, a, b)
 
+  counts-less : (r : Bool) (x : ℕ) → cond r x 0 ≤ x
+  counts-less true x = omega arith
+  counts-less false x = omega arith
+
   lone-behind : (f : Kind → RuleKind → ℕ → Grid → ℕ)
       → behind_leaves f Game ≤ f (link_at t.links 0).kind rule (left_at Game.left 0) (board_at Game 0)
   lone-behind f =
       let b = counts-less (nat_eq (link_at t.links 0).count 0 && not (is_settled (numbers_at t.numbers 0)))
       (f (link_at t.links 0).kind rule (left_at Game.left 0) (board_at Game 0)) in
-      omega (arith, lone-sum (behind_at f Game), b) where
-        counts-less : (r : Bool) (x : ℕ) → cond r x 0 ≤ x
-        counts-less true x = omega arith
-        counts-less false x = omega arith
+      omega (arith, lone-sum (behind_at f Game), b)
+
+  -- it is the attacker's
+  lone-attack : attack_nodes t.links ≡ 1
+  lone-attack =
+      let a = lone-sum (λ i. cond (is_attack (link_at t.links i).kind) 1 0) in
+      let b : ◌≡◌ {A = ℕ} (cond (is_attack (link_at t.links 0).kind) 1 0) 1 = ap (λ (k : Kind). cond (is_attack k) 1 0) attacks in
+      omega (arith, a, b)
+
+  lone-wins : length c + sum_below (length t.links) (unwritten (won_at Game) t s.notes.items) + behind_leaves wins_behind Game
+      ≤ s.before + threat_wins rule s.depth s.root
+  lone-wins =
+      let own : ℕ = one_if (wins_by_threats rule s.depth s.root) in
+      let won : won_at Game 0 ≡ own = at-root (λ k n b. one_if (wins_by_threats rule n b) ≡ own) refl in
+      let behind : wins_behind (link_at t.links 0).kind rule (left_at Game.left 0) (board_at Game 0) ≡ threat_wins rule s.depth s.root
+      - own =
+      at-root (λ k n b. wins_behind k rule n b ≡ threat_wins rule s.depth s.root - own) refl in
+      let a : unwritten (won_at Game) t s.notes.items 0 ≡ cond (nat_eq (note_at s.notes.items 0).moves 0) own 0 =
+      ap (λ (k : Kind). cond (is_attack k && nat_eq (note_at s.notes.items 0).moves 0) (won_at Game 0) 0) attacks
+      ∙ ap (λ (n : ℕ). cond (nat_eq (note_at s.notes.items 0).moves 0) n 0) won in
+      omega (
+        arith,
+        lone-sum (unwritten (won_at Game) t s.notes.items),
+        a,
+        lone-behind wins_behind,
+        behind,
+        root.wins,
+        wins-own rule s.depth s.root,
+      )
 
   lone-counted : IsCounted Game s.budget s.attacked s.defended
   lone-counted = record {
@@ -167,12 +203,13 @@ module _ {rule : RuleKind} {s : Search} {t : Tree} {c : List Node} (begun : IsBe
         ap (threat_tree rule (left_at Game.left 0)) own-board in
         omega (arith, lone-behind defences_behind, b, d, begun.defended_is)
         );
-    nodes = (let a = begun.one_node in let b = begun.attacked_is in omega (arith, a, b));
-    attackers = (
-        let a = lone-sum (λ i. cond (is_attack (link_at t.links i).kind) 1 0) in
-        let b : ◌≡◌ {A = ℕ} (cond (is_attack (link_at t.links 0).kind) 1 0) 1 = ap (λ (k : Kind). cond (is_attack k) 1 0) attacks in
-        omega (arith, a, b, begun.attacked_is)
+    attackers = omega (arith, lone-attack, begun.attacked_is);
+    few_attacks = (
+        let a = lone-sum (unproved t) in
+        let b = counts-less (is_attack (link_at t.links 0).kind && not (nat_eq (numbers_at t.numbers 0).proof 0)) 1 in
+        omega (arith, a, b, lone-attack, begun.attacked_is)
         );
+    defenders = omega (arith, lone-attack, begun.one_node, begun.defended_is);
     attacked_fits = (let a = begun.attacked_is in let b = begun.some_budget in omega (arith, a, b));
     defended_fits = (let a = begun.defended_is in omega (arith, a));
     leaves = λ kind some. let a = begun.one_node in absurd (omega (arith, a, some));
@@ -190,10 +227,11 @@ module _ {rule : RuleKind} {s : Search} {t : Tree} {c : List Node} (begun : IsBe
     counted = lone-counted;
     compiled = begun.compiled;
     few = (
-        let b : unwritten t s.notes.items 0 ≡ one_where (nat_eq (note_at s.notes.items 0).moves 0) =
+        let b : unwritten (λ i. 1) t s.notes.items 0 ≡ one_where (nat_eq (note_at s.notes.items 0).moves 0) =
         ap (λ (k : Kind). one_where (is_attack k && nat_eq (note_at s.notes.items 0).moves 0)) attacks in
-        omega (arith, lone-sum (unwritten t s.notes.items), b, root.few, begun.attacked_is)
+        omega (arith, lone-sum (unwritten (λ i. 1) t s.notes.items), b, root.few, begun.attacked_is)
         );
+    wins = lone-wins;
   })
 
 -- ---- the first look at the root
@@ -240,6 +278,12 @@ module _ {rule : RuleKind} {s : Search} {t : Tree} {c : List Node} {b : Grid} (c
         ap one_where (eq-eqb (note_at s.notes.items 0).moves 0 begins.unwon) in
         omega (arith, begins.before_is, f)
         );
+    wins = (
+        let f = ap (λ r. cond r (one_if (wins_by_threats rule s.depth s.root)) 0)
+        (eq-eqb (note_at s.notes.items 0).moves 0 begins.unwon) in
+        omega (arith, begins.before_is, f)
+        );
+    bare = λ e. absurd (not-settled false e);
   }) where
     settled-test : (p : Bool) → is_settled (settled_numbers p) ≡ true
     settled-test true = refl
@@ -255,14 +299,21 @@ module _ {rule : RuleKind} {s : Search} {t : Tree} {c : List Node} {b : Grid} (c
     board = refl;
     tree = tree;
     one_node = one;
-    writes = writes-nothing c c 1 tt compiled refl;
+    writes = writes-nothing c c _ tt compiled refl;
   } where
     same-aim : IsSameAim s s
     same-aim = record { depth = refl; budget = refl; before = refl; root = refl }
 
+  -- a win has a node at least
+  pub some-won : WinsByThreats rule s.depth b → 1 ≤ min 1 (threat_wins rule s.depth s.root)
+  some-won wins =
+      let one = won-counts rule s.depth s.root (subst (WinsByThreats rule s.depth) (sym begins.root_is) wins) in
+      omega (arith, one)
+
   -- a call that failed wrote no more than a win needs
   pub begun-refused : {v : Search} {d : List Node} {r : Result (Unit {0}) SearchError} → v ≡ record s { board = v.board; notes = v.notes }
-      → v.board ≡ s.board → OnOk r (Searches rule v t d (λ i. ⊥)) → Writes c d 1 r → HasBegun rule s v t c d r
+      → v.board ≡ s.board → OnOk r (Searches rule v t d (λ i. ⊥)) → Writes c d (min 1 (threat_wins rule s.depth s.root)) r
+      → HasBegun rule s v t c d r
   begun-refused {v = v} rest board none writes = record {
     searching = none;
     aim = begun-aim s v rest;
@@ -338,6 +389,14 @@ module _ {rule : RuleKind} {s : Search} {t : Tree} {c : List Node} {b : Grid} (c
           ap one_where (ne_eqb (note_at v.notes.items 0).moves 0 (λ z. let m = win-moves in omega (arith, z, m))) in
           omega (arith, grows-length c d 1 writes.grows, e, f)
           );
+      wins = (
+          let e = ap (λ (w : Search). w.before) rest ∙ begins.before_is in
+          let own = won-one rule v.depth v.root won-noted.1 in
+          let f = ap (λ r. cond r (one_if (wins_by_threats rule v.depth v.root)) 0)
+          (ne_eqb (note_at v.notes.items 0).moves 0 (λ z. let m = win-moves in omega (arith, z, m))) in
+          omega (arith, grows-length c d 1 writes.grows, e, f, own)
+          );
+      bare = λ e. let bad : 0 ≡ 4294967295 = ap (λ (n : Numbers). n.proof) (sym st.settled ∙ e) in absurd (omega (arith, bad));
     })
 
     pub begun-won : HasBegun rule s v u c d (Ok tt)
@@ -347,7 +406,7 @@ module _ {rule : RuleKind} {s : Search} {t : Tree} {c : List Node} {b : Grid} (c
       board = board;
       tree = st.tree;
       one_node = ap length st.links ∙ one;
-      writes = writes-tells c d 1 1 win tt writes (omega arith);
+      writes = writes-tells c d 1 _ win tt writes (some-won is.by_threats);
     }
 
   -- the root is lost: one move is left, and it does not win
@@ -380,6 +439,13 @@ module _ {rule : RuleKind} {s : Search} {t : Tree} {c : List Node} {b : Grid} (c
           let f : one_where (nat_eq (note_at v.notes.items 0).moves 0) ≡ 1 = ap one_where (eq-eqb (note_at v.notes.items 0).moves 0 e) in
           omega (arith, a, f)
           );
+      wins = (
+          let a = ap (λ (w : Search). w.before) rest ∙ begins.before_is in
+          let e : (note_at v.notes.items 0).moves ≡ 0 = ap (λ (w : Search). (note_at w.notes.items 0).moves) rest ∙ begins.unwon in
+          let f = ap (λ r. cond r (one_if (wins_by_threats rule v.depth v.root)) 0) (eq-eqb (note_at v.notes.items 0).moves 0 e) in
+          omega (arith, a, f)
+          );
+      bare = λ e. inl (let deep = ap (λ (w : Search). w.depth) rest in omega (arith, deep, last));
     })
 
     pub begun-lost : HasBegun rule s v u c c (Ok tt)
@@ -389,5 +455,5 @@ module _ {rule : RuleKind} {s : Search} {t : Tree} {c : List Node} {b : Grid} (c
       board = board;
       tree = st.tree;
       one_node = ap length st.links ∙ one;
-      writes = writes-nothing c c 1 tt compiled refl;
+      writes = writes-nothing c c _ tt compiled refl;
     }

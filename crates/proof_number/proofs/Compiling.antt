@@ -1,9 +1,9 @@
 -- A proved node of the attacker is compiled: the nodes behind its proved move have wins, and the search goes on with one more. A proved
 -- node of the attacker is compiled, in the words of the contracts.
-use Rattle.std.proofs.Common.{◌≡◌, ◌≢◌, ◌⊎◌, inl, inr, ℕ, suc, ◌+◌, ◌<◌, ◌≤◌, Bool, true, false, ◌&&◌}
+use Rattle.std.proofs.Common.{◌≡◌, ◌≢◌, ◌⊎◌, inl, inr, ℕ, suc, ◌+◌, ◌<◌, ◌≤◌, true, false, ◌&&◌}
 use Rattle.std.proofs.Common.{refl, sym, ap, subst, ◌∙◌, arith, List, [], ◌∷◌, ◌++◌, map, length, take, drop, nat_eq, All}
-use Rattle.std.proofs.Common.{Ok}
-use Rattle.std.proofs.lemmas.Bool.{cases_eq, eq-eqb, ne_eqb}
+use Rattle.std.proofs.Common.{Ok, cond}
+use Rattle.std.proofs.lemmas.Bool.{cases_eq, eq-eqb}
 use Rattle.std.proofs.lemmas.List.{get_or-map, get_or-take, get_or-drop, get_or-set_same, get_or-set_other, length-map, length-take}
 use Rattle.std.proofs.lemmas.List.{length-drop, length-append, take-map, drop-map}
 use Rattle.std.specs.List.{AllByRecursion}
@@ -28,19 +28,20 @@ use Rattle.strategy_compiler.proofs.Common.{IsCompiled, IsWrittenWin, StaysOnBoa
 use Rattle.strategy_compiler.proofs.Forks.{IsAnswer, answer-by-win}
 use Rattle.strategy_compiler.proofs.Growing.{win-some}
 use Rattle.threat_game.proofs.Common.{move_at, nowhere}
-use Rattle.threat_game.proofs.TreeLaws.{one_where}
 use Rattle.proof_number.specs.declared.notes.Note.{Note}
 use Rattle.proof_number.specs.declared.search.Search.{Search}
 use Rattle.proof_number.proofs.Common.{known_searching, room_in, all_notes, answer_of, no_note, note_at, noted_for, win_of, AreMet}
 use Rattle.proof_number.proofs.Common.{GameTree, HasTried, IsGameTree, among, board_at, left_at, left_before, moves_of, noted_tree}
 use Rattle.proof_number.proofs.Common.{AreWritten, IsAbove, IsCounted, IsNotedWin, IsSearching, IsTrueMemo, KeepsTree, game_of, is_attack}
 use Rattle.proof_number.proofs.Common.{noted_won, sum_below, unwritten, Searches}
+use Rattle.proof_number.proofs.Common.{behind_leaves, nodes_so_far, threat_wins, wins_behind, won_at}
 use Rattle.proof_number.proofs.Opening.{searching-facts}
 use Rattle.proof_number.proofs.GameTruths.{IsChildOf, child-of, each-zero, left-low, points-same}
 use Rattle.proof_number.proofs.Recording.{all-points, note-for, written-node, won-node}
 use Rattle.proof_number.proofs.Remembering.{memo-grown}
-use Rattle.proof_number.proofs.Settling.{written-grown}
-use Rattle.proof_number.proofs.Sums.{sum-less, sum-zeros}
+use Rattle.proof_number.proofs.Settling.{written-grown, unwritten-less}
+use Rattle.proof_number.proofs.Sums.{sum-one}
+use Rattle.proof_number.proofs.WinLaws.{won-one}
 
 -- ---- the notes of nodes
 
@@ -354,26 +355,18 @@ module _ {rule : RuleKind} {s : Search} {t : Tree} {c : List Node} {node : ℕ} 
               };
         }
 
-    won-few : length (c ++ more) + sum_below (length t.links) (unwritten t u.notes.items) ≤ s.before + s.attacked
-    won-few =
-        let less = sum-less (length t.links) (unwritten t u.notes.items) (unwritten t s.notes.items) node 1 inside
-        (λ j low other. let e = ap (λ (n : Note). one_where (is_attack (link_at t.links j).kind && nat_eq n.moves 0))
-        (other-note j other) in omega (arith, e))
-        (let a = now-none in let b = was-one in omega (arith, a, b)) in
-        omega (arith, less, length-append c more, few, h.few) where
-          now-none : unwritten t u.notes.items node ≡ 0
-          now-none =
-              ap (λ r. one_where (is_attack (link_at t.links node).kind && r))
-              (ne_eqb (note_at u.notes.items node).moves 0 (λ e. let more = now-some in omega (arith, e, more)))
-              ∙ no-one (is_attack (link_at t.links node).kind) where
-                no-one : (r : Bool) → one_where (r && false) ≡ 0
-                no-one true = refl
-                no-one false = refl
+    less : (f : ℕ → ℕ) → sum_below (length t.links) (unwritten f t u.notes.items) + f node
+        ≤ sum_below (length t.links) (unwritten f t s.notes.items)
+    less f = unwritten-less f t s.notes.items u.notes.items node inside attack unwon now-some other-note
 
-          was-one : unwritten t s.notes.items node ≡ 1
-          was-one =
-              ap (λ (k : Kind). one_where (is_attack k && nat_eq (note_at s.notes.items node).moves 0)) attack
-              ∙ ap (λ r. one_where r) (eq-eqb (note_at s.notes.items node).moves 0 unwon)
+    won-few : length (c ++ more) + sum_below (length t.links) (unwritten (λ i. 1) t u.notes.items) ≤ s.before + s.attacked
+    won-few = omega (arith, less (λ i. 1), length-append c more, few, h.few)
+
+    won-wins : length (c ++ more) + sum_below (length t.links) (unwritten (won_at (game_of rule s t)) t u.notes.items)
+        + behind_leaves wins_behind (game_of rule s t) ≤ s.before + threat_wins rule s.depth s.root
+    won-wins =
+        let one = won-one rule (left_at (game_of rule s t).left node) (board_at (game_of rule s t) node) true_win.1 in
+        omega (arith, less (won_at (game_of rule s t)), one, length-append c more, few, h.wins)
 
     pub won-searching : IsSearching rule u t (c ++ more) (IsAbove t.links node)
     won-searching =
@@ -393,6 +386,9 @@ module _ {rule : RuleKind} {s : Search} {t : Tree} {c : List Node} {node : ℕ} 
               (sym (won-places rule s t u.notes.items node win items)) h.counted;
           compiled = compiled;
           few = won-few;
+          wins = subst (λ (g : GameTree). length (c ++ more) + sum_below (length t.links) (unwritten (won_at g) t u.notes.items)
+              + behind_leaves wins_behind g ≤ s.before + threat_wins rule s.depth s.root)
+              (sym (won-places rule s t u.notes.items node win items)) won-wins;
         })
 
 module _ {rule : RuleKind} {s : Search} {t : Tree} {c : List Node} {node : ℕ} (searches : Searches rule s t c (IsOnWayUp t.links node))
@@ -483,18 +479,18 @@ module _ {rule : RuleKind} {s : Search} {t : Tree} {c : List Node} {node : ℕ} 
               (subst (λ (x : List Node). IsNotedWin rule (left_at (game_of rule s t).left node) (board_at (game_of rule s t) node) x win)
               a.1 noted) u rest items))
 
-  was-one : unwritten t s.notes.items node ≡ 1
-  was-one =
-      ap (λ (k : Kind). one_where (is_attack k && nat_eq (note_at s.notes.items node).moves 0)) attack
-      ∙ ap (λ r. one_where r) (eq-eqb (note_at s.notes.items node).moves 0 unwon)
-
-  sum-one : 1 ≤ sum_below (length t.links) (unwritten t s.notes.items)
-  sum-one =
-      let less = sum-less (length t.links) (λ i. 0) (unwritten t s.notes.items) node 1 inside (λ k low other. omega arith)
-      (let e = was-one in omega (arith, e)) in
-      omega (arith, sum-zeros (length t.links), less)
+  own-unwritten : (f : ℕ → ℕ) → unwritten f t s.notes.items node ≡ f node
+  own-unwritten f =
+      ap (λ (k : Kind). cond (is_attack k && nat_eq (note_at s.notes.items node).moves 0) (f node) 0) attack
+      ∙ ap (λ r. cond r (f node) 0) (eq-eqb (note_at s.notes.items node).moves 0 unwon)
 
   -- there is room for the node
-  pub compile-room : 1 ≤ room_in (s.before + s.attacked) c
-  unfolding room_in
-  compile-room = omega (arith, h.few, sum-one)
+  pub compile-room : 1 ≤ room_in (nodes_so_far rule s) c
+  unfolding room_in nodes_so_far
+  compile-room =
+      let g : GameTree = game_of rule s t in
+      let few = sum-one (length t.links) (unwritten (λ i. 1) t s.notes.items) node inside in
+      let wins = sum-one (length t.links) (unwritten (won_at g) t s.notes.items) node inside in
+      let one = won-one rule (left_at g.left node) (board_at g node)
+      (won-node rule s t c (IsOnWayUp t.links node) node h inside attack proved) in
+      omega (arith, own-unwritten (λ i. 1), few, h.few, own-unwritten (won_at g), wins, one, h.wins)

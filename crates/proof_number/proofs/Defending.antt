@@ -1,8 +1,8 @@
 -- The numbers and notes of the children of a node of the defender, one after another. A leaf of the defender is settled where a reply
 -- leaves no win, or else gets a child for each reply.
 use Rattle.std.proofs.Common.{◌≡◌, ◌⊎◌, inl, inr, ℕ, ◌+◌, ◌<◌, ◌≤◌, refl, sym, ap, subst, ◌∙◌, arith}
-use Rattle.std.proofs.Common.{List, [], ◌∷◌, ◌++◌, length, take, Result, Err, Option, Some, None, IfSome, is_none, sum_by, suc}
-use Rattle.std.proofs.Common.{◌-◌, Bool, true, false, cond, ◌&&◌, not, map, All}
+use Rattle.std.proofs.Common.{List, [], ◌∷◌, ◌++◌, length, take, Option, Some, None, IfSome, is_none, sum_by, suc}
+use Rattle.std.proofs.Common.{◌-◌, Bool, true, false, cond, ◌&&◌, not, map, All, ◌*◌, get_or}
 use Rattle.std.proofs.lemmas.Bool.{cases_lt, eq-eqb, ne_eqb}
 use Rattle.std.proofs.lemmas.List.{get_or_append_left, get_or_push, length_push, get_or-map}
 use Rattle.std.proofs.lemmas.List.Sums.{sum_by_more, sum_by_more_le, sum_by-cons, sum_by-le}
@@ -28,14 +28,14 @@ use Rattle.strategy_graph.proofs.Common.{NamesLower}
 use Rattle.strategy_graph.proofs.Filling.{IsTable-lower}
 use Rattle.strategy_compiler.specs.declared.wins.WrittenWin.{WrittenWin}
 use Rattle.strategy_compiler.proofs.Growing.{growth_keeps-wins, win-some, grows-length, grows-then}
-use Rattle.strategy_compiler.proofs.Common.{GrowsBy, IsCompiled, Writes}
+use Rattle.strategy_compiler.proofs.Common.{GrowsBy, IsCompiled}
 use Rattle.threat_game.specs.declared.replies.Child.{Child}
 use Rattle.threat_game.specs.declared.replies.Children.{Children}
 use Rattle.threat_game.specs.declared.replies.Judged.{Judged}
 use Rattle.threat_game.specs.declared.replies.Judged.TheVariants.{Five, DoublePoint as DoubleWins, Last, Open}
 use Rattle.threat_game.proofs.Common.{IsThreatWin, LosesToThreats, is_open, moves_for, nodes_for, threat_tree, has_reply, AreChildren}
-use Rattle.threat_game.proofs.Common.{HasEscape, IsChild, IsJudged, counted_for, is_standing, kept_children, stands_for}
-use Rattle.threat_game.proofs.ReplyLaws.{judged-short, judged-three}
+use Rattle.threat_game.proofs.Common.{HasEscape, IsChild, IsJudged, counted_for, is_standing, kept_children, stands_for, one_if}
+use Rattle.threat_game.proofs.ReplyLaws.{judged-short, judged-three, counted-three}
 use Rattle.threat_game.proofs.Kept.{kept-covers, kept-each, kept-sum, stands-standing}
 use Rattle.threat_game.proofs.TreeLaws.{children-within, counted-few, one_where, counted-one, open_one, counted-parts, open_behind}
 use Rattle.threat_game.proofs.TreeLaws.{whole-by}
@@ -44,19 +44,20 @@ use Rattle.proof_number.specs.declared.notes.Note.{Note}
 use Rattle.proof_number.specs.declared.search.Search.{Search}
 use Rattle.proof_number.proofs.Common.{known_grown, most_nodes, room_in, AreSettled, IsSettledChild, child_at, child_note, child_numbers}
 use Rattle.proof_number.proofs.Common.{no_child, no_note, note_at, win_of, open_numbers, AreMet, CanGrow, GameTree, HasTried, TellsTruly}
-use Rattle.proof_number.proofs.Common.{WinsAt, among, board_at, left_at, HasNoRoom, IsTrueMemo, Grows, HasGrown, HasSpent, IsAtLeaf}
+use Rattle.proof_number.proofs.Common.{WinsAt, among, board_at, left_at, IsTrueMemo, Grows, HasGrown, HasSpent, IsAtLeaf}
 use Rattle.proof_number.proofs.Common.{IsExpandedAt, IsNotedWin, IsSettledAt, StandsAt, attacks_behind, behind_at, defences_behind, game_of}
-use Rattle.proof_number.proofs.Common.{is_attack, sum_below, IsLostAt, WinsByFewFours}
+use Rattle.proof_number.proofs.Common.{is_attack, sum_below, IsLostAt, WinsByFewFours, IsBare, threat_wins, wins_behind}
 use Rattle.proof_number.proofs.Opening.{leaf-facts}
-use Rattle.strategy_compiler.specs.declared.error.SearchError.{SearchError}
-use Rattle.strategy_compiler.specs.declared.error.SearchError.TheVariants.{Full}
-use Rattle.proof_number.proofs.RunningOut.{attacks-out, room-out, same-error}
-use Rattle.proof_number.proofs.ExpandedCounts.{Expansion, IsNewNote, expanded-grown, new_behind, unwritten_child, sum-nothing}
+use Rattle.proof_number.proofs.RunningOut.{runs-out}
+use Rattle.proof_number.proofs.WinLaws.{replies-within, wins-own}
+use Rattle.proof_number.proofs.ExpandedCounts.{Expansion, IsNewNote, expanded-grown, new_behind, unwritten_child}
+use Rattle.proof_number.proofs.ExpandedCounts.{unproved_child, unwritten_win}
 use Rattle.proof_number.proofs.Expanding.{IsNewChild}
 use Rattle.proof_number.proofs.Growing.{lost-grown}
 use Rattle.proof_number.proofs.Remembering.{memo-grown}
 use Rattle.proof_number.proofs.Steps.{leaf-lawful, leaf-noted}
-use Rattle.proof_number.proofs.Sums.{sum-le, sum-less, sum-list, sum-passing}
+use Rattle.proof_number.proofs.Sums.{sum-le, sum-list, sum-one, sum-ones, sum-split}
+use Rattle.game_rules.specs.Games.{wins_by_threats}
 
 -- what is noted first of a child
 abbrev pub first_note : Child → ℕ → Note
@@ -338,9 +339,48 @@ module _ (rule : RuleKind) (left : ℕ) (b : Grid) (d : List Node) (child : Chil
   behind-by f trees false e = ap (λ (n : Numbers). cond (not (is_settled n)) (f Attack rule note.left (after b note.at)) 0)
       (settled.proved e).0
 
+  -- a child that is not proved is open
+  unproved-by : (r : Bool) → is_open child.judged ≡ r → unproved_child Defend numbers ≡ one_where r
+  unproved-by true e = ap (λ (n : Numbers). unproved_child Defend n) (settled.unproved e).0
+  unproved-by false e = ap (λ (n : Numbers). unproved_child Defend n) (settled.proved e).0
+
+  pub child-unproved : unproved_child Defend numbers ≡ one_where (is_open child.judged)
+  child-unproved = unproved-by (is_open child.judged) refl
+
+  -- the won positions from an open child on are not written, and behind another there is none to be written
+  wins-left-by : (r : Bool) → is_open child.judged ≡ r
+      → unwritten_win rule Defend b note + new_behind wins_behind rule Defend b note numbers
+      ≤ cond r (threat_wins rule left (after b child.at)) 0
+  wins-left-by true e =
+      let own : ℕ = one_if (wins_by_threats rule note.left (after b note.at)) in
+      let one = ap (λ r. cond r own 0) (eq-eqb note.moves 0 (settled.unproved e).1) in
+      let behind = ap (λ (n : Numbers). new_behind wins_behind rule Defend b note n) (settled.unproved e).0 in
+      let all : threat_wins rule note.left (after b note.at) ≡ threat_wins rule left (after b child.at) =
+      ap (λ (n : ℕ). threat_wins rule n (after b note.at)) settled.left_is
+      ∙ ap (λ (p : Point). threat_wins rule left (after b p)) settled.at
+      in
+      omega (arith, one, behind, all, wins-own rule note.left (after b note.at))
+  wins-left-by false e =
+      let own : ℕ = one_if (wins_by_threats rule note.left (after b note.at)) in
+      let one = ap (λ r. cond r own 0) (ne_eqb note.moves 0 (λ none. let some = (settled.proved e).1 in omega (arith, none, some))) in
+      let behind = ap (λ (n : Numbers). new_behind wins_behind rule Defend b note n) (settled.proved e).0 in
+      omega (arith, one, behind)
+
+  pub child-wins : unwritten_win rule Defend b note + new_behind wins_behind rule Defend b note numbers
+      ≤ cond (is_open child.judged) (threat_wins rule left (after b child.at)) 0
+  child-wins = wins-left-by (is_open child.judged) refl
+
   pub child-behind : (f : Kind → RuleKind → ℕ → Grid → ℕ) → ((n : ℕ) (c : Grid) → f Attack rule n c ≡ threat_tree rule n c - 1)
       → new_behind f rule Defend b note numbers ≡ cond (is_open child.judged) (threat_tree rule left (after b child.at) - 1) 0
   child-behind f trees = behind-by f trees (is_open child.judged) refl
+
+-- no more than three are counted for a child that is not proved, with two more for it, and for one that is
+counted-open : (rule : RuleKind) (left : ℕ) (b : Grid) (child : Child) → IsChild rule left b child
+    → counted_for child.judged + 2 * open_one child ≤ 3
+counted-open rule left b child is = by_judged child.judged (counted-three rule (after b child.at) child.judged is.judged) where
+  by_judged : (judged : Judged) → counted_for judged ≤ 3 → counted_for judged + 2 * one_where (is_open judged) ≤ 3
+  by_judged Open few = omega arith
+  by_judged _ few = omega (arith, few)
 
 child-whole : (rule : RuleKind) (left : ℕ) (b : Grid) → IsPosition rule b → (child : Child) → IsChild rule left b child
     → counted_for child.judged + open_behind rule left b child ≤ if_goes_on (outcome rule b child.at)
@@ -381,6 +421,12 @@ module _ {rule : RuleKind} {s : Search} {t : Tree} {c : List Node} {leaf : ℕ} 
       (subst (λ (n : ℕ). P Defend n (board_at (game_of rule s t) leaf)) (sym left-noted)
       (subst (P Defend (note_at s.notes.items leaf).left) here.view_is h))
 
+  -- it is not the root
+  no-root : leaf ≡ 0 → IsBare rule (left_at (game_of rule s t).left 0) s.root
+  no-root root = absurd (
+      let bad : Attack ≡ Defend = sym here.searching.tree.linked.root_attacks
+      ∙ ap (λ (k : ℕ). (link_at t.links k).kind) (sym root) ∙ defend in cc)
+
   -- where a reply leaves no win the leaf is settled
   pub escape-grows : HasEscape rule (note_at s.notes.items leaf).left view → (note_at s.notes.items leaf).left ≤ 2 → (u : Tree)
       → IsSettledAt t u leaf false → (b : Grid) → b ≡ s.board → Grows rule s (record s { board = b }) t u c leaf
@@ -388,7 +434,7 @@ module _ {rule : RuleKind} {s : Search} {t : Tree} {c : List Node} {leaf : ℕ} 
       lost-grown here st (record s { board = b }) refl same here.searching.remembered
       (at-leaf-is (λ k n d. WinsAt k rule n d → ⊥) (escape-saves rule (note_at s.notes.items leaf).left view escape))
       (at-leaf-is (λ k n d. IsLostAt k (game_of rule s t) n d)
-      (inr (inr (record { reply = escape.reply; on = escape.on; denied = inr (few, escape.no_win) })))))
+      (inr (inr (record { reply = escape.reply; on = escape.on; denied = inr (few, escape.no_win) })))) no-root)
 
   -- where the other side wins by its own fours the leaf is settled
   pub denied-grows : ((moves : ℕ) → LosesToThreats rule moves view → ⊥) → WinsByFewFours rule view → (u : Tree)
@@ -396,27 +442,34 @@ module _ {rule : RuleKind} {s : Search} {t : Tree} {c : List Node} {leaf : ℕ} 
   denied-grows denied fours u st = known_grown (
       lost-grown here st s refl refl here.searching.remembered
       (at-leaf-is (λ k n d. WinsAt k rule n d → ⊥) (denied (note_at s.notes.items leaf).left))
-      (at-leaf-is (λ k n d. IsLostAt k (game_of rule s t) n d) (inr (inl fours))))
+      (at-leaf-is (λ k n d. IsLostAt k (game_of rule s t) n d) (inr (inl fours))) no-root)
 
   -- the positions behind the leaf are counted from the root
+  own-behind : (f : Kind → RuleKind → ℕ → Grid → ℕ) → behind_at f (game_of rule s t) leaf
+      ≡ f Defend rule (note_at s.notes.items leaf).left view
+  own-behind f =
+      let g : GameTree = game_of rule s t in
+      let n : ℕ = f (link_at t.links leaf).kind rule (left_at g.left leaf) (board_at g leaf) in
+      ap (λ r. cond (r && not (is_settled (numbers_at t.numbers leaf))) n 0) (eq-eqb (link_at t.links leaf).count 0 here.childless)
+      ∙ ap (λ r. cond (not r) n 0) here.leaf_open
+      ∙ at-leaf-is (λ k m b. f k rule m b ≡ f Defend rule (note_at s.notes.items leaf).left view) refl
+
   attacks-fit : s.attacked + behind_replies rule (threat_tree rule (note_at s.notes.items leaf).left) view ≤ threat_tree rule s.depth s.root
   attacks-fit =
       let g : GameTree = game_of rule s t in
-      let count : ℕ = behind_replies rule (threat_tree rule (note_at s.notes.items leaf).left) view in
-      let own : behind_at attacks_behind g leaf ≡ count =
-      ap (λ r. cond (r && not (is_settled (numbers_at t.numbers leaf)))
-      (attacks_behind (link_at t.links leaf).kind rule (left_at g.left leaf) (board_at g leaf)) 0)
-      (eq-eqb (link_at t.links leaf).count 0 here.childless)
-      ∙ ap (λ r. cond (not r) (attacks_behind (link_at t.links leaf).kind rule (left_at g.left leaf) (board_at g leaf)) 0) here.leaf_open
-      ∙ at-leaf-is (λ k n b. attacks_behind k rule n b ≡ count) refl in
-      let nothing = sum-nothing (length t.links) (λ i. 0) (λ i l. refl) in
-      let low = sum-less (length t.links) (λ i. 0) (behind_at attacks_behind g) leaf count here.in_tree (λ j l other. omega arith)
-      (omega (arith, own)) in
+      let low = sum-one (length t.links) (behind_at attacks_behind g) leaf here.in_tree in
       let first : left_at g.left 0 ≡ s.depth = get_or-map (λ (n : Note). n.left) s.notes.items 0 no_note 0
       (let l = leaf-noted stands in omega (arith, l)) ∙ here.searching.depth in
       let root_is : threat_tree rule (left_at g.left 0) s.root ≡ threat_tree rule s.depth s.root =
       ap (λ (n : ℕ). threat_tree rule n s.root) first in
-      omega (arith, nothing, low, root_is, here.searching.counted.attacks)
+      omega (arith, low, own-behind attacks_behind, root_is, here.searching.counted.attacks)
+
+  -- and no more nodes are there than positions are won, with those behind the leaf
+  wins-fit : length c + behind_replies rule (threat_wins rule (note_at s.notes.items leaf).left) view
+      ≤ s.before + threat_wins rule s.depth s.root
+  wins-fit =
+      let low = sum-one (length t.links) (behind_at wins_behind (game_of rule s t)) leaf here.in_tree in
+      omega (arith, low, own-behind wins_behind, here.searching.wins)
 
   pub lawful-here : IsPosition rule view
   lawful-here = leaf-lawful stands
@@ -426,7 +479,7 @@ module _ {rule : RuleKind} {s : Search} {t : Tree} {c : List Node} {leaf : ℕ} 
     pub replies-spent : s.budget < s.attacked + children.count → (b : Grid) → b ≡ s.board → HasSpent rule s (record s { board = b }) t t
     replies-spent over b same = record {
       spent = (let a = attacks-fit in let few = are.few in omega (arith, a, few, over));
-      ran_out = attacks-out stands Defend defend children.count (inr (children, are, refl)) over;
+      ran_out = runs-out stands Defend defend (children, are, over);
       same = refl;
       keeps = record { rest = ap (λ (x : Grid). record s { board = x }) same; places = λ r w. refl };
     }
@@ -436,18 +489,6 @@ module _ {rule : RuleKind} {s : Search} {t : Tree} {c : List Node} {leaf : ℕ} 
         let parts = sum-parts (λ (x : Child). nodes_for x.judged) open_one (λ (x : Child). counted_for x.judged)
         (λ x. counted-parts x.judged) children.all.items in
         omega (arith, parts, are.count_is)
-
-    -- where the nodes of the children don't fit there is no room
-    pub replies-no_room : {A B : Type 0} {d : List Node} {e : SearchError} {r : Result B SearchError} (nodes : ℕ)
-        → nodes ≡ sum_by (λ (x : Child). nodes_for x.judged) children.all.items → Writes {A = A} c d nodes (Err e) → r ≡ Err e
-        → r ≡ Err Full
-        → HasNoRoom rule s.depth s.budget s.root t s.before
-    replies-no_room {e = e} nodes are_nodes writes is full =
-        let same = same-error (Err e) refl is full in
-        let over = writes.full same in
-        let few = nodes-few in
-        let fits = here.searching.few in
-        room-out stands Defend defend children.count (inr (children, are, refl)) (omega (arith, over, few, fits, are_nodes))
 
     pub children-many : length children.all.items ≤ children.count
     children-many =
@@ -473,11 +514,34 @@ module _ {rule : RuleKind} {s : Search} {t : Tree} {c : List Node} {leaf : ℕ} 
         let all = all-sum (λ (x : Child). counted_for x.judged) in
         omega (arith, sum, are.count_is, short, all)
 
+    -- what is written and left to be written behind the children is no more than is won there
+    wins-whole : sum_by (λ (x : Child). nodes_for x.judged) children.all.items
+        + sum_by (λ (x : Child). cond (is_open x.judged) (threat_wins rule (note_at s.notes.items leaf).left (after view x.at)) 0)
+        children.all.items ≤ behind_replies rule (threat_wins rule (note_at s.notes.items leaf).left) view
+    wins-whole =
+        let left : ℕ = (note_at s.notes.items leaf).left in
+        let f : Child → ℕ = λ x. nodes_for x.judged + cond (is_open x.judged) (threat_wins rule left (after view x.at)) 0 in
+        let within = replies-within rule left view lawful-here f are.judged are.are.points are.are.each (λ x. refl) in
+        let parts = sum-parts (λ (x : Child). nodes_for x.judged)
+        (λ (x : Child). cond (is_open x.judged) (threat_wins rule left (after view x.at)) 0) f (λ x. omega arith) children.all.items in
+        omega (arith, within, all-sum f, parts)
+
+    -- three are counted for each at most
+    counted-open-all : children.count + 2 * sum_by open_one children.all.items ≤ 3 * length children.all.items
+    counted-open-all =
+        let f : Child → ℕ = λ x. counted_for x.judged + 2 * open_one x in
+        let few = sum_by-le f 3 children.all.items (λ k x low.
+        counted-open rule (note_at s.notes.items leaf).left view (get_or children.all.items k x) (each-is k x low)) in
+        let parts = sum-parts (λ (x : Child). counted_for x.judged + open_one x) open_one f (λ x. omega arith) children.all.items in
+        let more = sum-parts (λ (x : Child). counted_for x.judged) open_one (λ (x : Child). counted_for x.judged + open_one x)
+        (λ x. omega arith) children.all.items in
+        omega (arith, few, parts, more, are.count_is)
+
     -- there is room for the nodes of the children
     pub replies-room : s.attacked + children.count ≤ s.budget
         → sum_by (λ (x : Child). nodes_for x.judged) children.all.items ≤ room_in (most_nodes rule s) c
     unfolding room_in most_nodes
-    replies-room fits = omega (arith, nodes-few, attacks-fit, are.few, here.searching.few, fits)
+    replies-room fits = omega (arith, nodes-few, wins-whole, wins-fit, here.searching.few, fits)
 
     -- what is counted and stands behind the children is no more than the game has there
     counted-whole : children.count + sum_by (open_behind rule (note_at s.notes.items leaf).left view) children.all.items ≤ behind_replies
@@ -562,10 +626,10 @@ module _ {rule : RuleKind} {s : Search} {t : Tree} {c : List Node} {leaf : ℕ} 
           at-leaf-is (λ k n b. HasTried k rule n b (map (λ (n : Note). n.at) ms)) all
 
       -- sums over the new children, by what is judged of each
-      children-sum : (f : ℕ → ℕ) (h : Child → ℕ) → ((j : ℕ) → j < length more → f j ≡ h (child_at children.all.items j))
+      children-sum : (f : ℕ → ℕ) (h : Child → ℕ) → ((j : ℕ) → j < length more → f j ≤ h (child_at children.all.items j))
           → sum_below (length more) f ≤ sum_by h children.all.items
-      children-sum f h same =
-          let low = sum-le (length more) f (λ j. h (child_at children.all.items j)) (λ j l. let e = same j l in omega (arith, e)) in
+      children-sum f h few =
+          let low = sum-le (length more) f (λ j. h (child_at children.all.items j)) few in
           let all = sum-list h no_child children.all.items in
           let size : sum_below (length more) (λ j. h (child_at children.all.items j)) ≡ sum_below (length children.all.items)
           (λ j. h (child_at children.all.items j)) =
@@ -580,16 +644,42 @@ module _ {rule : RuleKind} {s : Search} {t : Tree} {c : List Node} {leaf : ℕ} 
           (λ j. new_behind f rule (link_at t.links leaf).kind (board_at (game_of rule s t) leaf) (note_at ms j) (numbers_at more j))
           (open_behind rule (note_at s.notes.items leaf).left view)
           (λ j low.
-          at-leaf-is (λ k n b. new_behind f rule k b (note_at ms j) (numbers_at more j) ≡ open_behind rule (note_at s.notes.items leaf).left
-          view (child_at children.all.items j))
+          let e = at-leaf-is (λ k n b. new_behind f rule k b (note_at ms j) (numbers_at more j)
+          ≡ open_behind rule (note_at s.notes.items leaf).left view (child_at children.all.items j))
           (child-behind rule (note_at s.notes.items leaf).left view d (child_at children.all.items j) (numbers_at more j) (note_at ms j)
-          (is-child j low) (is-settled j low) f trees))
+          (is-child j low) (is-settled j low) f trees) in
+          omega (arith, e))
 
       unwritten-new : sum_below (length more) (λ j. unwritten_child (link_at t.links leaf).kind (note_at ms j)) ≤ sum_by open_one
           children.all.items
       unwritten-new = children-sum (λ j. unwritten_child (link_at t.links leaf).kind (note_at ms j)) open_one (λ j low.
-          at-leaf-is (λ k n b. unwritten_child k (note_at ms j) ≡ open_one (child_at children.all.items j))
+          let e = at-leaf-is (λ k n b. unwritten_child k (note_at ms j) ≡ open_one (child_at children.all.items j))
           (child-unwritten rule (note_at s.notes.items leaf).left view d (child_at children.all.items j) (numbers_at more j) (note_at ms j)
+          (is-child j low) (is-settled j low)) in
+          omega (arith, e))
+
+      unproved-new : sum_below (length more) (λ j. unproved_child (link_at t.links leaf).kind (numbers_at more j)) ≤ sum_by open_one
+          children.all.items
+      unproved-new = children-sum (λ j. unproved_child (link_at t.links leaf).kind (numbers_at more j)) open_one (λ j low.
+          let e = at-leaf-is (λ k n b. unproved_child k (numbers_at more j) ≡ open_one (child_at children.all.items j))
+          (child-unproved rule (note_at s.notes.items leaf).left view d (child_at children.all.items j) (numbers_at more j) (note_at ms j)
+          (is-child j low) (is-settled j low)) in
+          omega (arith, e))
+
+      wins-new : sum_below (length more)
+          (λ j. unwritten_win rule (link_at t.links leaf).kind (board_at (game_of rule s t) leaf) (note_at ms j)
+          + new_behind wins_behind rule (link_at t.links leaf).kind (board_at (game_of rule s t) leaf) (note_at ms j) (numbers_at more j))
+          ≤ sum_by (λ (x : Child). cond (is_open x.judged) (threat_wins rule (note_at s.notes.items leaf).left (after view x.at)) 0)
+          children.all.items
+      wins-new = children-sum
+          (λ j. unwritten_win rule (link_at t.links leaf).kind (board_at (game_of rule s t) leaf) (note_at ms j)
+          + new_behind wins_behind rule (link_at t.links leaf).kind (board_at (game_of rule s t) leaf) (note_at ms j) (numbers_at more j))
+          (λ (x : Child). cond (is_open x.judged) (threat_wins rule (note_at s.notes.items leaf).left (after view x.at)) 0)
+          (λ j low.
+          at-leaf-is (λ k n b. unwritten_win rule k b (note_at ms j) + new_behind wins_behind rule k b (note_at ms j) (numbers_at more j)
+          ≤ cond (is_open (child_at children.all.items j).judged)
+          (threat_wins rule (note_at s.notes.items leaf).left (after view (child_at children.all.items j).at)) 0)
+          (child-wins rule (note_at s.notes.items leaf).left view d (child_at children.all.items j) (numbers_at more j) (note_at ms j)
           (is-child j low) (is-settled j low)))
 
     module _ (d : List Node) (grown : GrowsBy c d (sum_by (λ (x : Child). nodes_for x.judged) children.all.items)) (compiled : IsCompiled d)
@@ -625,7 +715,19 @@ module _ {rule : RuleKind} {s : Search} {t : Tree} {c : List Node} {leaf : ℕ} 
           (board_at (game_of rule s t) leaf) ≡ behind_replies rule (threat_tree rule left) view - 1 =
           at-leaf-is (λ k n b. defences_behind k rule n b ≡ behind_replies rule (threat_tree rule left) view - 1) refl in
           let unwritten = unwritten-new (c ++ grown.added) more ms settled-now in
-          let attackers = sum-passing (length more) (λ j. is_attack (other_kind (link_at t.links leaf).kind)) in
+          let attackers = sum-ones (length more) (λ j. cond (is_attack (other_kind (link_at t.links leaf).kind)) 1 0)
+          (λ j. ap (λ (k : Kind). cond (is_attack (other_kind k)) 1 0) defend) in
+          let unproved = unproved-new (c ++ grown.added) more ms settled-now in
+          let few_open = counted-open-all in
+          let wins = wins-new (c ++ grown.added) more ms settled-now in
+          let both = sum-split (length more)
+          (λ j. unwritten_win rule (link_at t.links leaf).kind (board_at (game_of rule s t) leaf) (note_at ms j))
+          (λ j. new_behind wins_behind rule (link_at t.links leaf).kind (board_at (game_of rule s t) leaf) (note_at ms j)
+          (numbers_at more j)) in
+          let all_wins = wins-whole in
+          let wins_left : wins_behind (link_at t.links leaf).kind rule (left_at (game_of rule s t).left leaf)
+          (board_at (game_of rule s t) leaf) ≡ behind_replies rule (threat_wins rule left) view =
+          at-leaf-is (λ k n b. wins_behind k rule n b ≡ behind_replies rule (threat_wins rule left) view) refl in
           let nodes = nodes-few in
           let added = grown.few in
           let many = children-many in
@@ -652,13 +754,15 @@ module _ {rule : RuleKind} {s : Search} {t : Tree} {c : List Node} {leaf : ℕ} 
             defended_more = omega (arith, defended);
             attacked_fits = omega (arith, count, fits);
             defended_fits = omega (arith, defended, defended_fits);
-            nodes_counted = omega (arith, count, defended, many, size);
             low = λ kind. fresh-sum kind more (all-fresh d more ms settled);
             met = met-here (c ++ grown.added) more ms settled-now;
             short = omega (arith, count, nodes, added, unwritten);
             attackers_counted = omega (arith, count, many, size, attackers);
+            few_counted = omega (arith, count, size, attackers, unproved, few_open);
+            defenders_counted = omega (arith, defended, attackers);
             attacks_counted = omega (arith, count, attacks, whole, attacks_left);
             defences_counted = omega (arith, defended, defences, whole, many, some, defences_left);
+            wins_counted = omega (arith, added, wins, both, all_wins, wins_left);
           } in
           subst (λ (x : List Node). HasGrown rule s v t u x leaf) (sym grown.is)
           (expanded-grown x))

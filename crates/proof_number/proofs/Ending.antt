@@ -1,18 +1,16 @@
 -- The end of the search: what the note and the numbers of the root tell.
 use Rattle.std.proofs.Common.{◌≡◌, ◌⊎◌, ◌∙◌, inl, inr, ℕ, zero, suc, ◌*◌, ◌<◌, ◌≤◌, Bool, true, false}
-use Rattle.std.proofs.Common.{cond, sym, ap, subst, arith, List, length, get_or, min, Some, None, Result, Ok, Err, IfOk, OnOk, refl}
+use Rattle.std.proofs.Common.{cond, sym, ap, subst, arith, List, length, get_or, min, Some, None, Result, Ok, Err, IfOk, OnOk, refl, []}
 use Rattle.std.proofs.lemmas.List.{get_or_default, length-map}
 use Rattle.game_rules.proofs.Common.{Grid, WinsByThreats, WinsWithin}
 use Rattle.game_rules.specs.declared.RuleKind.{RuleKind}
 use Rattle.game_rules.proofs.Games.{WinsByFours-WinsByThreats}
 use Rattle.strategy_graph.specs.declared.Node.{Node}
-use Rattle.strategy_graph.specs.declared.TheConstants.{MAX_NODES}
 use Rattle.strategy_compiler.specs.declared.error.SearchError.{SearchError}
-use Rattle.strategy_compiler.specs.declared.error.SearchError.TheVariants.{Full}
 use Rattle.strategy_compiler.proofs.Common.{Writes}
 use Rattle.strategy_graph.proofs.Soundness.{accepted-wins}
 use Rattle.strategy_compiler.specs.declared.wins.WrittenWin.{WrittenWin}
-use Rattle.proof_tree.proofs.Common.{is_settled, settled_numbers, IsTree, Tree, numbers_at}
+use Rattle.proof_tree.proofs.Common.{is_settled, settled_numbers, IsTree, Tree, numbers_at, link_at}
 use Rattle.proof_tree.specs.declared.Kind.{Kind}
 use Rattle.proof_tree.proofs.Settled.{settled-one}
 use Rattle.proof_number.specs.declared.notes.Note.{Note}
@@ -21,19 +19,20 @@ use Rattle.proof_number.specs.declared.answer.ProofAnswer.{ProofAnswer}
 use Rattle.proof_number.specs.declared.answer.ProofAnswer.TheVariants.{Win, None as NoWin, Spent}
 use Rattle.proof_number.specs.declared.TheConstants.{MAX_BUDGET, MAX_DEPTH}
 use Rattle.proof_number.proofs.Common.{Leaves, OnWin, IsTold, IsTrueAnswer, CanBegin, IsNew, IsSameAim, most_nodes, room_in, HasDenial}
-use Rattle.proof_number.proofs.Common.{HasNoRoom, HasNoThreatWin, HasRunOut, IsSearchTree, no_note, note_at, noted_win, win_of, GameTree}
+use Rattle.proof_number.proofs.Common.{HasNoThreatWin, HasRunOut, IsSearchTree, no_note, note_at, noted_win, win_of, GameTree}
 use Rattle.proof_number.proofs.Common.{TellsTruly, WinsAt, board_at, left_at, IsNotedWin, IsSearching, Searches, closed_nodes, game_of}
-use Rattle.proof_number.proofs.Common.{is_open_leaf, sum_below}
+use Rattle.proof_number.proofs.Common.{is_open_leaf, sum_below, HasDisproved, IsBare, threat_wins}
 use Rattle.proof_number.proofs.Opening.{searching-facts}
 use Rattle.proof_number.proofs.Steps.{most-same}
 use Rattle.proof_number.proofs.StepLaws.{writes-on}
-use Rattle.threat_game.proofs.TreeLaws.{tree-positive}
-use Rattle.threat_game.proofs.Common.{IsThreatWin, threat_tree}
+use Rattle.threat_game.proofs.Common.{IsThreatWin, threat_tree, tried_moves}
 use Rattle.proof_number.proofs.DenialLaws.{denial-loses}
 use Rattle.proof_number.proofs.Disproved.{tree-denial}
 use Rattle.proof_number.proofs.GameTruths.{board-root, left-root, all-tell}
 use Rattle.proof_number.proofs.Recording.{noted-none, noted-some}
 use Rattle.proof_number.proofs.Sums.{sum-suc, sum-zero}
+use Rattle.proof_number.proofs.RunningOut.{so-far-tree}
+use Rattle.std.proofs.lemmas.Bool.{cases_eq}
 
 -- no more than all are counted
 sum-ones : (n : ℕ) (f : ℕ → Bool) → sum_below n (λ i. cond (f i) 0 1) ≤ n
@@ -58,7 +57,14 @@ module _ {rule : RuleKind} {s : Search} {t : Tree} {c : List Node} (searches : S
   -- the nodes are closed one by one, and there are no more than both budgets
   pub closed-few : closed_nodes t ≤ 2 * s.budget
   closed-few =
-      omega (arith, sum-ones (length t.links) (is_open_leaf t), h.counted.nodes, h.counted.attacked_fits, h.counted.defended_fits)
+      omega (
+        arith,
+        sum-ones (length t.links) (is_open_leaf t),
+        h.counted.attackers,
+        h.counted.defenders,
+        h.counted.attacked_fits,
+        h.counted.defended_fits,
+      )
 
   pub root-noted : 0 < length s.notes.items
   root-noted = let a = root-inside in let b = length-map s.notes.items (λ (n : Note). n.at) in let e =
@@ -72,7 +78,16 @@ module _ {rule : RuleKind} {s : Search} {t : Tree} {c : List Node} (searches : S
   tree-few =
       let first : threat_tree rule (left_at Game.left 0) s.root ≡ threat_tree rule s.depth s.root =
       ap (λ (n : ℕ). threat_tree rule n s.root) root-left in
-      omega (arith, h.counted.nodes, h.counted.attacked_fits, h.counted.defended_fits, h.counted.attacks, h.counted.defences, first)
+      omega (
+        arith,
+        h.counted.attackers,
+        h.counted.defenders,
+        h.counted.attacked_fits,
+        h.counted.defended_fits,
+        h.counted.attacks,
+        h.counted.defences,
+        first,
+      )
 
   pub told-tree : (n budget : ℕ) (b : Grid) → s.depth ≡ n → s.budget ≡ budget → s.root ≡ b
       → length t.links ≤ 2 * min budget (threat_tree rule n b)
@@ -126,6 +141,22 @@ module _ {rule : RuleKind} {s : Search} {t : Tree} {c : List Node} (searches : S
       | inr lost ↦ lost
     ]
 
+    -- its children are listed, if there is more than one move and some is to be tried
+    pub root-disproved : 1 ≤ s.depth → HasDisproved rule s.depth s.budget s.root t
+    root-disproved deep = record {
+      so_far = so-far-tree h;
+      lost = root-lost;
+      grown = by_count (cases_eq (link_at t.links 0).count 0);
+    } where
+      by_bare : IsBare rule s.depth s.root → (s.depth ≡ 1) ⊎ (tried_moves rule s.root ≡ []) ⊎ (0 < (link_at t.links 0).count)
+      by_bare (inl few) = inl (omega (arith, few, deep))
+      by_bare (inr empty) = inr (inl empty)
+
+      by_count : ((link_at t.links 0).count ≡ 0) ⊎ ((link_at t.links 0).count ≡ 0 → ⊥)
+          → (s.depth ≡ 1) ⊎ (tried_moves rule s.root ≡ []) ⊎ (0 < (link_at t.links 0).count)
+      by_count (inl none) = by_bare (subst (λ (n : ℕ). IsBare rule n s.root) root-left (h.game.root none root-lost))
+      by_count (inr some) = inr (inr (omega (arith, some)))
+
     -- there is a denial of no more positions than were counted, and so no win
     pub root-denial : HasDenial rule s.depth s.root (min s.budget (threat_tree rule s.depth s.root))
     root-denial =
@@ -169,6 +200,14 @@ module _ {rule : RuleKind} {s : Search} {t : Tree} {c : List Node} (searches : S
         (subst (λ (m : ℕ). HasDenial rule m s.root (min s.budget (threat_tree rule m s.root))) deep
         (root-denial (ap noted_win root-note ∙ sym e) settled)))
 
+    pub told-disproved : (budget : ℕ) → s.budget ≡ budget → 1 ≤ n → None ≡ noted_win note → is_settled (numbers_at t.numbers 0) ≡ true
+        → HasDisproved rule n budget b t
+    told-disproved budget for_budget some e settled =
+        subst (λ (k : ℕ). HasDisproved rule n k b t) for_budget
+        (subst (λ (d : Grid). HasDisproved rule n s.budget d t) from
+        (subst (λ (m : ℕ). HasDisproved rule m s.budget s.root t) deep
+        (root-disproved (ap noted_win root-note ∙ sym e) settled (omega (arith, deep, some)))))
+
     pub told-lost : None ≡ noted_win note → is_settled (numbers_at t.numbers 0) ≡ true → numbers_at t.numbers 0 ≡ settled_numbers false
     told-lost e = root-lost (ap noted_win root-note ∙ sym e)
 
@@ -176,21 +215,21 @@ module _ {rule : RuleKind} {s : Search} {t : Tree} {c : List Node} (searches : S
 
 -- all that may be counted may still be written at first
 room-new : (rule : RuleKind) (s : Search) (c : List Node) → s.before ≡ length c
-    → room_in (most_nodes rule s) c ≡ min s.budget (threat_tree rule s.depth s.root)
+    → room_in (most_nodes rule s) c ≡ min s.budget (threat_wins rule s.depth s.root)
 unfolding room_in most_nodes
 room-new rule s c before = omega (arith, before)
 
-pub begun-room : (rule : RuleKind) {s : Search} {t : Tree} {c : List Node} {b : Grid} → CanBegin s t c b → 1 ≤ room_in (most_nodes rule s) c
+pub begun-room : (rule : RuleKind) {s : Search} {t : Tree} {c : List Node} {b : Grid} → CanBegin s t c b
+    → min 1 (threat_wins rule s.depth s.root) ≤ room_in (most_nodes rule s) c
 begun-room rule {s = s} {c = c} can =
-    let some = tree-positive rule s.depth s.root in
     let more = can.some_budget in
     let room = room-new rule s c can.new.before_is in
-    omega (arith, some, more, room)
+    omega (arith, more, room)
 
 pub leaves-told : {A : Type 0} (rule : RuleKind) (s : Search) {t u : Tree} {c d : List Node} {r : Result A SearchError}
     → s.before ≡ length c → IsTree u → length t.links ≤ length u.links
     → OnOk r (length u.links ≤ 2 * min s.budget (threat_tree rule s.depth s.root)) → Writes c d (room_in (most_nodes rule s) c) r
-    → Leaves (min s.budget (threat_tree rule s.depth s.root)) t u c d r
+    → Leaves (min s.budget (threat_tree rule s.depth s.root)) (min s.budget (threat_wins rule s.depth s.root)) t u c d r
 leaves-told rule s {c = c} {d = d} {r = r} before tree longer few writes = record {
   tree = tree;
   longer = longer;
@@ -242,11 +281,12 @@ module _ {rule : RuleKind} {depth budget before : ℕ} {a b : Grid} {s : Search}
       (subst (λ (k : ℕ). IfOk r (IsTrueAnswer rule s.depth k b d u)) new.budget_is
       (subst (λ (g : Grid). IfOk r (IsTrueAnswer rule s.depth s.budget g d u)) (new.root_is ∙ board) told.true_answer))
 
-  pub told-leaves : Leaves (min budget (threat_tree rule depth b)) t u c d r
+  pub told-leaves : Leaves (min budget (threat_tree rule depth b)) (min budget (threat_wins rule depth b)) t u c d r
   told-leaves =
-      subst (λ (n : ℕ). Leaves (min budget (threat_tree rule n b)) t u c d r) new.depth_is
-      (subst (λ (k : ℕ). Leaves (min k (threat_tree rule s.depth b)) t u c d r) new.budget_is
-      (subst (λ (g : Grid). Leaves (min s.budget (threat_tree rule s.depth g)) t u c d r) (new.root_is ∙ board) told.leaves))
+      subst (λ (n : ℕ). Leaves (min budget (threat_tree rule n b)) (min budget (threat_wins rule n b)) t u c d r) new.depth_is
+      (subst (λ (k : ℕ). Leaves (min k (threat_tree rule s.depth b)) (min k (threat_wins rule s.depth b)) t u c d r) new.budget_is
+      (subst (λ (g : Grid). Leaves (min s.budget (threat_tree rule s.depth g)) (min s.budget (threat_wins rule s.depth g)) t u c d r)
+      (new.root_is ∙ board) told.leaves))
 
   pub tells-win : IfOk r (λ x. OnWin x (IsThreatWin rule depth b d))
   tells-win = by_answer r told-true where
@@ -275,6 +315,15 @@ module _ {rule : RuleKind} {depth budget before : ℕ} {a b : Grid} {s : Search}
     by_answer (Ok NoWin) h = λ is. h.1
     by_answer (Ok Spent) h = λ is. cc
 
+  pub tells-disproved : IfOk r (λ x. x ≡ NoWin → HasDisproved rule depth budget b u)
+  tells-disproved = by_answer r told-true where
+    by_answer : (q : Result ProofAnswer SearchError) → IfOk q (IsTrueAnswer rule depth budget b d u)
+        → IfOk q (λ x. x ≡ NoWin → HasDisproved rule depth budget b u)
+    by_answer (Err e) h = tt
+    by_answer (Ok (Win w)) h = λ is. cc
+    by_answer (Ok NoWin) h = λ is. h.2
+    by_answer (Ok Spent) h = λ is. cc
+
   pub tells-spent : IfOk r (λ x. x ≡ Spent → budget < threat_tree rule depth b)
   tells-spent = by_answer r told-true where
     by_answer : (q : Result ProofAnswer SearchError) → IfOk q (IsTrueAnswer rule depth budget b d u)
@@ -298,13 +347,3 @@ module _ {rule : RuleKind} {depth budget before : ℕ} {a b : Grid} {s : Search}
       subst (λ (n : ℕ). OnOk r (IsSearchTree rule n budget b u)) new.depth_is
       (subst (λ (k : ℕ). OnOk r (IsSearchTree rule s.depth k b u)) new.budget_is
       (subst (λ (g : Grid). OnOk r (IsSearchTree rule s.depth s.budget g u)) (new.root_is ∙ board) told.searched))
-
-  pub told-room : r ≡ Err Full → (MAX_NODES ≤ length c) ⊎ HasNoRoom rule depth budget b u before
-  told-room full = elim (told.no_room full) [
-    | inl many ↦ inl many
-    | inr none ↦ inr (
-        subst (λ (k : ℕ). HasNoRoom rule depth budget b u k) new.before_is
-        (subst (λ (n : ℕ). HasNoRoom rule n budget b u s.before) new.depth_is
-        (subst (λ (k : ℕ). HasNoRoom rule s.depth k b u s.before) new.budget_is
-        (subst (λ (g : Grid). HasNoRoom rule s.depth s.budget g u s.before) (new.root_is ∙ board) none))))
-  ]

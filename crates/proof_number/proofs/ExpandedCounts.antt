@@ -1,7 +1,7 @@
 -- What is noted, written and counted where a leaf is given children: all holds again but on the way up from it; and bounds of a step that
 -- gives the leaf children of which nothing is known, or that are proved.
 use Rattle.std.proofs.Common.{◌≡◌, ◌≢◌, ◌⊎◌, inl, inr, ℕ, ◌+◌, ◌<◌, ◌≤◌, true, false, cond, not, ◌&&◌}
-use Rattle.std.proofs.Common.{refl, sym, ap, subst, ◌∙◌, arith, List, ◌++◌, length, nat_eq, map, zero, suc, All}
+use Rattle.std.proofs.Common.{refl, sym, ap, subst, ◌∙◌, arith, List, ◌++◌, length, nat_eq, map, zero, suc, All, ◌*◌}
 use Rattle.std.proofs.lemmas.Bool.{cases_eq, cases_lt, eq-eqb}
 use Rattle.std.proofs.lemmas.List.{get_or-append-add, get_or_append_left, length-append, get_or-map, length-map, map-append}
 use Rattle.game_rules.specs.declared.Outcome.TheVariants.{GoesOn}
@@ -20,7 +20,7 @@ use Rattle.proof_tree.proofs.SumLaws.{leaf_sum-grown, one-leaf, IsFresh, fresh-s
 use Rattle.strategy_graph.specs.declared.Node.{Node}
 use Rattle.strategy_graph.proofs.Filling.{IsTable-lower}
 use Rattle.strategy_compiler.proofs.Common.{IsCompiled}
-use Rattle.threat_game.proofs.Common.{move_at, nowhere, threat_tree}
+use Rattle.threat_game.proofs.Common.{move_at, nowhere, threat_tree, one_if}
 use Rattle.threat_game.proofs.TreeLaws.{one_where}
 use Rattle.proof_number.specs.declared.notes.Note.{Note}
 use Rattle.proof_number.specs.declared.search.Search.{Search}
@@ -28,13 +28,15 @@ use Rattle.proof_number.proofs.Opening.{leaf-facts}
 use Rattle.proof_number.proofs.Common.{GameTree, HasTried, IsGameTree, among, board_at, left_at, moves_of, behind_at, sum_below, no_note}
 use Rattle.proof_number.proofs.Common.{note_at, win_of, noted_tree, IsTrueMemo, AreWritten, HasGrown, IsAtLeaf, IsCounted, IsExpandedAt}
 use Rattle.proof_number.proofs.Common.{IsMet, IsNotedWin, IsSearching, attacks_behind, defences_behind, game_of, is_attack, unwritten}
-use Rattle.proof_number.proofs.Common.{StandsAt}
+use Rattle.proof_number.proofs.Common.{StandsAt, attack_nodes, behind_leaves, threat_wins, unproved, wins_behind, won_at}
 use Rattle.proof_number.proofs.Remembering.{memo-kept}
-use Rattle.proof_number.proofs.Settling.{written-grown}
-use Rattle.proof_number.proofs.Sums.{sum-le, sum-more, sum-suc, sum-zero}
+use Rattle.proof_number.proofs.Settling.{written-grown, unproved-less}
+use Rattle.proof_number.proofs.Sums.{sum-le, sum-more, sum-suc, sum-zero, sum-same}
 use Rattle.proof_number.proofs.Expanding.{IsExpansion, IsNewChild, behind-grown, child-behind, child-counts, closed-grown, disproved-grown}
 use Rattle.proof_number.proofs.Expanding.{game-grown, grown-moves, new-board, new-kind, new-left, old-board, old-kind, old-left}
-use Rattle.proof_number.proofs.Expanding.{old-moves_of, old-numbers, split}
+use Rattle.proof_number.proofs.Expanding.{old-moves_of, old-numbers, split, old-parent}
+use Rattle.proof_number.proofs.Staying.{expanded-proved}
+use Rattle.game_rules.specs.Games.{wins_by_threats}
 
 -- what is noted of a new child of this kind: a win that is written, where it is proved, and none where it is open
 pub record IsNewNote (rule : RuleKind) (kind : Kind) (b : Grid) (c : List Node) (note : Note) (numbers : Numbers) : Type 0 where
@@ -45,6 +47,15 @@ pub record IsNewNote (rule : RuleKind) (kind : Kind) (b : Grid) (c : List Node) 
 -- 1 for a child of the attacker without a win
 abbrev pub unwritten_child : Kind → Note → ℕ
 unwritten_child kind note = one_where (is_attack (other_kind kind) && nat_eq note.moves 0)
+
+-- 1 for a child of the attacker without a win, if it is won, where it has this note and its parent this board
+abbrev pub unwritten_win : RuleKind → Kind → Grid → Note → ℕ
+unwritten_win rule kind b note =
+    cond (is_attack (other_kind kind) && nat_eq note.moves 0) (one_if (wins_by_threats rule note.left (after b note.at))) 0
+
+-- 1 for a child of the attacker that is not proved
+abbrev pub unproved_child : Kind → Numbers → ℕ
+unproved_child kind numbers = one_where (is_attack (other_kind kind) && not (nat_eq numbers.proof 0))
 
 -- what is counted behind a new child of a leaf of this kind, if it is open
 abbrev pub new_behind : (Kind → RuleKind → ℕ → Grid → ℕ) → RuleKind → Kind → Grid → Note → Numbers → ℕ
@@ -73,7 +84,6 @@ pub record Expansion (rule : RuleKind) (s v : Search) (t u : Tree) (c nodes : Li
   pub defended_more : s.defended ≤ v.defended
   pub attacked_fits : v.attacked ≤ s.budget
   pub defended_fits : v.defended ≤ s.budget
-  pub nodes_counted : s.attacked + s.defended + length more ≤ v.attacked + v.defended
   pub low : (kind : Kind) → finite_sum (map (sought kind) more) ≤ length more
   pub met : (link_at t.links leaf).kind ≡ Defend → (q : Point) → outcome rule (board_at (game_of rule s t) leaf) q ≡ GoesOn
       → among (map (λ n. n.at) ms) q ≡ false → (0 < (note_at ms 0).moves)
@@ -83,6 +93,10 @@ pub record Expansion (rule : RuleKind) (s v : Search) (t u : Tree) (c nodes : Li
       ≤ v.attacked
   pub attackers_counted : s.attacked + sum_below (length more) (λ j. cond (is_attack (other_kind (link_at t.links leaf).kind)) 1 0)
       ≤ v.attacked
+  pub few_counted : v.attacked + 2 * sum_below (length more) (λ j. unproved_child (link_at t.links leaf).kind (numbers_at more j))
+      ≤ s.attacked + 3 * sum_below (length more) (λ j. cond (is_attack (other_kind (link_at t.links leaf).kind)) 1 0)
+  pub defenders_counted : v.defended + sum_below (length more) (λ j. cond (is_attack (other_kind (link_at t.links leaf).kind)) 1 0)
+      ≡ s.defended + length more
   pub attacks_counted : v.attacked + sum_below (length more)
       (λ j. new_behind attacks_behind rule (link_at t.links leaf).kind (board_at (game_of rule s t) leaf) (note_at ms j)
       (numbers_at more j)) ≤ s.attacked + attacks_behind (link_at t.links leaf).kind rule (left_at (game_of rule s t).left leaf)
@@ -91,6 +105,10 @@ pub record Expansion (rule : RuleKind) (s v : Search) (t u : Tree) (c nodes : Li
       (λ j. new_behind defences_behind rule (link_at t.links leaf).kind (board_at (game_of rule s t) leaf) (note_at ms j)
       (numbers_at more j)) ≤ s.defended + defences_behind (link_at t.links leaf).kind rule (left_at (game_of rule s t).left leaf)
       (board_at (game_of rule s t) leaf)
+  pub wins_counted : length nodes + sum_below (length more)
+      (λ j. unwritten_win rule (link_at t.links leaf).kind (board_at (game_of rule s t) leaf) (note_at ms j)) + sum_below (length more)
+      (λ j. new_behind wins_behind rule (link_at t.links leaf).kind (board_at (game_of rule s t) leaf) (note_at ms j) (numbers_at more j))
+      ≤ wins_behind (link_at t.links leaf).kind rule (left_at (game_of rule s t).left leaf) (board_at (game_of rule s t) leaf)
 
 module _ {rule : RuleKind} {s v : Search} {t u : Tree} {c nodes : List Node} {leaf : ℕ} {view : Grid} {more : List Numbers} {ms : List Note}
     (x : Expansion rule s v t u c nodes leaf view more ms) where
@@ -111,13 +129,15 @@ module _ {rule : RuleKind} {s v : Search} {t u : Tree} {c nodes : List Node} {le
     defended_more,
     attacked_fits,
     defended_fits,
-    nodes_counted,
     low,
     met,
     short,
     attackers_counted,
+    few_counted,
+    defenders_counted,
     attacks_counted,
     defences_counted,
+    wins_counted,
   }
 
   pub long : IsGrown t.links leaf (length more) u.links
@@ -394,52 +414,86 @@ module _ {rule : RuleKind} {s v : Search} {t u : Tree} {c nodes : List Node} {le
 
   -- ---- counts
 
-  few-now : length (c ++ nodes) + sum_below (length u.links) (unwritten u v.notes.items) ≤ s.before + v.attacked
+  -- a sum over the nodes is one over the old and one over the new
+  split-sum : (f : ℕ → ℕ) → sum_below (length u.links) f ≡ sum_below (length t.links) f
+      + sum_below (length more) (λ j. f (length t.links + j))
+  split-sum f = ap (λ (n : ℕ). sum_below n f) long.sized ∙ sum-more (length t.links) (length more) f
+
+  sum-within : (f old new : ℕ → ℕ) → ((i : ℕ) → i < length t.links → f i ≤ old i)
+      → ((j : ℕ) → j < length more → f (length t.links + j) ≤ new j)
+      → sum_below (length u.links) f ≤ sum_below (length t.links) old + sum_below (length more) new
+  sum-within f old new low less =
+      omega (arith, split-sum f, sum-le (length t.links) f old low, sum-le (length more) (λ j. f (length t.links + j)) new less)
+
+  old-unwritten : (f : ℕ → ℕ) (i : ℕ) → i < length t.links → unwritten f u v.notes.items i ≡ unwritten f t s.notes.items i
+  old-unwritten f i l =
+      ap (λ (kind : Kind). cond (is_attack kind && nat_eq (note_at v.notes.items i).moves 0) (f i) 0) (old-kind expansion i l)
+      ∙ ap (λ (n : Note). cond (is_attack (link_at t.links i).kind && nat_eq n.moves 0) (f i) 0) (old-note i l)
+
+  new-unwritten : (f : ℕ → ℕ) (j : ℕ) → j < length more → unwritten f u v.notes.items (length t.links + j)
+      ≡ cond (is_attack (other_kind (link_at t.links leaf).kind) && nat_eq (note_at ms j).moves 0) (f (length t.links + j)) 0
+  new-unwritten f j l =
+      ap (λ (kind : Kind). cond (is_attack kind && nat_eq (note_at v.notes.items (length t.links + j)).moves 0) (f (length t.links + j)) 0)
+      (new-link-kind j l)
+      ∙ ap (λ (n : Note). cond (is_attack (other_kind (link_at t.links leaf).kind) && nat_eq n.moves 0) (f (length t.links + j)) 0)
+      (new-note j)
+
+  few-now : length (c ++ nodes) + sum_below (length u.links) (unwritten (λ i. 1) u v.notes.items) ≤ s.before + v.attacked
   few-now =
-      let parts : sum_below (length u.links) (unwritten u v.notes.items) ≡ sum_below (length t.links) (unwritten u v.notes.items)
-      + sum_below (length more) (λ j. unwritten u v.notes.items (length t.links + j)) =
-      ap (λ (n : ℕ). sum_below n (unwritten u v.notes.items)) long.sized
-      ∙ sum-more (length t.links) (length more) (unwritten u v.notes.items) in
-      let old = sum-le (length t.links) (unwritten u v.notes.items) (unwritten t s.notes.items)
-      (λ i l. let a = old-unwritten i l in omega (arith, a)) in
-      let fresh = sum-le (length more) (λ j. unwritten u v.notes.items (length t.links + j))
-      (λ j. unwritten_child (link_at t.links leaf).kind (note_at ms j)) (λ j l. let a = new-unwritten j l in omega (arith, a)) in
-      omega (arith, parts, old, fresh, length-append c nodes, h.searching.few, short) where
-        old-unwritten : (i : ℕ) → i < length t.links → unwritten u v.notes.items i ≡ unwritten t s.notes.items i
-        old-unwritten i l =
-            ap (λ (kind : Kind). one_where (is_attack kind && nat_eq (note_at v.notes.items i).moves 0))
-            (old-kind expansion i l)
-            ∙ ap (λ (n : Note). one_where (is_attack (link_at t.links i).kind && nat_eq n.moves 0)) (old-note i l)
+      let within = sum-within (unwritten (λ i. 1) u v.notes.items) (unwritten (λ i. 1) t s.notes.items)
+      (λ j. unwritten_child (link_at t.links leaf).kind (note_at ms j)) (λ i l. let a = old-unwritten (λ k. 1) i l in omega (arith, a))
+      (λ j l. let a = new-unwritten (λ k. 1) j l in omega (arith, a)) in
+      omega (arith, within, length-append c nodes, h.searching.few, short)
 
-        new-unwritten : (j : ℕ) → j < length more → unwritten u v.notes.items (length t.links + j) ≡ unwritten_child
-            (link_at t.links leaf).kind (note_at ms j)
-        new-unwritten j l =
-            ap (λ (kind : Kind). one_where (is_attack kind && nat_eq (note_at v.notes.items (length t.links + j)).moves 0))
-            (new-link-kind j l)
-            ∙ ap (λ (n : Note). one_where (is_attack (other_kind (link_at t.links leaf).kind) && nat_eq n.moves 0)) (new-note j)
+  -- the same positions are won
+  old-won : (i : ℕ) → i < length t.links → won_at Now i ≡ won_at (game_of rule s t) i
+  old-won i l =
+      ap (λ (n : ℕ). one_if (wins_by_threats rule n (board_at Now i))) (old-left expansion i l)
+      ∙ ap (λ (b : Grid). one_if (wins_by_threats rule (left_at (game_of rule s t).left i) b)) (old-board expansion i l)
 
-  attackers-now : sum_below (length u.links) (λ i. cond (is_attack (link_at u.links i).kind) 1 0) ≤ v.attacked
-  attackers-now =
-      let parts : sum_below (length u.links) (λ i. cond (is_attack (link_at u.links i).kind) 1 0) ≡ sum_below (length t.links)
-      (λ i. cond (is_attack (link_at u.links i).kind) 1 0) + sum_below (length more)
-      (λ j. cond (is_attack (link_at u.links (length t.links + j)).kind) 1 0) =
-      ap (λ (n : ℕ). sum_below n (λ i. cond (is_attack (link_at u.links i).kind) 1 0)) long.sized
-      ∙ sum-more (length t.links) (length more) (λ i. cond (is_attack (link_at u.links i).kind) 1 0) in
-      let old = sum-le (length t.links) (λ i. cond (is_attack (link_at u.links i).kind) 1 0)
-      (λ i. cond (is_attack (link_at t.links i).kind) 1 0) (λ i l. let a = old-attack i l in omega (arith, a)) in
-      let fresh = sum-le (length more) (λ j. cond (is_attack (link_at u.links (length t.links + j)).kind) 1 0)
-      (λ j. cond (is_attack (other_kind (link_at t.links leaf).kind)) 1 0) (λ j l. let a = new-attack j l in omega (arith, a)) in
-      let before = h.searching.counted.attackers in
-      omega (arith, parts, old, fresh, before, attackers_counted) where
-        old-attack : (i : ℕ) → i < length t.links → ◌≡◌ {A = ℕ} (cond (is_attack (link_at u.links i).kind) 1 0)
-            (cond (is_attack (link_at t.links i).kind) 1 0)
-        old-attack i l =
-            ap (λ (kind : Kind). cond (is_attack kind) 1 0)
-            (old-kind expansion i l)
+  new-won : (j : ℕ) → j < length more → won_at Now (length t.links + j)
+      ≡ one_if (wins_by_threats rule (note_at ms j).left (after (board_at (game_of rule s t) leaf) (note_at ms j).at))
+  new-won j l =
+      ap (λ (n : ℕ). one_if (wins_by_threats rule n (board_at Now (length t.links + j)))) (new-left expansion j ∙ at-left j l)
+      ∙ ap (λ (b : Grid). one_if (wins_by_threats rule (note_at ms j).left b))
+      (new-board expansion j l ∙ ap (after (board_at (game_of rule s t) leaf)) (at-move j l))
 
-        new-attack : (j : ℕ) → j < length more → ◌≡◌ {A = ℕ} (cond (is_attack (link_at u.links (length t.links + j)).kind) 1 0)
-            (cond (is_attack (other_kind (link_at t.links leaf).kind)) 1 0)
-        new-attack j l = ap (λ (kind : Kind). cond (is_attack kind) 1 0) (new-link-kind j l)
+  unwritten-wins : sum_below (length u.links) (unwritten (won_at Now) u v.notes.items)
+      ≤ sum_below (length t.links) (unwritten (won_at (game_of rule s t)) t s.notes.items) + sum_below (length more)
+      (λ j. unwritten_win rule (link_at t.links leaf).kind (board_at (game_of rule s t) leaf) (note_at ms j))
+  unwritten-wins = sum-within (unwritten (won_at Now) u v.notes.items) (unwritten (won_at (game_of rule s t)) t s.notes.items)
+      (λ j. unwritten_win rule (link_at t.links leaf).kind (board_at (game_of rule s t) leaf) (note_at ms j))
+      (λ i l.
+      let a = old-unwritten (won_at Now) i l in
+      let b = ap (λ (n : ℕ). cond (is_attack (link_at t.links i).kind && nat_eq (note_at s.notes.items i).moves 0) n 0) (old-won i l) in
+      omega (arith, a, b))
+      (λ j l.
+      let a = new-unwritten (won_at Now) j l in
+      let b = ap (λ (n : ℕ). cond (is_attack (other_kind (link_at t.links leaf).kind) && nat_eq (note_at ms j).moves 0) n 0)
+      (new-won j l) in
+      omega (arith, a, b))
+
+  attackers-are : attack_nodes u.links ≡ attack_nodes t.links
+      + sum_below (length more) (λ j. cond (is_attack (other_kind (link_at t.links leaf).kind)) 1 0)
+  attackers-are =
+      let old = sum-same (length t.links) (λ i. cond (is_attack (link_at u.links i).kind) 1 0)
+      (λ i. cond (is_attack (link_at t.links i).kind) 1 0)
+      (λ i l. ap (λ (kind : Kind). cond (is_attack kind) 1 0) (old-kind expansion i l)) in
+      let fresh = sum-same (length more) (λ j. cond (is_attack (link_at u.links (length t.links + j)).kind) 1 0)
+      (λ j. cond (is_attack (other_kind (link_at t.links leaf).kind)) 1 0)
+      (λ j l. ap (λ (kind : Kind). cond (is_attack kind) 1 0) (new-link-kind j l)) in
+      omega (arith, split-sum (λ i. cond (is_attack (link_at u.links i).kind) 1 0), old, fresh)
+
+  unproved-now : sum_below (length u.links) (unproved u) ≤ sum_below (length t.links) (unproved t)
+      + sum_below (length more) (λ j. unproved_child (link_at t.links leaf).kind (numbers_at more j))
+  unproved-now = sum-within (unproved u) (unproved t) (λ j. unproved_child (link_at t.links leaf).kind (numbers_at more j))
+      (λ i l. unproved-less t u i (old-kind expansion i l)
+      (expanded-proved t h.searching.tree h.root_open leaf h.leaf_is u.links u.numbers more (old-parent expansion) h.in_tree e.others i l))
+      (λ j l.
+      let a = ap (λ (kind : Kind). one_where (is_attack kind && not (nat_eq (numbers_at u.numbers (length t.links + j)).proof 0)))
+      (new-link-kind j l) in
+      let b = ap (λ (n : Numbers). unproved_child (link_at t.links leaf).kind n) (e.children j l) in
+      omega (arith, a, b))
 
   sums-now : (kind : Kind) → 1 < length u.links → leaf_sum kind u.links u.numbers ≤ length u.links
   sums-now kind many_nodes =
@@ -511,8 +565,9 @@ module _ {rule : RuleKind} {s v : Search} {t u : Tree} {c nodes : List Node} {le
         let b = behind-grown expansion defences_behind in
         let same = ap (λ (n : ℕ). threat_tree rule n s.root) root-left in
         omega (arith, a, b, leaf-counts defences_behind, children-count defences_behind, defences_counted, same);
-    nodes = let a = h.searching.counted.nodes in let b = long.sized in omega (arith, a, b, nodes_counted);
-    attackers = attackers-now;
+    attackers = let a = h.searching.counted.attackers in omega (arith, a, attackers-are, attackers_counted);
+    few_attacks = let a = h.searching.counted.few_attacks in omega (arith, a, attackers-are, unproved-now, few_counted);
+    defenders = let a = h.searching.counted.defenders in let b = long.sized in omega (arith, a, b, attackers-are, defenders_counted);
     attacked_fits = attacked_fits;
     defended_fits = defended_fits;
     leaves = sums-now;
@@ -537,6 +592,18 @@ module _ {rule : RuleKind} {s v : Search} {t u : Tree} {c nodes : List Node} {le
         counted = subst (λ (w : GameTree). IsCounted w s.budget v.attacked v.defended) (sym to) counted-now;
         compiled = compiled;
         few = few-now;
+        wins = subst (λ (w : GameTree). length (c ++ nodes) + sum_below (length u.links) (unwritten (won_at w) u v.notes.items)
+            + behind_leaves wins_behind w ≤ s.before + threat_wins rule s.depth s.root) (sym to)
+            (omega (
+              arith,
+              h.searching.wins,
+              length-append c nodes,
+              unwritten-wins,
+              behind-grown expansion wins_behind,
+              leaf-counts wins_behind,
+              children-count wins_behind,
+              wins_counted,
+            ));
       }
 
   pub expanded-grown : HasGrown rule s v t u (c ++ nodes) leaf
@@ -581,8 +648,9 @@ module _ {rule : RuleKind} {s : Search} {t : Tree} {c : List Node} {leaf : ℕ} 
   -- the tree has no more nodes than the budget of both sides
   pub nodes-few : length t.links ≤ 20000000
   nodes-few =
-      let a = here.searching.counted.nodes in
-      omega (arith, a, here.searching.counted.attacked_fits, here.searching.counted.defended_fits, here.searching.budget_fits)
+      let a = here.searching.counted.defenders in
+      let b = here.searching.counted.attackers in
+      omega (arith, a, b, here.searching.counted.attacked_fits, here.searching.counted.defended_fits, here.searching.budget_fits)
 
   pub budget-few : s.budget ≤ 10000000
   budget-few = here.searching.budget_fits

@@ -274,6 +274,11 @@ module _ {g : GameTree} {leaf : ℕ} {links : List Link} {numbers more : List Nu
       | inr child ↦ absurd ((each child.0 child.1).not_lost
           (sym (children child.0 child.1) ∙ ap (λ (m : ℕ). numbers_at numbers m) (sym child.2) ∙ gone))
     ];
+    root = λ none gone. elim (cases_eq 0 leaf) [
+      | inl same ↦ absurd (has-children 0 same none)
+      | inr other ↦ absurd (
+          let bad : false ≡ true = sym root_open ∙ ap is_settled (sym (old-numbers 0 ok.linked.some none other) ∙ gone) in cc)
+    ];
   } where
     lost-same : (k k2 : Kind) (n n2 : ℕ) (c c2 : Grid) → k ≡ k2 → n ≡ n2 → c ≡ c2 → IsLostAt k2 Grown n2 c2 → IsLostAt k Grown n c
     lost-same k k2 n n2 c c2 ek en ec h =

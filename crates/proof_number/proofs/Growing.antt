@@ -1,7 +1,7 @@
 -- A step that settles the leaf: all holds again but on the way up from it.
-use Rattle.std.proofs.Common.{◌≡◌, ◌≢◌, inl, inr, ℕ, ◌+◌, ◌<◌, ◌≤◌, Bool, true, false, ◌&&◌, refl, sym, ap}
-use Rattle.std.proofs.Common.{subst, ◌∙◌, arith, List, [], ◌++◌, length, nat_eq}
-use Rattle.std.proofs.lemmas.Bool.{cases_eq, eq-eqb, ne_eqb}
+use Rattle.std.proofs.Common.{◌≡◌, ◌≢◌, inl, inr, ℕ, ◌+◌, ◌<◌, ◌≤◌, Bool, true, false, refl, sym, ap}
+use Rattle.std.proofs.Common.{subst, ◌∙◌, arith, List, [], ◌++◌, length, ◌-◌, ◌*◌}
+use Rattle.std.proofs.lemmas.Bool.{cases_eq}
 use Rattle.std.proofs.lemmas.List.{get_or-set_same, append-nil, get_or-set_other, length-append, length-map}
 use Rattle.game_rules.proofs.Common.{Grid, WinsByThreats}
 use Rattle.game_rules.specs.declared.RuleKind.{RuleKind}
@@ -19,11 +19,12 @@ use Rattle.proof_number.specs.declared.notes.Note.{Note}
 use Rattle.proof_number.specs.declared.search.Search.{Search}
 use Rattle.proof_number.proofs.Common.{no_note, note_at, win_of, GameTree, IsGameTree, TellsTruly, WinsAt, board_at, left_at, noted_tree}
 use Rattle.proof_number.proofs.Common.{IsLostAt, IsTrueMemo, AreWritten, HasGrown, IsAtLeaf, IsCounted, IsNotedWin, IsSearching}
-use Rattle.proof_number.proofs.Common.{IsSettledAt, attacks_behind, closed_nodes, game_of, is_attack, noted_won, sum_below, unwritten}
+use Rattle.proof_number.proofs.Common.{IsSettledAt, attacks_behind, closed_nodes, game_of, noted_won, sum_below, unwritten}
+use Rattle.proof_number.proofs.Common.{behind_leaves, IsBare, threat_wins, wins_behind, won_at}
 use Rattle.proof_number.proofs.Compiling.{won-places}
 use Rattle.proof_number.proofs.Remembering.{memo-kept}
 use Rattle.proof_number.proofs.Settling.{closed-settled, counted-settled, disproved-settled, game-settled, written-grown, written-settled}
-use Rattle.proof_number.proofs.Sums.{sum-less}
+use Rattle.proof_number.proofs.Settling.{behind-settled, unproved-settled, unwritten-less}
 
 -- the search s at its leaf, and v after the leaf is settled in the tree u; c grows by more nodes
 module _ {rule : RuleKind} {s : Search} {t : Tree} {c : List Node} {leaf : ℕ} {view : Grid} (h : IsAtLeaf rule s t c leaf view) {u : Tree}
@@ -35,7 +36,8 @@ module _ {rule : RuleKind} {s : Search} {t : Tree} {c : List Node} {leaf : ℕ} 
     (WinsAt (link_at t.links leaf).kind rule (left_at (game_of rule s t).left leaf) (board_at (game_of rule s t) leaf)))
     (why : p ≡ false → IsLostAt (link_at t.links leaf).kind (game_of rule s t) (left_at (game_of rule s t).left leaf)
     (board_at (game_of rule s t) leaf))
-    (grows : s.attacked ≤ v.attacked) (fits : v.attacked ≤ s.budget)
+    (bare : p ≡ false → leaf ≡ 0 → IsBare rule (left_at (game_of rule s t).left 0) s.root)
+    (grows : s.attacked ≤ v.attacked) (fits : v.attacked ≤ s.budget) (two : v.attacked ≤ s.attacked + 2 * one_where p)
     (behind : v.attacked ≤ s.attacked + attacks_behind (link_at t.links leaf).kind rule (left_at (game_of rule s t).left leaf)
     (board_at (game_of rule s t) leaf))
     (places : (w : Tree) → noted_tree rule s.root w v.notes.items ≡ game_of rule s w)
@@ -44,7 +46,10 @@ module _ {rule : RuleKind} {s : Search} {t : Tree} {c : List Node} {leaf : ℕ} 
     (own : 0 < (note_at v.notes.items leaf).moves → IsNotedWin rule (left_at (game_of rule s t).left leaf)
     (board_at (game_of rule s t) leaf) (c ++ more) (win_of (note_at v.notes.items leaf)))
     (has : p ≡ true → ((link_at t.links leaf).kind ≡ Attack) × (0 < (note_at v.notes.items leaf).moves))
-    (few : length (c ++ more) + sum_below (length t.links) (unwritten t v.notes.items) ≤ s.before + v.attacked) where
+    (few : length (c ++ more) + sum_below (length t.links) (unwritten (λ i. 1) t v.notes.items) ≤ s.before + v.attacked)
+    (wins : length (c ++ more) + sum_below (length t.links) (unwritten (won_at (game_of rule s t)) t v.notes.items)
+    + behind_leaves wins_behind (game_of rule s t) ≤ s.before + threat_wins rule s.depth s.root
+    + wins_behind (link_at t.links leaf).kind rule (left_at (game_of rule s t).left leaf) (board_at (game_of rule s t) leaf)) where
   now : Tree
   now = record { links = t.links; numbers = u.numbers }
 
@@ -62,7 +67,7 @@ module _ {rule : RuleKind} {s : Search} {t : Tree} {c : List Node} {leaf : ℕ} 
         tree = subst IsTree same-tree st.tree;
         game = subst IsGameTree (sym to)
             (game-settled g k.tree u.numbers leaf p h.in_tree h.childless h.leaf_open st.settled st.others h.root_open h.leaf_is k.game
-            truth why);
+            truth why bare);
         depth = depth ∙ k.depth;
         depth_fits = k.depth_fits;
         budget_fits = k.budget_fits;
@@ -77,9 +82,15 @@ module _ {rule : RuleKind} {s : Search} {t : Tree} {c : List Node} {leaf : ℕ} 
         counted = subst (λ (w : GameTree). IsCounted w s.budget v.attacked s.defended) (sym to)
             (counted-settled g k.tree u.numbers leaf p h.in_tree h.childless h.leaf_open st.settled st.others s.budget s.attacked s.defended
             v.attacked k.counted grows fits behind
+            (let less = unproved-settled g k.tree u.numbers leaf p h.in_tree h.childless h.leaf_open st.settled st.others h.root_open
+            h.leaf_is (λ e. (has e).0) in omega (arith, less, two))
             (λ kind. subst (λ (l : List Link). leaf_sum kind l u.numbers ≤ leaf_sum kind t.links t.numbers) st.links (st.leaves kind)));
         compiled = compiled;
         few = few;
+        wins = subst (λ (w : GameTree). length (c ++ more) + sum_below (length t.links) (unwritten (won_at w) t v.notes.items)
+            + behind_leaves wins_behind w ≤ s.before + threat_wins rule s.depth s.root) (sym to)
+            (let less = behind-settled g k.tree u.numbers leaf p h.in_tree h.childless h.leaf_open st.settled st.others wins_behind in
+            omega (arith, less, wins));
       }
 
   pub settled-grown : HasGrown rule s v t u (c ++ more) leaf
@@ -131,9 +142,11 @@ module _ {rule : RuleKind} {s : Search} {t : Tree} {c : List Node} {leaf : ℕ} 
     (written : IsWrittenWin rule (left_at (game_of rule s t).left leaf) (board_at (game_of rule s t) leaf) (c ++ more) win)
     (wins : WinsByThreats rule (left_at (game_of rule s t).left leaf) (board_at (game_of rule s t) leaf))
     (grows : s.attacked ≤ v.attacked) (fits : v.attacked ≤ s.budget)
+    (two : v.attacked ≤ s.attacked + 2)
     (behind : v.attacked ≤ s.attacked + attacks_behind Attack rule (left_at (game_of rule s t).left leaf)
     (board_at (game_of rule s t) leaf))
-    (short : s.attacked + length more ≤ v.attacked + 1) where
+    (short : s.attacked + length more ≤ v.attacked + 1)
+    (won : length more ≤ threat_wins rule (left_at (game_of rule s t).left leaf) (board_at (game_of rule s t) leaf)) where
   long : length s.notes.items ≡ length t.links
   long = sym (length-map s.notes.items (λ (n : Note). n.at)) ∙ h.searching.game.moves
 
@@ -156,40 +169,36 @@ module _ {rule : RuleKind} {s : Search} {t : Tree} {c : List Node} {leaf : ℕ} 
   now-some : 0 < (note_at v.notes.items leaf).moves
   now-some = subst (λ (n : Note). 0 < n.moves) (sym here) some
 
-  now-few : length (c ++ more) + sum_below (length t.links) (unwritten t v.notes.items) ≤ s.before + v.attacked
-  now-few =
-      let less = sum-less (length t.links) (unwritten t v.notes.items) (unwritten t s.notes.items) leaf 1 h.in_tree
-      (λ j low other. let e = ap (λ (n : Note). one_where (is_attack (link_at t.links j).kind && nat_eq n.moves 0)) (other-note j other) in
-      omega (arith, e))
-      (let a = now-none in let b = was-one in omega (arith, a, b)) in
-      omega (arith, less, length-append c more, short, h.searching.few) where
-        now-none : unwritten t v.notes.items leaf ≡ 0
-        now-none =
-            ap (λ r. one_where (is_attack (link_at t.links leaf).kind && r))
-            (ne_eqb (note_at v.notes.items leaf).moves 0 (λ e. let positive = now-some in omega (arith, e, positive)))
-            ∙ no-one (is_attack (link_at t.links leaf).kind) where
-              no-one : (r : Bool) → one_where (r && false) ≡ 0
-              no-one true = refl
-              no-one false = refl
+  less : (f : ℕ → ℕ) → sum_below (length t.links) (unwritten f t v.notes.items) + f leaf
+      ≤ sum_below (length t.links) (unwritten f t s.notes.items)
+  less f = unwritten-less f t s.notes.items v.notes.items leaf h.in_tree attack
+      (h.searching.written.fresh leaf h.in_tree h.childless h.leaf_open) now-some other-note
 
-        was-one : unwritten t s.notes.items leaf ≡ 1
-        was-one =
-            ap (λ (k : Kind). one_where (is_attack k && nat_eq (note_at s.notes.items leaf).moves 0)) attack
-            ∙ ap (λ r. one_where r) (eq-eqb (note_at s.notes.items leaf).moves 0
-            (h.searching.written.fresh leaf h.in_tree h.childless h.leaf_open))
+  now-few : length (c ++ more) + sum_below (length t.links) (unwritten (λ i. 1) t v.notes.items) ≤ s.before + v.attacked
+  now-few = omega (arith, less (λ i. 1), length-append c more, short, h.searching.few)
+
+  now-wins : length (c ++ more) + sum_below (length t.links) (unwritten (won_at (game_of rule s t)) t v.notes.items)
+      + behind_leaves wins_behind (game_of rule s t) ≤ s.before + threat_wins rule s.depth s.root
+      + wins_behind (link_at t.links leaf).kind rule (left_at (game_of rule s t).left leaf) (board_at (game_of rule s t) leaf)
+  now-wins =
+      let g : GameTree = game_of rule s t in
+      let there : wins_behind (link_at t.links leaf).kind rule (left_at g.left leaf) (board_at g leaf)
+      ≡ threat_wins rule (left_at g.left leaf) (board_at g leaf) - won_at g leaf =
+      ap (λ (k : Kind). wins_behind k rule (left_at g.left leaf) (board_at g leaf)) attack in
+      omega (arith, less (won_at g), length-append c more, won, there, h.searching.wins)
 
   pub won-grown : HasGrown rule s v t u (c ++ more) leaf
   won-grown =
       settled-grown h st v more rest same_board compiled table
       (tells-won (WinsAt (link_at t.links leaf).kind rule (left_at (game_of rule s t).left leaf) (board_at (game_of rule s t) leaf))
       (subst (λ (k : Kind). WinsAt k rule (left_at (game_of rule s t).left leaf) (board_at (game_of rule s t) leaf)) (sym attack) wins))
-      (λ e. absurd (let bad : true ≡ false = e in cc))
-      grows fits (subst (λ (k : Kind). v.attacked ≤ s.attacked + attacks_behind k rule (left_at (game_of rule s t).left leaf)
+      (λ e. absurd (let bad : true ≡ false = e in cc)) (λ e. absurd (let bad : true ≡ false = e in cc))
+      grows fits two (subst (λ (k : Kind). v.attacked ≤ s.attacked + attacks_behind k rule (left_at (game_of rule s t).left leaf)
       (board_at (game_of rule s t) leaf)) (sym attack) behind)
       (λ w. won-places rule s w v.notes.items leaf win items) (same-left 0) other-note
       (λ positive. subst (λ (n : Note). IsNotedWin rule (left_at (game_of rule s t).left leaf) (board_at (game_of rule s t) leaf)
       (c ++ more) (win_of n)) (sym here) (written, wins))
-      (λ e. (attack, now-some)) now-few
+      (λ e. (attack, now-some)) now-few now-wins
 
 -- a leaf is settled as lost
 module _ {rule : RuleKind} {s : Search} {t : Tree} {c : List Node} {leaf : ℕ} {view : Grid} (h : IsAtLeaf rule s t c leaf view) {u : Tree}
@@ -198,7 +207,7 @@ module _ {rule : RuleKind} {s : Search} {t : Tree} {c : List Node} {leaf : ℕ} 
     (table : IsTrueMemo rule c (game_of rule s t) v.settled)
     (lost : WinsAt (link_at t.links leaf).kind rule (left_at (game_of rule s t).left leaf) (board_at (game_of rule s t) leaf) → ⊥)
     (why : IsLostAt (link_at t.links leaf).kind (game_of rule s t) (left_at (game_of rule s t).left leaf)
-    (board_at (game_of rule s t) leaf)) where
+    (board_at (game_of rule s t) leaf)) (bare : leaf ≡ 0 → IsBare rule (left_at (game_of rule s t).left 0) s.root) where
   pub lost-grown : HasGrown rule s v t u c leaf
   lost-grown =
       let k = h.searching in
@@ -210,9 +219,10 @@ module _ {rule : RuleKind} {s : Search} {t : Tree} {c : List Node} {leaf : ℕ} 
       (subst IsCompiled (sym nil) k.compiled) (subst (λ (d : List Node). IsTrueMemo rule d (game_of rule s t) v.settled) (sym nil)
       table)
       (tells-lost (WinsAt (link_at t.links leaf).kind rule (left_at (game_of rule s t).left leaf) (board_at (game_of rule s t) leaf)) lost)
-      (λ e. why) (omega arith) k.counted.attacked_fits (omega arith) (λ x. refl) refl (λ i other. refl)
+      (λ e. why) (λ e. bare) (omega arith) k.counted.attacked_fits (omega arith) (omega arith) (λ x. refl) refl (λ i other. refl)
       (λ positive. subst (λ (d : List Node). IsNotedWin rule (left_at (game_of rule s t).left leaf) (board_at (game_of rule s t) leaf) d
       (win_of (note_at s.notes.items leaf))) (sym nil) (k.written.true_wins leaf h.in_tree positive))
       (λ e. cc)
-      (subst (λ (d : List Node). length d + sum_below (length t.links) (unwritten t s.notes.items) ≤ s.before + s.attacked) (sym nil)
-      k.few)))
+      (subst (λ (d : List Node). length d + sum_below (length t.links) (unwritten (λ i. 1) t s.notes.items) ≤ s.before + s.attacked)
+      (sym nil) k.few)
+      (let same = ap length nil in let few = k.wins in omega (arith, same, few))))

@@ -21,6 +21,8 @@ mod Settling
 mod Growing
 mod Expanding
 mod ExpandedCounts
+-- how many positions are won
+pub mod WinLaws
 -- how far a search has come, and where it runs out
 mod RunningOut
 -- the steps of a search, in the words of its contracts, and those that win

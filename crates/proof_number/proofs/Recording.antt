@@ -94,6 +94,7 @@ way-changed rule s t c old new change h = record {
   counted = h.counted;
   compiled = h.compiled;
   few = h.few;
+  wins = h.wins;
 }
 
 -- where a node has a win, or is no proved node of the attacker, only those above it may lack one
@@ -160,6 +161,7 @@ remembered-searching rule s u t c way rest table h = subst (λ (w : Search). IsS
   counted = h.counted;
   compiled = h.compiled;
   few = h.few;
+  wins = h.wins;
 })
 
 pub remembered-keeps : (s u : Search) → u ≡ record s { settled = u.settled } → KeepsTree s u
@@ -340,6 +342,7 @@ board-searches rule s u t c way rest is = let h = searching-facts is in
       counted = h.counted;
       compiled = h.compiled;
       few = h.few;
+      wins = h.wins;
     }))
 
 -- ---- a node that is passed

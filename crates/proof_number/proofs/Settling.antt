@@ -1,12 +1,12 @@
 -- What becomes of a tree of the game, of what is written, and of the counts where a leaf is settled.
 use Rattle.std.proofs.Common.{◌≡◌, ◌≢◌, ◌⊎◌, inl, inr, ℕ, ◌+◌, ◌<◌, ◌≤◌, Bool, true, false, cond, not, ◌&&◌, refl, sym, ap, subst, ◌∙◌}
-use Rattle.std.proofs.Common.{arith, List, ◌++◌, length, nat_eq}
+use Rattle.std.proofs.Common.{arith, List, ◌++◌, length, nat_eq, ◌*◌}
 use Rattle.std.proofs.lemmas.Bool.{cases_eq, eq-eqb, ne_eqb}
 use Rattle.game_rules.specs.declared.RuleKind.{RuleKind}
 use Rattle.strategy_graph.specs.declared.Node.{Node}
 use Rattle.strategy_compiler.proofs.Growing.{growth_keeps-wins}
 use Rattle.proof_tree.proofs.Common.{is_settled, settled_numbers, IsOnWayUp, IsTree, OthersStay, leaf_sum, link_at, most_proving}
-use Rattle.proof_tree.proofs.Common.{numbers_at}
+use Rattle.proof_tree.proofs.Common.{numbers_at, Tree}
 use Rattle.proof_tree.specs.declared.Kind.{Kind}
 use Rattle.proof_tree.specs.declared.Kind.TheVariants.{Attack, Defend}
 use Rattle.proof_tree.specs.declared.Numbers.{Numbers}
@@ -15,17 +15,58 @@ use Rattle.proof_number.specs.declared.notes.Note.{Note}
 use Rattle.proof_number.proofs.Common.{note_at, win_of, GameTree, IsGameTree, TellsTruly, WinsAt, board_at, left_at, AreWritten, IsNotedWin}
 use Rattle.proof_number.proofs.Common.{IsDisproved, IsLostAt}
 use Rattle.proof_number.proofs.Common.{IsCounted, attacks_behind, behind_at, behind_leaves, closed_nodes, defences_behind, is_open_leaf}
+use Rattle.proof_number.proofs.Common.{is_attack, sum_below, unproved, unwritten, IsBare}
 use Rattle.proof_number.proofs.Remembering.{lost-kept}
-use Rattle.proof_number.proofs.Staying.{settled-stays}
+use Rattle.proof_number.proofs.Staying.{beside-proved, settled-stays}
 use Rattle.proof_number.proofs.Sums.{sum-less}
 use Rattle.game_rules.proofs.Common.{Grid, after}
 use Rattle.strategy_graph.proofs.Common.{NamesLower}
+use Rattle.threat_game.proofs.TreeLaws.{one_where}
 
 -- ---- the way up
 
 -- 0 for yes, and 1 for no
 abbrev pub one_unless : Bool → ℕ
 one_unless r = cond r 0 1
+
+-- where a node of the attacker gets its win, what is said of those without one is less by what is said of it
+pub unwritten-less : (f : ℕ → ℕ) (t : Tree) (notes more : List Note) (node : ℕ) → node < length t.links
+    → (link_at t.links node).kind ≡ Attack → (note_at notes node).moves ≡ 0 → 0 < (note_at more node).moves
+    → ((i : ℕ) → i ≢ node → note_at more i ≡ note_at notes i)
+    → sum_below (length t.links) (unwritten f t more) + f node ≤ sum_below (length t.links) (unwritten f t notes)
+unwritten-less f t notes more node inside attack none some same =
+    sum-less (length t.links) (unwritten f t more) (unwritten f t notes) node (f node) inside
+    (λ j low other. let e = ap (λ (n : Note). cond (is_attack (link_at t.links j).kind && nat_eq n.moves 0) (f j) 0) (same j other) in
+    omega (arith, e))
+    (let a = now in let b = was in omega (arith, a, b)) where
+      now : unwritten f t more node ≡ 0
+      now =
+          ap (λ (k : Kind). cond (is_attack k && nat_eq (note_at more node).moves 0) (f node) 0) attack
+          ∙ ap (λ r. cond r (f node) 0) (ne_eqb (note_at more node).moves 0 (λ e. omega (arith, e, some)))
+
+      was : unwritten f t notes node ≡ f node
+      was =
+          ap (λ (k : Kind). cond (is_attack k && nat_eq (note_at notes node).moves 0) (f node) 0) attack
+          ∙ ap (λ r. cond r (f node) 0) (eq-eqb (note_at notes node).moves 0 none)
+
+-- a node that is proved keeps its numbers: so no more are unproved
+pub unproved-less : (t u : Tree) (i : ℕ) → (link_at u.links i).kind ≡ (link_at t.links i).kind
+    → ((numbers_at t.numbers i).proof ≡ 0 → numbers_at u.numbers i ≡ numbers_at t.numbers i) → unproved u i ≤ unproved t i
+unproved-less t u i kind stays = by_proof (cases_eq (numbers_at t.numbers i).proof 0) where
+  less : (a r : Bool) → one_where (a && r) ≤ one_where (a && true)
+  less true true = omega arith
+  less true false = omega arith
+  less false r = omega arith
+
+  by_proof : ((numbers_at t.numbers i).proof ≡ 0) ⊎ ((numbers_at t.numbers i).proof ≡ 0 → ⊥) → unproved u i ≤ unproved t i
+  by_proof (inl none) =
+      let a = ap (λ (k : Kind). one_where (is_attack k && not (nat_eq (numbers_at u.numbers i).proof 0))) kind in
+      let b = ap (λ (n : Numbers). one_where (is_attack (link_at t.links i).kind && not (nat_eq n.proof 0))) (stays none) in
+      omega (arith, a, b)
+  by_proof (inr some) =
+      let a = ap (λ (k : Kind). one_where (is_attack k && not (nat_eq (numbers_at u.numbers i).proof 0))) kind in
+      let b = ap (λ r. one_where (is_attack (link_at t.links i).kind && not r)) (ne_eqb (numbers_at t.numbers i).proof 0 some) in
+      omega (arith, a, b, less (is_attack (link_at t.links i).kind) (not (nat_eq (numbers_at u.numbers i).proof 0)))
 
 -- ---- a leaf is settled
 
@@ -62,8 +103,9 @@ module _ (g : GameTree) (ok : IsTree g.tree) (numbers : List Numbers) (leaf : �
 
   pub game-settled : is_settled (numbers_at g.tree.numbers 0) ≡ false → leaf ≡ most_proving g.tree → IsGameTree g
       → TellsTruly (settled_numbers p) (WinsAt (link_at g.tree.links leaf).kind g.rule (left_at g.left leaf) (board_at g leaf))
-      → (p ≡ false → IsLostAt (link_at g.tree.links leaf).kind g (left_at g.left leaf) (board_at g leaf)) → IsGameTree After
-  game-settled root_open leaf_is game truth why = record {
+      → (p ≡ false → IsLostAt (link_at g.tree.links leaf).kind g (left_at g.left leaf) (board_at g leaf))
+      → (p ≡ false → leaf ≡ 0 → IsBare g.rule (left_at g.left 0) g.start) → IsGameTree After
+  game-settled root_open leaf_is game truth why bare = record {
     moves = game.moves;
     left = game.left;
     lawful = game.lawful;
@@ -94,7 +136,35 @@ module _ (g : GameTree) (ok : IsTree g.tree) (numbers : List Numbers) (leaf : �
           lost-kept g After refl (disproved-settled root_open leaf_is) (link_at g.tree.links i).kind (left_at g.left i) (board_at g i)
           (game.lost i low none (sym (other-leaf i none other) ∙ gone))
     ];
+    root = λ none gone. elim (cases_eq 0 leaf) [
+      | inl same ↦ bare (lost-test p (sym here ∙ ap (numbers_at numbers) (sym same) ∙ gone)) (sym same)
+      | inr other ↦ absurd (let bad : false ≡ true = sym root_open ∙ ap is_settled (sym (other-leaf 0 none other) ∙ gone) in cc)
+    ];
   }
+
+  -- where the leaf is proved one node fewer is unproved
+  pub unproved-settled : is_settled (numbers_at g.tree.numbers 0) ≡ false → leaf ≡ most_proving g.tree
+      → (p ≡ true → (link_at g.tree.links leaf).kind ≡ Attack)
+      → sum_below (length g.tree.links) (unproved After.tree) + one_where p ≤ sum_below (length g.tree.links) (unproved g.tree)
+  unproved-settled root_open leaf_is attack =
+      sum-less (length g.tree.links) (unproved After.tree) (unproved g.tree) leaf (one_where p) inside (λ j low other. stays j)
+      (at-leaf p refl)
+    where
+      stays : (j : ℕ) → unproved After.tree j ≤ unproved g.tree j
+      stays j = unproved-less g.tree After.tree j refl (λ none. others j (beside-proved g.tree ok root_open leaf leaf_is j none))
+
+      at-leaf : (r : Bool) → p ≡ r → unproved After.tree leaf + one_where p ≤ unproved g.tree leaf
+      at-leaf false e = let less = stays leaf in let zero_more = ap one_where e in omega (arith, less, zero_more)
+      at-leaf true e =
+          let one = ap one_where e in
+          let now : unproved After.tree leaf ≡ 0 =
+          ap (λ (k : Kind). one_where (is_attack k && not (nat_eq (numbers_at numbers leaf).proof 0))) (attack e)
+          ∙ ap (λ (n : Numbers). one_where (not (nat_eq n.proof 0))) (here ∙ ap settled_numbers e) in
+          let was : unproved g.tree leaf ≡ 1 =
+          ap (λ (k : Kind). one_where (is_attack k && not (nat_eq (numbers_at g.tree.numbers leaf).proof 0))) (attack e)
+          ∙ ap (λ r. one_where (not r)) (ne_eqb (numbers_at g.tree.numbers leaf).proof 0
+          (λ none. beside-proved g.tree ok root_open leaf leaf_is leaf none (0, refl))) in
+          omega (arith, one, now, was)
 
   pub written-settled : (notes more : List Note) (c : List Node) → AreWritten g notes c (λ i. ⊥)
       → ((i : ℕ) → i ≢ leaf → note_at more i ≡ note_at notes i)
@@ -219,13 +289,15 @@ module _ (g : GameTree) (ok : IsTree g.tree) (numbers : List Numbers) (leaf : �
 
   pub counted-settled : (budget attacked defended more : ℕ) → IsCounted g budget attacked defended → attacked ≤ more → more ≤ budget
       → more ≤ attacked + attacks_behind (link_at g.tree.links leaf).kind g.rule (left_at g.left leaf) (board_at g leaf)
+      → more + 2 * sum_below (length g.tree.links) (unproved After.tree) ≤ attacked + 2 * sum_below (length g.tree.links) (unproved g.tree)
       → ((kind : Kind) → leaf_sum kind g.tree.links numbers ≤ leaf_sum kind g.tree.links g.tree.numbers)
       → IsCounted After budget more defended
-  counted-settled budget attacked defended more counted grows fits behind sums = record {
+  counted-settled budget attacked defended more counted grows fits behind few sums = record {
     attacks = let a = counted.attacks in let b = behind-settled attacks_behind in omega (arith, a, b, behind);
     defences = let a = counted.defences in let b = behind-settled defences_behind in omega (arith, a, b);
-    nodes = let a = counted.nodes in omega (arith, a, grows);
     attackers = let a = counted.attackers in omega (arith, a, grows);
+    few_attacks = let a = counted.few_attacks in omega (arith, a, few);
+    defenders = counted.defenders;
     attacked_fits = fits;
     defended_fits = counted.defended_fits;
     leaves = λ kind some. let a = counted.leaves kind some in let b = sums kind in omega (arith, a, b);

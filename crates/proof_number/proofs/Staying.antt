@@ -1,4 +1,4 @@
--- A disproved node stays so where the most-proving leaf is settled or gets children.
+-- A proved or disproved node stays so where the most-proving leaf is settled or gets children.
 use Rattle.std.proofs.Common.{◌≡◌, ◌∙◌, ℕ, zero, suc, ◌<◌, false, refl, sym, ap, subst, arith, List, ◌++◌, length}
 use Rattle.std.proofs.lemmas.List.{get_or_append_left}
 use Rattle.proof_tree.specs.declared.Link.{Link}
@@ -18,19 +18,35 @@ module _ (t : Tree) (ok : IsTree t) (root_open : is_settled (numbers_at t.number
         let none : (numbers_at t.numbers j).disproof ≡ 0 = ap (λ (n : Numbers). n.disproof) lost in
         omega (arith, none, some)
 
+    -- nor is a proved one
+    pub beside-proved : (j : ℕ) → (numbers_at t.numbers j).proof ≡ 0 → IsOnWayUp t.links leaf j → ⊥
+    beside-proved j none way =
+        let is = way-open t ok root_open j (subst (λ (i : ℕ). IsOnWayUp t.links i j) leaf_is way) in
+        let some = is.proof_above in
+        omega (arith, none, some)
+
     pub settled-stays : (numbers : List Numbers) → OthersStay t.links leaf t.numbers numbers → (j : ℕ)
         → numbers_at t.numbers j ≡ settled_numbers false → numbers_at numbers j ≡ settled_numbers false
     settled-stays numbers others j lost = others j (beside-way j lost) ∙ lost
 
-    pub expanded-stays : (links : List Link) (numbers more : List Numbers)
+    -- a node that is not on the way up keeps its numbers where the leaf gets children
+    expanded-same : (links : List Link) (numbers more : List Numbers)
         → ((j : ℕ) → j < length t.links → (link_at links j).parent ≡ (link_at t.links j).parent) → leaf < length t.links
         → OthersStay links leaf (t.numbers ++ more) numbers → (j : ℕ) → j < length t.links
-        → numbers_at t.numbers j ≡ settled_numbers false → numbers_at numbers j ≡ settled_numbers false
-    expanded-stays links numbers more parents inside others j low lost =
-        others j (λ way. beside-way j lost (way.0, sym (same way.0) ∙ way.1))
-        ∙ get_or_append_left t.numbers more no_numbers j (let e = ok.numbered.count in omega (arith, e, low))
-        ∙ lost where
+        → (IsOnWayUp t.links leaf j → ⊥) → numbers_at numbers j ≡ numbers_at t.numbers j
+    expanded-same links numbers more parents inside others j low beside =
+        others j (λ way. beside (way.0, sym (same way.0) ∙ way.1))
+        ∙ get_or_append_left t.numbers more no_numbers j (let e = ok.numbered.count in omega (arith, e, low)) where
           same : (steps : ℕ) → ancestor links steps leaf ≡ ancestor t.links steps leaf
           same zero = refl
           same (suc n) = ap (λ (m : ℕ). (link_at links m).parent) (same n)
               ∙ parents (ancestor t.links n leaf) (ancestor-inside t.links ok.linked n leaf inside)
+
+    module _ (links : List Link) (numbers more : List Numbers)
+        (parents : (j : ℕ) → j < length t.links → (link_at links j).parent ≡ (link_at t.links j).parent) (inside : leaf < length t.links)
+        (others : OthersStay links leaf (t.numbers ++ more) numbers) (j : ℕ) (low : j < length t.links) where
+      pub expanded-stays : numbers_at t.numbers j ≡ settled_numbers false → numbers_at numbers j ≡ settled_numbers false
+      expanded-stays lost = expanded-same links numbers more parents inside others j low (beside-way j lost) ∙ lost
+
+      pub expanded-proved : (numbers_at t.numbers j).proof ≡ 0 → numbers_at numbers j ≡ numbers_at t.numbers j
+      expanded-proved none = expanded-same links numbers more parents inside others j low (beside-proved j none)

@@ -1,7 +1,7 @@
 -- A step of the search from the root to a leaf and back, of its parts.
-use Rattle.std.proofs.Common.{◌≡◌, ◌∙◌, ℕ, ◌+◌, ◌<◌, ◌≤◌, false, refl, sym, ap, subst, arith, length, List, Ok}
+use Rattle.std.proofs.Common.{◌≡◌, ◌∙◌, ℕ, ◌+◌, ◌<◌, ◌≤◌, false, sym, ap, subst, arith, length, List, Ok}
 use Rattle.std.proofs.Common.{Err, OnOk, Result}
-use Rattle.std.proofs.lemmas.List.{get_or-map, length-append, length-map}
+use Rattle.std.proofs.lemmas.List.{length-append}
 use Rattle.game_rules.proofs.Common.{Grid}
 use Rattle.game_rules.specs.declared.RuleKind.{RuleKind}
 use Rattle.strategy_graph.specs.declared.Node.{Node}
@@ -10,16 +10,15 @@ use Rattle.strategy_compiler.proofs.Common.{Writes}
 use Rattle.strategy_compiler.proofs.Growing.{writes-fails, writes-tells, writes-then}
 use Rattle.proof_tree.proofs.Common.{is_settled, IsOnWayUp, IsTree, Tree, link_at, most_proving, numbers_at}
 use Rattle.threat_game.proofs.Common.{threat_tree}
-use Rattle.proof_number.specs.declared.notes.Note.{Note}
 use Rattle.proof_number.specs.declared.search.Search.{Search}
 use Rattle.proof_number.specs.declared.search.Step.{Step}
 use Rattle.proof_number.specs.declared.search.Step.TheVariants.{Done, Spent}
-use Rattle.proof_number.proofs.Common.{known_searching, known_at_leaf, no_note, GameTree, IsGameTree, board_at, left_at, Grows, HasGrown}
+use Rattle.proof_number.proofs.Common.{known_searching, known_at_leaf, GameTree, IsGameTree, board_at, Grows, HasGrown}
 use Rattle.proof_number.proofs.Common.{HasSpent, HasStayed, IsSameAim, HasStepped, IsAbove, IsBack, IsPassed, KeepsTree, IsOverBudget}
-use Rattle.proof_number.proofs.Common.{IsSearching, IsStep, IsTried, OnStep, Searches, StandsAt, game_of, HasNoRoom, most_nodes, room_in}
+use Rattle.proof_number.proofs.Common.{IsSearching, IsStep, IsTried, OnStep, Searches, StandsAt, game_of, most_nodes, room_in}
+use Rattle.proof_number.proofs.Common.{nodes_so_far}
 use Rattle.proof_number.proofs.Opening.{grown-facts, searching-facts}
-use Rattle.proof_number.proofs.RunningOut.{answer-room, back-out, out-aim, room-aim, same-error}
-use Rattle.strategy_compiler.specs.declared.error.SearchError.TheVariants.{Full}
+use Rattle.proof_number.proofs.RunningOut.{out-aim}
 use Rattle.std.proofs.lemmas.Result.{on_ok_weaker}
 use Rattle.proof_number.proofs.Recording.{board-searches, root-searches}
 use Rattle.proof_number.proofs.Steps.{most-same}
@@ -145,17 +144,9 @@ writes-on {c = c} {d = d} {e = e} {most = most} {limit = limit} {x = x} {r = r} 
 
 -- no more positions are counted than may be
 pub counted-most : {rule : RuleKind} {s : Search} {t : Tree} {c : List Node} {way : ℕ → Type 0} → IsSearching rule s t c way
-    → s.before + s.attacked ≤ most_nodes rule s
-unfolding most_nodes
-counted-most {rule = rule} {s = s} {t = t} h =
-    let some = h.tree.linked.some in
-    let long = length-map s.notes.items (λ (n : Note). n.at) in
-    let many = h.game.moves in
-    let first : left_at (game_of rule s t).left 0 ≡ s.depth =
-    get_or-map (λ (n : Note). n.left) s.notes.items 0 no_note 0 (omega (arith, some, long, many)) ∙ h.depth in
-    let same : threat_tree rule (left_at (game_of rule s t).left 0) s.root ≡ threat_tree rule s.depth s.root =
-    ap (λ (n : ℕ). threat_tree rule n s.root) first in
-    omega (arith, h.counted.attacked_fits, h.counted.attacks, same)
+    → nodes_so_far rule s ≤ most_nodes rule s
+unfolding most_nodes nodes_so_far
+counted-most h = let fits = h.counted.attacked_fits in omega (arith, fits)
 
 -- ---- the leaf is settled or has children
 
@@ -172,8 +163,8 @@ module _ {rule : RuleKind} {s v : Search} {t u : Tree} {d : List Node} {leaf : �
     module _ {c e : List Node} {w : Search} {x : Step} (first : Writes c d (room_in (most_nodes rule s) c) (Ok x)) where
       back-writes : {r : Result (Unit {0}) SearchError} → IsBack rule v w u d e r → Writes c e (room_in (most_nodes rule before) c) r
       back-writes {r = r} back =
-          let limit : v.before + v.attacked ≤ most_nodes rule s =
-          subst (λ (k : ℕ). v.before + v.attacked ≤ k) (most-same rule grown.aim) (counted-most grown.searching) in
+          let limit : nodes_so_far rule v ≤ most_nodes rule s =
+          subst (λ (k : ℕ). nodes_so_far rule v ≤ k) (most-same rule grown.aim) (counted-most grown.searching) in
           subst (λ (k : ℕ). Writes c e (room_in k c) r) (most-same rule (moved-aim before s rest)) (writes-on first limit back.writes)
 
       pub back-done : {y : Unit {0}} → IsBack rule v w u d e (Ok y) → IsStep rule before w t u c e (Ok Done)
@@ -184,7 +175,6 @@ module _ {rule : RuleKind} {s v : Search} {t u : Tree} {d : List Node} {leaf : �
         tree = grown.searching.tree;
         longer = grown.longer;
         writes = writes-tells c e _ _ y Done (back-writes back) (omega arith);
-        no_room = answer-room Done;
       }
 
       pub back-fails : {r : Result Step SearchError} (error : SearchError) → IsBack rule v w u d e (Err error) → r ≡ Err error
@@ -198,7 +188,6 @@ module _ {rule : RuleKind} {s v : Search} {t u : Tree} {d : List Node} {leaf : �
         tree = grown.searching.tree;
         longer = grown.longer;
         writes = writes-fails {A = Unit {0}} c e _ _ error r (back-writes back) (omega arith) is;
-        no_room = λ full. room-aim grown-aim (back-out grown.searching back.writes (same-error (Err error) refl is full));
       }
 
 -- ---- the tree is as it was
@@ -207,16 +196,14 @@ module _ {rule : RuleKind} {s : Search} {t : Tree} {c : List Node} (searching : 
   pub stayed-step : {moved v w : Search} {u : Tree} {d : List Node} {r : Result Step SearchError}
       → moved ≡ record s { board = moved.board } → HasStayed moved v t u → w ≡ record v { board = w.board } → w.board ≡ v.root
       → OnStep r (HasStepped rule w t u d) (IsOverBudget rule s t u) (Unit {0}) → Writes c d (room_in (most_nodes rule moved) c) r
-      → (r ≡ Err Full → HasNoRoom rule moved.depth moved.budget moved.root t moved.before) → IsStep rule s w t u c d r
-  stayed-step {moved = moved} {v = v} {w = w} {u = u} {d = d} {r = r} rest stays back board came writes no_room = record {
+      → IsStep rule s w t u c d r
+  stayed-step {moved = moved} {v = v} {w = w} {u = u} {d = d} {r = r} rest stays back board came writes = record {
     came = came;
     aim = stayed-aim rule s moved v t u rest stays w back;
     board = board ∙ stayed-root rule s moved v t u rest stays;
     tree = stayed-tree rule s moved v t u rest stays (searched-tree searching);
     longer = subst (λ (x : Tree). length t.links ≤ length x.links) (sym stays.same) (omega arith);
     writes = subst (λ (k : ℕ). Writes c d (room_in k c) r) (most-same rule (moved-aim s moved rest)) writes;
-    no_room = λ full. subst (λ (x : Tree). HasNoRoom rule s.depth s.budget s.root x s.before) (sym stays.same)
-        (room-aim (moved-aim s moved rest) (no_room full));
   }
 
   pub spent-step : {moved v w : Search} {u : Tree} {d : List Node} {leaf : ℕ} {x : Step} → moved ≡ record s { board = moved.board }
@@ -229,7 +216,7 @@ module _ {rule : RuleKind} {s : Search} {t : Tree} {c : List Node} (searching : 
         same = spent.same;
         spent = subst (λ (y : Search). y.budget < threat_tree rule y.depth y.root) rest spent.spent;
         ran_out = out-aim (moved-aim s moved rest) spent.ran_out;
-      }) (subst (λ (y : Step). Writes c d (room_in (most_nodes rule moved) c) (Ok y)) is tried.writes) (answer-room Spent)
+      }) (subst (λ (y : Step). Writes c d (room_in (most_nodes rule moved) c) (Ok y)) is tried.writes)
 
 -- ---- the way back
 
@@ -251,6 +238,11 @@ root-back {rule = rule} {s = s} {u = u} {t = t} {d = d} {node = node} {r = r} ro
   writes = passed.writes;
 }
 
+-- no more nodes may be written where the board alone changes
+so-far-same : (rule : RuleKind) {s v : Search} → IsSameAim s v → v.attacked ≡ s.attacked → nodes_so_far rule v ≡ nodes_so_far rule s
+unfolding nodes_so_far
+so-far-same rule aim attacked = rw (aim.before, attacked, aim.depth, aim.root)
+
 -- a node is passed, and then those above it
 pub node-back : {rule : RuleKind} {s u m w : Search} {t : Tree} {c d e : List Node} {node : ℕ} {x : Unit {0}}
     {r : Result (Unit {0}) SearchError} → IsPassed rule s u t c d node (Ok x) → m ≡ record u { board = m.board } → IsBack rule m w t d e r
@@ -258,12 +250,12 @@ pub node-back : {rule : RuleKind} {s u m w : Search} {t : Tree} {c d e : List No
 node-back {rule = rule} {s = s} {u = u} {m = m} {w = w} passed rest back =
     let first : IsSameAim s m = aim-then s u m (keeps-aim s u passed.keeps) (moved-aim u m rest) in
     let attacked : m.attacked ≡ s.attacked = ap (λ (w : Search). w.attacked) rest ∙ ap (λ (w : Search). w.attacked) passed.keeps.rest in
-    let before = first.before in
+    let limit = so-far-same rule first attacked in
     record {
       searching = back.searching;
       aim = aim-then s m w first back.aim;
       board = back.board ∙ first.root;
-      writes = writes-on passed.writes (omega (arith, before, attacked)) back.writes;
+      writes = writes-on passed.writes (omega (arith, limit)) back.writes;
     }
 
 -- a node is not passed, and the moves are taken back
@@ -276,5 +268,5 @@ node-refused {rule = rule} {s = s} {u = u} {w = w} {t = t} {c = c} {d = d} {r = 
       searching = subst (λ (q : Result (Unit {0}) SearchError). OnOk q (Searches rule w t d (λ i. ⊥))) (sym is) tt;
       aim = aim-then s u w first (moved-aim u w rest);
       board = board ∙ first.root;
-      writes = subst (Writes c d (room_in (s.before + s.attacked) c)) (sym is) passed.writes;
+      writes = subst (Writes c d (room_in (nodes_so_far rule s) c)) (sym is) passed.writes;
     }

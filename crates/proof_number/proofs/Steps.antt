@@ -1,7 +1,7 @@
 -- The steps of a search, in the words of its contracts. Steps at a leaf of the attacker whose win is compiled at once: what is counted
 -- fits, and so do the nodes.
 use Rattle.std.proofs.Common.{◌≡◌, ℕ, ◌+◌, ◌<◌, ◌≤◌, Bool, true, false, inl, sym, ap, subst, ◌∙◌, arith, List}
-use Rattle.std.proofs.Common.{[], ◌++◌, append-nil, length, Some, Result, Ok, Err, refl, ◌-◌, cond, ◌&&◌, not, nat_eq}
+use Rattle.std.proofs.Common.{[], ◌++◌, append-nil, length, Some, Result, Ok, Err, refl, cond, ◌&&◌, not, nat_eq}
 use Rattle.std.proofs.lemmas.List.{get_or-map, length-map}
 use Rattle.std.proofs.lemmas.Bool.{eq-eqb}
 use Rattle.game_rules.specs.declared.RuleKind.{RuleKind}
@@ -17,28 +17,31 @@ use Rattle.strategy_graph.proofs.Filling.{IsTable-lower}
 use Rattle.strategy_compiler.specs.declared.error.SearchError.{SearchError}
 use Rattle.strategy_compiler.specs.declared.wins.WrittenWin.{WrittenWin}
 use Rattle.strategy_compiler.proofs.Growing.{grows-not, win-some, writes-memory, writes-nothing}
-use Rattle.strategy_compiler.specs.declared.error.SearchError.TheVariants.{Memory, Full}
+use Rattle.strategy_compiler.specs.declared.error.SearchError.TheVariants.{Memory}
 use Rattle.strategy_compiler.proofs.Common.{IsCompiled, GrowsBy, Writes}
 use Rattle.threat_game.specs.declared.doubles.DoublePoint.{DoublePoint}
-use Rattle.threat_game.proofs.TreeLaws.{tree-positive, one_where, counted-within}
-use Rattle.threat_game.proofs.Common.{threat_tree, IsThreatWin, IsDoubleWin, answer_nodes}
+use Rattle.threat_game.proofs.TreeLaws.{tree-positive, counted-within}
+use Rattle.threat_game.proofs.Common.{threat_tree, IsThreatWin, IsDoubleWin, answer_nodes, is_last_move}
 use Rattle.proof_number.specs.declared.search.Step.{Step}
 use Rattle.proof_number.specs.declared.search.Step.TheVariants.{Done, Spent}
-use Rattle.proof_number.proofs.RunningOut.{attacks-out, room-aim, room-out, same-error}
-use Rattle.proof_number.proofs.Common.{AddsAttacks, HasNoRoom, known_at_leaf, known_grown, IsSameAim, IsTried, most_nodes, room_in, no_note}
+use Rattle.proof_number.proofs.RunningOut.{runs-out}
+use Rattle.proof_number.proofs.WinLaws.{double-wins, last-counts}
+use Rattle.proof_number.proofs.Common.{known_at_leaf, known_grown, IsSameAim, IsTried, most_nodes, room_in, no_note}
 use Rattle.proof_number.proofs.Common.{note_at, CanGrow, WinsAt, board_at, left_at, IsTrueOf, IsTrueMemo, Grows, HasGrown, HasSpent}
 use Rattle.proof_number.proofs.Common.{HasStayed, KeepsTree, OnStep, IsAtLeaf, IsNotedWin, IsSettledAt, StandsAt, game_of, noted_won}
 use Rattle.proof_number.proofs.Common.{GameTree, attacks_behind, behind_at, is_attack, unwritten, IsLostAt}
+use Rattle.proof_number.proofs.Common.{IsBare, threat_wins, wins_behind, won_at}
 use Rattle.proof_number.specs.declared.notes.Note.{Note}
 use Rattle.proof_number.specs.declared.notes.Settled.{Settled}
 use Rattle.proof_number.specs.declared.notes.Settled.TheVariants.{Lost}
 use Rattle.proof_number.specs.declared.search.Search.{Search}
 use Rattle.proof_number.proofs.Opening.{grown-facts, leaf-facts}
-use Rattle.proof_number.proofs.GameTruths.{left-low, position-at}
+use Rattle.proof_number.proofs.GameTruths.{left-low, position-at, board-root}
 use Rattle.proof_number.proofs.Growing.{lost-grown, won-grown}
 use Rattle.proof_number.proofs.Remembering.{memo-grown}
 use Rattle.proof_number.proofs.Recording.{keeps-all}
-use Rattle.proof_number.proofs.Sums.{sum-zeros, sum-less}
+use Rattle.proof_number.proofs.Sums.{sum-one}
+use Rattle.game_rules.specs.declared.Point.{Point}
 
 module _ {rule : RuleKind} {s : Search} {t : Tree} {c : List Node} {leaf : ℕ} {view : Grid} (stands : StandsAt rule s t c leaf view) where
   at-leaf : IsAtLeaf rule s t c leaf view
@@ -98,8 +101,11 @@ module _ {rule : RuleKind} {s : Search} {t : Tree} {c : List Node} {leaf : ℕ} 
         (d : List Node) (grown : d ≡ c ++ more) (compiled : IsCompiled d) (win : WrittenWin)
         (items : v.notes.items ≡ noted_won s.notes.items leaf win)
         (noted : IsNotedWin rule (note_at s.notes.items leaf).left view d win) (grows : s.attacked ≤ v.attacked)
-        (fits : v.attacked ≤ s.budget) (behind : v.attacked + 1 ≤ s.attacked + threat_tree rule (note_at s.notes.items leaf).left view)
-        (short : s.attacked + length more ≤ v.attacked + 1) (table : IsTrueMemo rule c (game_of rule s t) v.settled) where
+        (fits : v.attacked ≤ s.budget) (two : v.attacked ≤ s.attacked + 2)
+        (behind : v.attacked + 1 ≤ s.attacked + threat_tree rule (note_at s.notes.items leaf).left view)
+        (short : s.attacked + length more ≤ v.attacked + 1)
+        (won : length more ≤ threat_wins rule (note_at s.notes.items leaf).left view)
+        (table : IsTrueMemo rule c (game_of rule s t) v.settled) where
       pub won-step : Grows rule s v t u d leaf
       won-step = known_grown (
           let w : IsNotedWin rule (left_at (game_of rule s t).left leaf) (board_at (game_of rule s t) leaf) (c ++ more) win =
@@ -110,17 +116,22 @@ module _ {rule : RuleKind} {s : Search} {t : Tree} {c : List Node} {leaf : ℕ} 
           (board_at (game_of rule s t) leaf) =
           ap (λ (n : ℕ). threat_tree rule n view) (sym left-noted)
           ∙ ap (threat_tree rule (left_at (game_of rule s t).left leaf)) at-leaf.view_is in
+          let wins_are : threat_wins rule (note_at s.notes.items leaf).left view ≡ threat_wins rule (left_at (game_of rule s t).left leaf)
+          (board_at (game_of rule s t) leaf) =
+          ap (λ (n : ℕ). threat_wins rule n view) (sym left-noted)
+          ∙ ap (threat_wins rule (left_at (game_of rule s t).left leaf)) at-leaf.view_is in
           subst (λ (x : List Node). HasGrown rule s v t u x leaf) (sym grown)
           (won-grown at-leaf attack st v more rest same_board (subst IsCompiled grown compiled)
           (memo-grown rule (game_of rule s t) c more v.settled (IsTable-lower c at-leaf.searching.compiled.table) table) win items
           (win-some rule (left_at (game_of rule s t).left leaf) (board_at (game_of rule s t) leaf) (c ++ more) win w.0) w.0 w.1
-          grows fits (omega (arith, behind, tree_is)) short))
+          grows fits two (omega (arith, behind, tree_is)) short (omega (arith, won, wins_are))))
 
     -- none is known to be there
     module _ (u : Tree) (st : IsSettledAt t u leaf false) (v : Search) (rest : v ≡ record s { board = v.board; settled = v.settled })
         (same_board : v.board ≡ s.board) (table : IsTrueMemo rule c (game_of rule s t) v.settled)
         (none : WinsByThreats rule (note_at s.notes.items leaf).left view → ⊥)
-        (why : IsLostAt Attack (game_of rule s t) (note_at s.notes.items leaf).left view) where
+        (why : IsLostAt Attack (game_of rule s t) (note_at s.notes.items leaf).left view)
+        (bare : leaf ≡ 0 → IsBare rule (note_at s.notes.items leaf).left view) where
       pub lost-step : Grows rule s v t u c leaf
       lost-step = known_grown (lost-grown at-leaf st v rest same_board table (λ wins.
           let win : WinsByThreats rule (left_at (game_of rule s t).left leaf) (board_at (game_of rule s t) leaf) =
@@ -130,7 +141,12 @@ module _ {rule : RuleKind} {s : Search} {t : Tree} {c : List Node} {leaf : ℕ} 
           (subst (λ (q : Kind). IsLostAt q (game_of rule s t) (left_at (game_of rule s t).left leaf) (board_at (game_of rule s t) leaf))
           (sym attack)
           (subst (λ (n : ℕ). IsLostAt Attack (game_of rule s t) n (board_at (game_of rule s t) leaf)) (sym left-noted)
-          (subst (IsLostAt Attack (game_of rule s t) (note_at s.notes.items leaf).left) at-leaf.view_is why))))
+          (subst (IsLostAt Attack (game_of rule s t) (note_at s.notes.items leaf).left) at-leaf.view_is why)))
+          (λ root.
+          let g : GameTree = game_of rule s t in
+          subst (λ (n : ℕ). IsBare rule n s.root) (sym left-noted ∙ ap (left_at g.left) root)
+          (subst (IsBare rule (note_at s.notes.items leaf).left) (at-leaf.view_is ∙ ap (board_at g) root
+          ∙ board-root g.tree.links g.moves g.start at-leaf.searching.tree.linked) (bare root))))
 
     -- what is found in the table holds of the view
     pub leaf-found : (w : Grid) (v : Settled) → w ≡ view → Some v ≡ value_under (packed w, (note_at s.notes.items leaf).left) s.settled
@@ -197,16 +213,16 @@ module _ {rule : RuleKind} {s : Search} {t : Tree} {c : List Node} {leaf : ℕ} 
       won-step stands attack u st v [] (rest-of s mid v first second) board c (sym (append-nil c))
       (leaf-compiled stands) win
       (items ∙ ap (λ (w : Search). noted_won w.notes.items leaf win) first) noted (omega (arith, count)) (omega (arith, count, fits))
-      (omega (arith, count, positive)) (omega (arith, count))
+      (omega (arith, count)) (omega (arith, count, positive)) (omega (arith, count)) (omega arith)
       (subst (IsTrueMemo rule c (game_of rule s t)) (sym (ap (λ (w : Search). w.settled) second)) table-now)
 
   -- and what is remembered as lost
   pub recalled-lost : (u : Tree) → IsSettledAt t u leaf false
-      → IsTrueOf rule c (game_of rule s t) view (note_at s.notes.items leaf).left Lost → Grows rule s mid t u c leaf
-  recalled-lost u st none =
+      → IsTrueOf rule c (game_of rule s t) view (note_at s.notes.items leaf).left Lost → (leaf ≡ 0 → ⊥) → Grows rule s mid t u c leaf
+  recalled-lost u st none other =
       lost-step stands attack u st mid
       (first ∙ ap (λ (w : Search). record s { board = w.board; settled = mid.settled }) (sym first))
-      (ap (λ (w : Search). w.board) first) table-now none.0 none.1
+      (ap (λ (w : Search). w.board) first) table-now none.0 none.1 (λ root. absurd (other root))
 
   -- the search stands at the leaf as before
   pub recalled-stands : StandsAt rule mid t c leaf view
@@ -224,6 +240,7 @@ module _ {rule : RuleKind} {s : Search} {t : Tree} {c : List Node} {leaf : ℕ} 
           counted = h.searching.counted;
           compiled = h.searching.compiled;
           few = h.searching.few;
+          wins = h.searching.wins;
         };
         root_open = h.root_open;
         leaf_is = h.leaf_is;
@@ -267,7 +284,6 @@ pub tried-from : {rule : RuleKind} {s mid v : Search} {t u : Tree} {c d : List N
 tried-from {rule = rule} {s = s} {mid = mid} {v = v} {t = t} {u = u} {c = c} {d = d} {leaf = leaf} {r = r} first h = record {
   step = step-from rule s mid v t u d leaf first r h.step;
   writes = subst (λ (w : ℕ). Writes c d (room_in w c) r) (most-same rule aim) h.writes;
-  no_room = λ full. room-aim aim (h.no_room full);
 } where
   aim : IsSameAim s mid
   aim = record {
@@ -290,43 +306,52 @@ module _ {rule : RuleKind} {s : Search} {t : Tree} {c : List Node} {leaf : ℕ} 
       (subst (StandsAt rule s t c leaf) (sym (leaf-board stands)) stands)
 
   module _ (attack : (link_at t.links leaf).kind ≡ Attack) where
-    own-behind : behind_at attacks_behind (game_of rule s t) leaf ≡ attacks_behind (link_at t.links leaf).kind rule
+    own-behind : (f : Kind → RuleKind → ℕ → Grid → ℕ) → behind_at f (game_of rule s t) leaf ≡ f Attack rule
         (left_at (game_of rule s t).left leaf) (board_at (game_of rule s t) leaf)
-    own-behind =
-        let f : ℕ = attacks_behind (link_at t.links leaf).kind rule (left_at (game_of rule s t).left leaf)
-        (board_at (game_of rule s t) leaf) in
-        ap (λ r. cond (r && not (is_settled (numbers_at t.numbers leaf))) f 0) (eq-eqb (link_at t.links leaf).count 0 here.childless)
-        ∙ ap (λ r. cond (not r) f 0) here.leaf_open
+    own-behind f =
+        let n : ℕ = f (link_at t.links leaf).kind rule (left_at (game_of rule s t).left leaf) (board_at (game_of rule s t) leaf) in
+        ap (λ r. cond (r && not (is_settled (numbers_at t.numbers leaf))) n 0) (eq-eqb (link_at t.links leaf).count 0 here.childless)
+        ∙ ap (λ r. cond (not r) n 0) here.leaf_open
+        ∙ ap (λ (k : Kind). f k rule (left_at (game_of rule s t).left leaf) (board_at (game_of rule s t) leaf)) attack
+
+    -- what is counted from the place of the leaf in the tree
+    at-view : (count : ℕ → Grid → ℕ) → count (note_at s.notes.items leaf).left view ≡ count (left_at (game_of rule s t).left leaf)
+        (board_at (game_of rule s t) leaf)
+    at-view count =
+        let left_is : left_at (game_of rule s t).left leaf ≡ (note_at s.notes.items leaf).left =
+        get_or-map (λ (n : Note). n.left) s.notes.items leaf no_note 0 (leaf-noted stands) in
+        ap (λ (n : ℕ). count n view) (sym left_is) ∙ ap (count (left_at (game_of rule s t).left leaf)) here.view_is
 
     -- what the game has behind the leaf is counted from the root
     pub behind-fits : s.attacked + threat_tree rule (note_at s.notes.items leaf).left view ≤ 1 + threat_tree rule s.depth s.root
     behind-fits =
         let g : GameTree = game_of rule s t in
-        let own : behind_at attacks_behind g leaf ≡ threat_tree rule (left_at g.left leaf) (board_at g leaf) - 1 =
-        own-behind ∙ ap (λ (k : Kind). attacks_behind k rule (left_at g.left leaf) (board_at g leaf)) attack in
-        let none = sum-zeros (length t.links) in
-        let low = sum-less (length t.links) (λ i. 0) (behind_at attacks_behind g) leaf
-        (threat_tree rule (left_at g.left leaf) (board_at g leaf) - 1) here.in_tree (λ j l other. omega arith) (omega (arith, own)) in
-        let left_is : left_at g.left leaf ≡ (note_at s.notes.items leaf).left =
-        get_or-map (λ (n : Note). n.left) s.notes.items leaf no_note 0 (leaf-noted stands) in
-        let tree_is : threat_tree rule (note_at s.notes.items leaf).left view ≡ threat_tree rule (left_at g.left leaf) (board_at g leaf) =
-        ap (λ (n : ℕ). threat_tree rule n view) (sym left_is) ∙ ap (threat_tree rule (left_at g.left leaf)) here.view_is in
+        let low = sum-one (length t.links) (behind_at attacks_behind g) leaf here.in_tree in
         let first : left_at g.left 0 ≡ s.depth = get_or-map (λ (n : Note). n.left) s.notes.items 0 no_note 0
         (let l = leaf-noted stands in omega (arith, l)) ∙ here.searching.depth in
         let root_is : threat_tree rule (left_at g.left 0) s.root ≡ threat_tree rule s.depth s.root =
         ap (λ (n : ℕ). threat_tree rule n s.root) first in
-        omega (arith, none, low, tree_is, root_is, here.searching.counted.attacks)
+        omega (arith, low, own-behind attacks_behind, at-view (threat_tree rule), root_is, here.searching.counted.attacks)
+
+    own-unwritten : (f : ℕ → ℕ) → unwritten f t s.notes.items leaf ≡ f leaf
+    own-unwritten f =
+        ap (λ (k : Kind). cond (is_attack k && nat_eq (note_at s.notes.items leaf).moves 0) (f leaf) 0) attack
+        ∙ ap (λ r. cond r (f leaf) 0) (eq-eqb (note_at s.notes.items leaf).moves 0
+        (here.searching.written.fresh leaf here.in_tree here.childless here.leaf_open))
 
     -- a node for the leaf is not in the compiler yet
     node-fits : length c + 1 ≤ s.before + s.attacked
     node-fits =
-        let one : unwritten t s.notes.items leaf ≡ 1 =
-        ap (λ (k : Kind). one_where (is_attack k && nat_eq (note_at s.notes.items leaf).moves 0)) attack
-        ∙ ap (λ r. one_where r) (eq-eqb (note_at s.notes.items leaf).moves 0
-        (here.searching.written.fresh leaf here.in_tree here.childless here.leaf_open)) in
-        let low = sum-less (length t.links) (λ i. 0) (unwritten t s.notes.items) leaf 1 here.in_tree (λ j l other. omega arith)
-        (omega (arith, one)) in
-        omega (arith, sum-zeros (length t.links), low, here.searching.few)
+        let low = sum-one (length t.links) (unwritten (λ i. 1) t s.notes.items) leaf here.in_tree in
+        omega (arith, own-unwritten (λ i. 1), low, here.searching.few)
+
+    -- nor are those for the won positions from it on
+    wins-fit : length c + threat_wins rule (note_at s.notes.items leaf).left view ≤ s.before + threat_wins rule s.depth s.root
+    wins-fit =
+        let g : GameTree = game_of rule s t in
+        let own = sum-one (length t.links) (unwritten (won_at g) t s.notes.items) leaf here.in_tree in
+        let behind = sum-one (length t.links) (behind_at wins_behind g) leaf here.in_tree in
+        omega (arith, own-unwritten (won_at g), own, own-behind wins_behind, behind, at-view (threat_wins rule), here.searching.wins)
 
     pub double-fits : (d : DoublePoint) → IsDoubleWin rule view d
         → 1 + answer_nodes rule view d ≤ threat_tree rule (note_at s.notes.items leaf).left view
@@ -335,45 +360,44 @@ module _ {rule : RuleKind} {s : Search} {t : Tree} {c : List Node} {leaf : ℕ} 
         (attack-moves stands attack)
 
     -- where the budget does not reach, the game has more positions
-    pub spent-there : (added : ℕ) → AddsAttacks rule added Attack (note_at s.notes.items leaf).left view → s.budget < s.attacked + added
-        → 1 + added ≤ threat_tree rule (note_at s.notes.items leaf).left view → HasSpent rule s s t t
-    spent-there added adds over few = record {
-      spent = (let a = behind-fits in omega (arith, a, over, few));
-      ran_out = attacks-out stands Attack attack added adds over;
+    pub spent-there : (d : DoublePoint) → IsDoubleWin rule view d → s.budget < s.attacked + answer_nodes rule view d → HasSpent rule s s t t
+    spent-there d wins over = record {
+      spent = (let a = behind-fits in let few = double-fits d wins in omega (arith, a, over, few));
+      ran_out = runs-out stands Attack attack (inl (d, wins, over));
       same = refl;
       keeps = keeps-all s;
     }
 
-    -- where the nodes of a win don't fit there is no room
-    pub win-no_room : {A B : Type 0} {d : List Node} {e : SearchError} {r : Result B SearchError} (added : ℕ)
-        → AddsAttacks rule added Attack (note_at s.notes.items leaf).left view → (nodes : ℕ) → nodes ≡ 1 + added
-        → Writes {A = A} c d nodes (Err e) → r ≡ Err e → r ≡ Err Full → HasNoRoom rule s.depth s.budget s.root t s.before
-    win-no_room {e = e} added adds nodes are writes is full =
-        let same = same-error (Err e) refl is full in
-        let over = writes.full same in
-        let fits = node-fits in
-        room-out stands Attack attack added adds (omega (arith, over, fits, are))
+    -- no more nodes are needed than positions are won
+    pub double-won : (d : DoublePoint) → IsDoubleWin rule view d
+        → 1 + answer_nodes rule view d ≤ threat_wins rule (note_at s.notes.items leaf).left view
+    double-won d wins = double-wins rule view d (leaf-lawful stands) wins (attack-no_five stands attack) (note_at s.notes.items leaf).left
+        (attack-moves stands attack)
+
+    pub last-won : (p : Point) → is_last_move rule view p ≡ true → 1 ≤ threat_wins rule (note_at s.notes.items leaf).left view
+    last-won p last = let two = attack-moves stands attack in
+        last-counts rule (note_at s.notes.items leaf).left view p last (omega (arith, two))
 
     -- there is room for a win, where so many more positions are counted for it
-    room-there : (added : ℕ) → s.attacked + added ≤ s.budget → 1 + added ≤ threat_tree rule (note_at s.notes.items leaf).left view
+    room-there : (added : ℕ) → s.attacked + added ≤ s.budget → 1 + added ≤ threat_wins rule (note_at s.notes.items leaf).left view
         → 1 + added ≤ room_in (most_nodes rule s) c
     unfolding room_in most_nodes
-    room-there added fits few = omega (arith, behind-fits, node-fits, fits, few)
+    room-there added fits won = omega (arith, wins-fit, node-fits, fits, won)
 
     -- for one by a double point
     pub double-room : (w : Grid) (d : DoublePoint) (nodes : ℕ) → w ≡ view → nodes ≡ answer_nodes rule view d → IsDoubleWin rule view d
         → s.attacked + nodes ≤ s.budget → 1 + answer_nodes rule w d ≤ room_in (most_nodes rule s) c
     double-room w d nodes same are wins fits =
-        let few = double-fits d wins in
+        let few = double-won d wins in
         let moved : answer_nodes rule w d ≡ answer_nodes rule view d = ap (λ (b : Grid). answer_nodes rule b d) same in
         let room = room-there nodes fits (omega (arith, few, are)) in
         omega (arith, room, moved, are)
 
     -- and for one by a last move
-    pub last-room : 1 ≤ room_in (most_nodes rule s) c
-    last-room =
+    pub last-room : (p : Point) → is_last_move rule view p ≡ true → 1 ≤ room_in (most_nodes rule s) c
+    last-room p last =
         let fits = here.searching.counted.attacked_fits in
-        let some = tree-positive rule (note_at s.notes.items leaf).left view in
+        let some = last-won p last in
         let room = room-there 0 (omega (arith, fits)) (omega (arith, some)) in
         omega (arith, room)
 
@@ -381,7 +405,9 @@ module _ {rule : RuleKind} {s : Search} {t : Tree} {c : List Node} {leaf : ℕ} 
     win-few d win is = let a = left-few stands in let b = is.written.within in omega (arith, a, b)
 
     -- the leaf is settled by a win that is compiled, and so many more positions are counted
-    module _ (added : ℕ) (fits : s.attacked + added ≤ s.budget) (few : 1 + added ≤ threat_tree rule (note_at s.notes.items leaf).left view)
+    module _ (added : ℕ) (fits : s.attacked + added ≤ s.budget) (two : added ≤ 2)
+        (few : 1 + added ≤ threat_tree rule (note_at s.notes.items leaf).left view)
+        (won : 1 + added ≤ threat_wins rule (note_at s.notes.items leaf).left view)
         (u : Tree) (st : IsSettledAt t u leaf true) (v : Search)
         (rest : v ≡ record s { notes = v.notes; attacked = s.attacked + added }) (d : List Node) (grown : GrowsBy c d (1 + added))
         (compiled : IsCompiled d) (win : WrittenWin) (items : v.notes.items ≡ noted_won s.notes.items leaf win)
@@ -393,7 +419,8 @@ module _ {rule : RuleKind} {s : Search} {t : Tree} {c : List Node} {leaf : ℕ} 
           won-step stands attack u st v grown.added
           (rest ∙ ap (λ (w : Search). record s { board = w.board; notes = v.notes; settled = w.settled; attacked = w.attacked }) (sym rest))
           (ap (λ (w : Search). w.board) rest) d grown.is compiled win items (is.written, is.by_threats)
-          (omega (arith, count)) (omega (arith, count, fits)) (omega (arith, count, few)) (omega (arith, count, long))
+          (omega (arith, count)) (omega (arith, count, fits)) (omega (arith, count, two)) (omega (arith, count, few))
+          (omega (arith, count, long)) (omega (arith, long, won))
           (subst (λ (w : Search). IsTrueMemo rule c (game_of rule s t) w.settled) (sym rest) here.searching.remembered)
 
 -- what was tried on a board that is that of the search

@@ -1,6 +1,6 @@
 -- Sums over the first numbers: how they change where one term does, or where terms are added.
 use Rattle.std.proofs.Common.{◌≡◌, ◌≢◌, ◌⊎◌, inl, inr, ℕ, zero, suc, ◌+◌, ◌<◌, ◌≤◌, refl, sym, ap, subst, ◌∙◌, zero-add, arith, List, []}
-use Rattle.std.proofs.Common.{◌∷◌, length, get_or, sum_by, Bool, true, false, cond}
+use Rattle.std.proofs.Common.{◌∷◌, length, get_or, sum_by}
 use Rattle.std.proofs.lemmas.List.Sums.{sum_by-cons}
 use Rattle.std.proofs.lemmas.Bool.{cases_eq}
 use Rattle.proof_number.specs.SearchTrees.{sum_below}
@@ -21,6 +21,13 @@ sum-le (suc n) f g h =
     let here = h n (omega arith) in
     omega (arith, sum-suc n f, sum-suc n g, rest, here)
 
+-- terms that are the same
+pub sum-same : (n : ℕ) (f g : ℕ → ℕ) → ((i : ℕ) → i < n → f i ≡ g i) → sum_below n f ≡ sum_below n g
+sum-same n f g h =
+    let up = sum-le n f g (λ i low. let e = h i low in omega (arith, e)) in
+    let down = sum-le n g f (λ i low. let e = h i low in omega (arith, e)) in
+    omega (arith, up, down)
+
 -- the same, and one term is less by d or more
 pub sum-less : (n : ℕ) (f g : ℕ → ℕ) (i d : ℕ) → i < n → ((j : ℕ) → j < n → j ≢ i → f j ≤ g j) → f i + d ≤ g i
     → sum_below n f + d ≤ sum_below n g
@@ -35,6 +42,20 @@ sum-less (suc n) f g i d inside h less = by_last (cases_eq n i) (λ low. sum-les
       let rest = later (omega (arith, other)) in
       let here = h n (omega arith) other in
       omega (arith, sum-suc n f, sum-suc n g, rest, here)
+
+-- one term is no more than all
+pub sum-one : (n : ℕ) (f : ℕ → ℕ) (i : ℕ) → i < n → f i ≤ sum_below n f
+sum-one n f i inside =
+    let low = sum-less n (λ j. 0) f i (f i) inside (λ j l other. omega arith) (omega arith) in
+    omega (arith, low)
+
+-- two sums are one
+pub sum-split : (n : ℕ) (f g : ℕ → ℕ) → sum_below n f + sum_below n g ≡ sum_below n (λ i. f i + g i)
+sum-split zero f g = let a = sum-zero f in let b = sum-zero g in let d = sum-zero (λ i. f i + g i) in omega (arith, a, b, d)
+sum-split (suc n) f g =
+    let rest = sum-split n f g in
+    let d = sum-suc n (λ i. f i + g i) in
+    omega (arith, sum-suc n f, sum-suc n g, d, rest)
 
 -- further terms
 pub sum-more : (n k : ℕ) (f : ℕ → ℕ) → sum_below (n + k) f ≡ sum_below n f + sum_below k (λ j. f (n + j))
@@ -65,12 +86,7 @@ pub sum-zeros : (n : ℕ) → sum_below n (λ i. 0) ≡ 0
 sum-zeros zero = sum-zero (λ i. 0)
 sum-zeros (suc n) = let a = sum-suc n (λ i. 0) in let rest = sum-zeros n in omega (arith, a, rest)
 
--- no more than all pass a test
-pub sum-passing : (n : ℕ) (f : ℕ → Bool) → sum_below n (λ i. cond (f i) 1 0) ≤ n
-sum-passing zero f = let a = sum-zero (λ i. cond (f i) 1 0) in omega (arith, a)
-sum-passing (suc n) f =
-    let a = sum-suc n (λ i. cond (f i) 1 0) in
-    omega (arith, a, sum-passing n f, one-most (f n)) where
-      one-most : (r : Bool) → cond r 1 0 ≤ 1
-      one-most true = omega arith
-      one-most false = omega arith
+-- one for each
+pub sum-ones : (n : ℕ) (f : ℕ → ℕ) → ((i : ℕ) → f i ≡ 1) → sum_below n f ≡ n
+sum-ones zero f one = sum-zero f
+sum-ones (suc n) f one = let a = sum-suc n f in let rest = sum-ones n f one in let here = one n in omega (arith, a, rest, here)

@@ -30,11 +30,12 @@ RootSays (Win win) n = n ≡ settled_numbers true
 RootSays None n = n ≡ settled_numbers false
 RootSays Spent n = is_settled n ≡ false
 
--- What every answer and refusal leaves, where at most so many positions may be counted. The numbers of the tree are minimum and sum, it has
--- no fewer nodes than before, and with an answer at most twice as many as positions may be counted. The nodes of the compiler stay, and no
--- more are added than positions may be counted. It is `Full` only where so many don't fit, and then it has as many as there can be.
-pub record Leaves {A : Type 0} (most : ℕ) (t u : Tree) (c d : List Node) (result : Result A SearchError) : Type 0 where
+-- What every answer and refusal leaves, where at most so many positions may be counted, and at most so many of them are won. The numbers of
+-- the tree are minimum and sum, it has no fewer nodes than before, and with an answer at most twice as many as positions may be counted.
+-- The nodes of the compiler stay, and no more are added than are won. It is `Full` only where so many don't fit, and then it has as many
+-- as there can be.
+pub record Leaves {A : Type 0} (most wins : ℕ) (t u : Tree) (c d : List Node) (result : Result A SearchError) : Type 0 where
   pub tree : IsTree u
   pub longer : length t.links ≤ length u.links
   pub tree_few : OnOk result (length u.links ≤ 2 * most)
-  pub writes : Writes c d most result
+  pub writes : Writes c d wins result

@@ -1,6 +1,6 @@
 -- A tree of numbers as a tree of the game of threats: the board of each node, what a node with children has tried, and when its
 -- numbers are true.
-use Rattle.std.specs.Prelude.{◌≡◌, ℕ, zero, suc, ◌<◌, ◌≤◌, Bool, true, false, nat_eq, if◌then◌else◌, List, map, length, take, drop}
+use Rattle.std.specs.Prelude.{◌≡◌, ℕ, zero, suc, ◌<◌, ◌≤◌, Bool, true, false, nat_eq, if◌then◌else◌, List, [], map, length, take, drop}
 use Rattle.std.specs.Prelude.{slice_index_or, Contains, ◌⊎◌}
 use Rattle.std.specs.List.{list_any}
 use Rattle.game_rules.specs.Grid.{Grid}
@@ -17,7 +17,7 @@ use Rattle.proof_tree.specs.declared.Kind.TheVariants.{Attack, Defend}
 use Rattle.proof_tree.specs.declared.Link.{Link}
 use Rattle.proof_tree.specs.declared.Numbers.{Numbers}
 use Rattle.proof_number.specs.declared.notes.Note.{Note}
-use Rattle.threat_game.specs.Attacks.{has_reply, has_saving}
+use Rattle.threat_game.specs.Attacks.{has_reply, has_saving, tried_moves}
 use Rattle.threat_game.specs.ThreatGame.{is_threat_move, move_at, LosesToThreats}
 use Rattle.proof_number.specs.Denials.{IsLost, IsRefuted}
 
@@ -119,8 +119,13 @@ abbrev pub IsLostAt : Kind → GameTree → ℕ → Grid → Type 0
 IsLostAt Attack g n b = 3 ≤ n → IsLost g.rule (IsDisproved g) n b
 IsLostAt Defend g n b = IsRefuted g.rule (IsDisproved g) n b
 
+-- the attacker has one move left at most, or none that is to be tried
+abbrev pub IsBare : RuleKind → ℕ → Grid → Type 0
+IsBare rule n b = (n ≤ 1) ⊎ (tried_moves rule b ≡ [])
+
 -- The tree stands for the game from a lawful position: each move goes on, each node with children has tried what is to be tried,
--- open leaves can grow, settled leaves tell truly whether the attacker wins, and a disproved leaf is lost by disproved nodes.
+-- open leaves can grow, settled leaves tell truly whether the attacker wins, and a disproved leaf is lost by disproved nodes. A disproved
+-- root without children has one move left, or no move to try.
 pub record IsGameTree (g : GameTree) : Type 0 where
   pub moves : length g.moves ≡ length g.tree.links
   pub left : length g.left ≡ length g.tree.links
@@ -138,3 +143,5 @@ pub record IsGameTree (g : GameTree) : Type 0 where
   pub lost : (i : ℕ) → i < length g.tree.links → (link_at g.tree.links i).count ≡ 0
       → numbers_at g.tree.numbers i ≡ settled_numbers false
       → IsLostAt (link_at g.tree.links i).kind g (left_at g.left i) (board_at g i)
+  pub root : (link_at g.tree.links 0).count ≡ 0 → numbers_at g.tree.numbers 0 ≡ settled_numbers false
+      → IsBare g.rule (left_at g.left 0) g.start

@@ -1,6 +1,7 @@
 pub mod Notes
 pub mod Denials
 pub mod GameTrees
+pub mod ThreatWins
 pub mod SearchTrees
 pub mod Remembered
 pub mod Searches

@@ -1,12 +1,10 @@
--- How far a search of the game of threats has come: its tree, the positions that are counted, and where it runs out of its budget or of
--- room for its wins.
-use Rattle.std.specs.Prelude.{◌≡◌, ◌⊎◌, ℕ, zero, suc, ◌+◌, ◌-◌, ◌<◌, ◌≤◌, Bool, true, false, ◌&&◌, not, nat_eq, if◌then◌else◌, List, length}
-use Rattle.std.specs.Prelude.{Some}
+-- How far a search of the game of threats has come: its tree, the positions that are counted, and where it runs out of its budget.
+use Rattle.std.specs.Prelude.{◌≡◌, ◌⊎◌, ℕ, zero, suc, ◌+◌, ◌-◌, ◌*◌, ◌<◌, ◌≤◌, Bool, true, false, ◌&&◌, not, nat_eq, if◌then◌else◌}
+use Rattle.std.specs.Prelude.{List, [], length, Some}
 use Rattle.game_rules.specs.Grid.{Grid}
-use Rattle.game_rules.specs.Games.{behind_replies}
+use Rattle.game_rules.specs.Games.{behind_replies, wins_by_threats}
 use Rattle.game_rules.specs.declared.RuleKind.{RuleKind}
 use Rattle.game_rules.specs.declared.Point.{Point}
-use Rattle.strategy_graph.specs.declared.TheConstants.{MAX_NODES}
 use Rattle.proof_tree.specs.Combining.{is_settled, settled_numbers}
 use Rattle.proof_tree.specs.Trees.{IsTree, Tree, leaf_sum, link_at, most_proving, numbers_at}
 use Rattle.proof_tree.specs.declared.Link.{Link}
@@ -15,9 +13,10 @@ use Rattle.proof_tree.specs.declared.Kind.TheVariants.{Attack, Defend}
 use Rattle.threat_game.specs.declared.doubles.DoublePoint.{DoublePoint}
 use Rattle.threat_game.specs.declared.replies.Children.{Children}
 use Rattle.threat_game.specs.Attacks.{IsDoubleWin, tried_moves}
-use Rattle.threat_game.specs.Replies.{AreReplies, answer_nodes}
+use Rattle.threat_game.specs.Replies.{AreReplies, answer_nodes, one_if}
 use Rattle.threat_game.specs.ThreatGame.{threat_tree}
 use Rattle.proof_number.specs.GameTrees.{GameTree, IsGameTree, board_at, left_at}
+use Rattle.proof_number.specs.ThreatWins.{threat_wins}
 
 -- ---- what is counted
 
@@ -39,6 +38,10 @@ is_attack Defend = false
 abbrev pub attack_nodes : List Link → ℕ
 attack_nodes links = sum_below (length links) (λ i. if is_attack (link_at links i).kind then 1 else 0)
 
+-- 1 for a node of the attacker that is not proved
+abbrev pub unproved : Tree → ℕ → ℕ
+unproved t i = if is_attack (link_at t.links i).kind && not (nat_eq (numbers_at t.numbers i).proof 0) then 1 else 0
+
 -- how many positions of the attacker may be counted behind an open leaf
 abbrev pub attacks_behind : Kind → RuleKind → ℕ → Grid → ℕ
 attacks_behind Attack rule n b = threat_tree rule n b - 1
@@ -49,6 +52,11 @@ abbrev pub defences_behind : Kind → RuleKind → ℕ → Grid → ℕ
 defences_behind Attack rule n b = threat_tree rule n b - 1
 defences_behind Defend rule n b = behind_replies rule (threat_tree rule n) b - 1
 
+-- how many won positions of the attacker there are behind an open leaf
+abbrev pub wins_behind : Kind → RuleKind → ℕ → Grid → ℕ
+wins_behind Attack rule n b = threat_wins rule n b - one_if (wins_by_threats rule n b)
+wins_behind Defend rule n b = behind_replies rule (threat_wins rule n) b
+
 -- what is counted behind node i, if it is an open leaf
 abbrev pub behind_at : (Kind → RuleKind → ℕ → Grid → ℕ) → GameTree → ℕ → ℕ
 behind_at count g i = if is_open_leaf g.tree i then count (link_at g.tree.links i).kind g.rule (left_at g.left i) (board_at g i) else 0
@@ -58,13 +66,15 @@ abbrev pub behind_leaves : (Kind → RuleKind → ℕ → Grid → ℕ) → Game
 behind_leaves count g = sum_below (length g.tree.links) (behind_at count g)
 
 -- So many positions of each side are counted: no more than the budget, and with those behind the open leaves no more than the game
--- of threats has from the root. Each node counts as one, and the attacker's as its own. Once the root has
--- children the numbers of all leaves add up to no more than there are nodes.
+-- of threats has from the root. Each node of the defender counts as one. So does each of the attacker's, and one that is proved as two
+-- more at most, for the answers to a double point. Once the root has children the numbers of all leaves add up to no more than there are
+-- nodes.
 pub record IsCounted (g : GameTree) (budget attacked defended : ℕ) : Type 0 where
   pub attacks : attacked + behind_leaves attacks_behind g ≤ threat_tree g.rule (left_at g.left 0) g.start
   pub defences : defended + behind_leaves defences_behind g ≤ threat_tree g.rule (left_at g.left 0) g.start
-  pub nodes : length g.tree.links ≤ attacked + defended
   pub attackers : attack_nodes g.tree.links ≤ attacked
+  pub few_attacks : attacked + 2 * sum_below (length g.tree.links) (unproved g.tree) ≤ 3 * attack_nodes g.tree.links
+  pub defenders : defended + attack_nodes g.tree.links ≡ length g.tree.links
   pub attacked_fits : attacked ≤ budget
   pub defended_fits : defended ≤ budget
   pub leaves : (kind : Kind) → 1 < length g.tree.links → leaf_sum kind g.tree.links g.tree.numbers ≤ length g.tree.links
@@ -89,39 +99,25 @@ AtMostProving rule b t moves left P =
     P (link_at t.links (most_proving t)).kind (left_at left (most_proving t))
     (board_at (record { rule = rule; start = b; tree = t; moves = moves; left = left }) (most_proving t))
 
--- so many positions of the attacker are counted where an open leaf is settled or gets its children: none, those after the replies to a
--- double point that wins, or those after the replies that get a node
-abbrev pub AddsAttacks : RuleKind → ℕ → Kind → ℕ → Grid → Type 0
-AddsAttacks rule more Attack n b = (more ≡ 0) ⊎ ((d : DoublePoint) × IsDoubleWin rule b d × (more ≡ answer_nodes rule b d))
-AddsAttacks rule more Defend n b = (more ≡ 0) ⊎ ((children : Children) × AreReplies rule n b (Some children) × (more ≡ children.count))
+-- To go on at an open leaf, with so many positions of each side counted, would count more of one side than the budget: at the attacker's
+-- with the answers to a double point that wins or with the moves that are to be tried, at the defender's with the replies that get a node.
+abbrev pub PassesBudget : RuleKind → ℕ → ℕ → ℕ → Kind → ℕ → Grid → Type 0
+PassesBudget rule budget attacked defended Attack n b =
+    ((d : DoublePoint) × IsDoubleWin rule b d × (budget < attacked + answer_nodes rule b d))
+    ⊎ (budget < defended + length (tried_moves rule b))
+PassesBudget rule budget attacked defended Defend n b =
+    (children : Children) × AreReplies rule n b (Some children) × (budget < attacked + children.count)
 
--- more positions of the defender than so many are counted where a leaf of the attacker gets a child for each move that is to be tried
-abbrev pub DefencesPass : RuleKind → ℕ → ℕ → Kind → ℕ → Grid → Type 0
-DefencesPass rule most defended Attack n b = most < defended + length (tried_moves rule b)
-DefencesPass rule most defended Defend n b = ⊥
-
--- with so many before and those of the most-proving leaf more positions of the attacker are counted than so many at most
-pub record AttacksPass (rule : RuleKind) (limit budget : ℕ) (b : Grid) (t : Tree) (so_far : IsSearchTree rule limit budget b t)
-    (before most : ℕ) : Type 0 where
-  pub more : ℕ
-  pub adds : AtMostProving rule b t so_far.moves so_far.left (AddsAttacks rule more)
-  pub pass : most < before + so_far.attacked + more
-
--- The search within so many moves has run out: its root is not settled, and to go on at the most-proving leaf more positions of one side
--- would be counted than the budget.
+-- The search within so many moves has run out: its root is not settled, and to go on at the most-proving leaf would count more
+-- positions of one side than the budget.
 pub record HasRunOut (rule : RuleKind) (limit budget : ℕ) (b : Grid) (t : Tree) : Type 0 where
   pub so_far : IsSearchTree rule limit budget b t
   pub undecided : is_settled (numbers_at t.numbers 0) ≡ false
-  pub over : AttacksPass rule limit budget b t so_far 0 budget
-      ⊎ AtMostProving rule b t so_far.moves so_far.left (DefencesPass rule budget so_far.defended)
+  pub over : AtMostProving rule b t so_far.moves so_far.left (PassesBudget rule budget so_far.attacked so_far.defended)
 
--- a tree within so many moves whose root is disproved; within three moves it may be the root alone
+-- A tree within so many moves whose root is disproved. The root has children, one for each move that is to be tried, unless one move
+-- alone is left or there is none to try.
 pub record HasDisproved (rule : RuleKind) (limit budget : ℕ) (b : Grid) (t : Tree) : Type 0 where
   pub so_far : IsSearchTree rule limit budget b t
   pub lost : numbers_at t.numbers 0 ≡ settled_numbers false
-
--- The search within so many moves has no room for its wins: with those of the most-proving leaf more positions of the attacker are
--- counted than a compiler that had so many nodes before has room for.
-pub record HasNoRoom (rule : RuleKind) (limit budget : ℕ) (b : Grid) (t : Tree) (before : ℕ) : Type 0 where
-  pub so_far : IsSearchTree rule limit budget b t
-  pub full : AttacksPass rule limit budget b t so_far before MAX_NODES
+  pub grown : (limit ≡ 1) ⊎ (tried_moves rule b ≡ []) ⊎ (0 < (link_at t.links 0).count)

@@ -1,9 +1,9 @@
 -- What holds of a search between its steps: its tree stands for the game, won positions are written, and positions are counted.
-use Rattle.std.specs.Prelude.{◌≡◌, Result, Ok, Err, OnOk, IsErrOf, slice_set, min, ℕ, ◌+◌, ◌-◌, ◌<◌, ◌≤◌, Bool, true, false, ◌&&◌}
+use Rattle.std.specs.Prelude.{◌≡◌, Result, Ok, Err, OnOk, slice_set, min, ℕ, ◌+◌, ◌-◌, ◌<◌, ◌≤◌, Bool, true, false, ◌&&◌}
 use Rattle.std.specs.Prelude.{nat_eq}
 use Rattle.std.specs.Prelude.{if◌then◌else◌, List, [], ◌++◌, length}
 use Rattle.game_rules.specs.Grid.{Grid}
-use Rattle.game_rules.specs.Games.{WinsByThreats}
+use Rattle.game_rules.specs.Games.{WinsByThreats, wins_by_threats}
 use Rattle.game_rules.specs.Play.{after, outcome}
 use Rattle.game_rules.specs.declared.Outcome.TheVariants.{GoesOn}
 use Rattle.game_rules.specs.declared.Point.{Point}
@@ -24,13 +24,14 @@ use Rattle.proof_number.specs.declared.search.Search.{Search}
 use Rattle.proof_number.specs.declared.search.Step.{Step}
 use Rattle.proof_number.specs.declared.search.Step.TheVariants.{Done, Spent}
 use Rattle.strategy_compiler.specs.declared.error.SearchError.{SearchError}
-use Rattle.strategy_compiler.specs.declared.error.SearchError.TheVariants.{Full}
 use Rattle.strategy_compiler.specs.declared.wins.WrittenWin.{WrittenWin}
 use Rattle.threat_game.specs.ThreatGame.{threat_tree}
+use Rattle.threat_game.specs.Replies.{one_if}
 use Rattle.proof_number.specs.Notes.{note_at, win_of}
 use Rattle.proof_number.specs.GameTrees.{GameTree, IsGameTree, among, board_at, left_at, moves_of, noted_tree}
 use Rattle.proof_number.specs.Remembered.{IsTrueMemo}
-use Rattle.proof_number.specs.SearchTrees.{HasNoRoom, HasRunOut, IsCounted, is_attack, is_open_leaf, sum_below}
+use Rattle.proof_number.specs.SearchTrees.{HasRunOut, IsCounted, behind_leaves, is_attack, is_open_leaf, sum_below, wins_behind}
+use Rattle.proof_number.specs.ThreatWins.{threat_wins}
 
 -- the tree of the search as a tree of the game
 abbrev pub game_of : RuleKind → Search → Tree → GameTree
@@ -74,13 +75,18 @@ pub record AreWritten (g : GameTree) (notes : List Note) (c : List Node) (way : 
 abbrev pub closed_nodes : Tree → ℕ
 closed_nodes t = sum_below (length t.links) (λ i. if is_open_leaf t i then 0 else 1)
 
--- 1 for a node of the attacker whose note tells no win
-abbrev pub unwritten : Tree → List Note → ℕ → ℕ
-unwritten t notes i = if is_attack (link_at t.links i).kind && nat_eq (note_at notes i).moves 0 then 1 else 0
+-- what f says of a node of the attacker whose note tells no win
+abbrev pub unwritten : (ℕ → ℕ) → Tree → List Note → ℕ → ℕ
+unwritten f t notes i = if is_attack (link_at t.links i).kind && nat_eq (note_at notes i).moves 0 then f i else 0
+
+-- 1 for a node of the attacker at which it wins by threats
+abbrev pub won_at : GameTree → ℕ → ℕ
+won_at g i = one_if (wins_by_threats g.rule (left_at g.left i) (board_at g i))
 
 -- What holds of a search, its tree and the nodes of its compiler between steps, and on the way back from a leaf, where the nodes
 -- for which way holds may be proved and have no win yet. No more nodes were added to the compiler than positions are counted,
--- beside one for each node of the attacker without a win.
+-- beside one for each node of the attacker without a win; nor than positions of the game of threats are won, beside those that are not
+-- written and those behind open leaves.
 pub record IsSearching (rule : RuleKind) (s : Search) (t : Tree) (c : List Node) (way : ℕ → Type 0) : Type 0 where
   pub tree : IsTree t
   pub game : IsGameTree (game_of rule s t)
@@ -91,7 +97,9 @@ pub record IsSearching (rule : RuleKind) (s : Search) (t : Tree) (c : List Node)
   pub remembered : IsTrueMemo rule c (game_of rule s t) s.settled
   pub counted : IsCounted (game_of rule s t) s.budget s.attacked s.defended
   pub compiled : IsCompiled c
-  pub few : length c + sum_below (length t.links) (unwritten t s.notes.items) ≤ s.before + s.attacked
+  pub few : length c + sum_below (length t.links) (unwritten (λ i. 1) t s.notes.items) ≤ s.before + s.attacked
+  pub wins : length c + sum_below (length t.links) (unwritten (won_at (game_of rule s t)) t s.notes.items)
+      + behind_leaves wins_behind (game_of rule s t) ≤ s.before + threat_wins rule s.depth s.root
 
 -- the same as one word, which proofs open where they need a part of it
 pub data Searches (rule : RuleKind) (s : Search) (t : Tree) (c : List Node) (way : ℕ → Type 0) : Type 0 where
@@ -158,16 +166,19 @@ OnStep (Err e) D S E = E
 unfoldable pub room_in : ℕ → List Node → ℕ
 room_in most c = most - length c
 
--- no more nodes are added to the compiler than positions may be counted, the lesser of the budget and those of the game of threats
+-- no more nodes are added to the compiler than positions may be counted, nor than positions of the game of threats are won
 unfoldable pub most_nodes : RuleKind → Search → ℕ
-most_nodes rule s = s.before + min s.budget (threat_tree rule s.depth s.root)
+most_nodes rule s = s.before + min s.budget (threat_wins rule s.depth s.root)
 
--- what comes of a leaf that is to be settled or to get children, and what is written for it; it is `Full` only where there is no room
+-- nor than positions are counted
+unfoldable pub nodes_so_far : RuleKind → Search → ℕ
+nodes_so_far rule s = s.before + min s.attacked (threat_wins rule s.depth s.root)
+
+-- what comes of a leaf that is to be settled or to get children, and what is written for it
 pub record IsTried (rule : RuleKind) (old new : Search) (t u : Tree) (c d : List Node) (leaf : ℕ) (result : Result Step SearchError) :
     Type 0 where
   pub step : OnStep result (Grows rule old new t u d leaf) (HasSpent rule old new t u) (HasStayed old new t u)
   pub writes : Writes c d (room_in (most_nodes rule old) c) result
-  pub no_room : IsErrOf result Full → HasNoRoom rule old.depth old.budget old.root t old.before
 
 -- a step was done: all holds again, and one open leaf fewer is left to be closed
 pub record HasStepped (rule : RuleKind) (new : Search) (t u : Tree) (d : List Node) : Type 0 where
@@ -188,22 +199,21 @@ pub record IsStep (rule : RuleKind) (old new : Search) (t u : Tree) (c d : List 
   pub tree : IsTree u
   pub longer : length t.links ≤ length u.links
   pub writes : Writes c d (room_in (most_nodes rule old) c) result
-  pub no_room : IsErrOf result Full → HasNoRoom rule old.depth old.budget old.root u old.before
 
 -- A node is passed on the way back from a leaf: it has its win, if it is a proved node of the attacker. No more nodes are written than
--- positions are counted.
+-- positions are counted, nor than are won.
 pub record IsPassed {A : Type 0} (rule : RuleKind) (old new : Search) (t : Tree) (c d : List Node) (node : ℕ)
     (result : Result A SearchError) : Type 0 where
   pub searching : OnOk result (Searches rule new t d (IsAbove t.links node))
   pub keeps : KeepsTree old new
-  pub writes : Writes c d (room_in (old.before + old.attacked) c) result
+  pub writes : Writes c d (room_in (nodes_so_far rule old) c) result
 
 -- all nodes up to the root are passed, and the moves are taken back
 pub record IsBack (rule : RuleKind) (old new : Search) (t : Tree) (c d : List Node) (result : Result (Unit {0}) SearchError) : Type 0 where
   pub searching : OnOk result (Searches rule new t d (λ i. ⊥))
   pub aim : IsSameAim old new
   pub board : new.board ≡ old.root
-  pub writes : Writes c d (room_in (old.before + old.attacked) c) result
+  pub writes : Writes c d (room_in (nodes_so_far rule old) c) result
 
 -- the leaf of the tree is settled, and only the numbers above it changed
 pub record IsSettledAt (t u : Tree) (leaf : ℕ) (proved : Bool) : Type 0 where
@@ -257,4 +267,4 @@ pub record HasBegun (rule : RuleKind) (old new : Search) (u : Tree) (c d : List 
   pub board : new.board ≡ old.board
   pub tree : IsTree u
   pub one_node : length u.links ≡ 1
-  pub writes : Writes c d 1 result
+  pub writes : Writes c d (min 1 (threat_wins rule old.depth old.root)) result

@@ -5,16 +5,16 @@
 //! win is compiled already.
 #![tactic(auto)]
 
-ghost use Rattle.std.specs.Prelude.{◌≡◌, ◌⊎◌, ◌≤◌, ◌<◌, false, length, min, IfOk, IsErrOf, OnOk};
-ghost use Rattle.strategy_graph.specs.declared.TheConstants.{MAX_NODES};
+ghost use Rattle.std.specs.Prelude.{◌≡◌, ◌≤◌, ◌<◌, false, length, min, IfOk, OnOk};
 ghost use Rattle.proof_tree.specs.Combining.{is_settled};
 ghost use Rattle.proof_tree.specs.Trees.{numbers_at};
 ghost use Rattle.proof_number.specs.declared.TheConstants.{MAX_DEPTH, MAX_BUDGET};
 ghost use Rattle.threat_game.specs.ThreatGame.{threat_tree};
 ghost use Rattle.proof_number.specs.Answers.{OnWin, HasNoThreatWin, RootSays, Leaves};
 ghost use Rattle.proof_number.specs.Denials.{HasDenial};
-ghost use Rattle.proof_number.specs.SearchTrees.{HasNoRoom, HasRunOut, IsSearchTree};
+ghost use Rattle.proof_number.specs.SearchTrees.{HasDisproved, HasRunOut, IsSearchTree};
 ghost use Rattle.proof_number.specs.Searches.{CanBegin};
+ghost use Rattle.proof_number.specs.ThreatWins.{threat_wins};
 ghost use Rattle.proof_number.specs.Told.{IsTold};
 ghost use Rattle.threat_game.specs.Wins.{IsThreatWin};
 
@@ -43,19 +43,19 @@ pub enum ProofAnswer {
 ///
 /// - `Win` comes only where there is such a win. The node is accepted and wins within its moves, at most `depth`, whatever
 ///   the replies. The root of the tree is proved.
-/// - `None` comes only where there is none within `depth` moves, and so none by continuous fours. The root is disproved. A denial shows
-///   it, of no more positions of the attacker than may be counted, the lesser of the budget and those of the game of threats. One
-///   with two moves left at most need not be among them.
+/// - `None` comes only where there is none within `depth` moves, and so none by continuous fours. The root is disproved, and has a
+///   child for each move that is to be tried, unless `depth` is 1. A denial shows it, of no more positions of the attacker than may be
+///   counted, the lesser of the budget and those of the game of threats. One with two moves left at most need not be among them.
 /// - `Spent` comes only where the game of threats has more positions within `depth` moves than the budget, and the search has run out:
 ///   the root is not settled, and to go on at the most-proving leaf would count more positions of one side than the budget.
 ///
-/// With each answer the tree is one of the game, and lists what was counted, for neither side more than the budget.
+/// With each answer the tree is one of the game, and of each side no more positions are counted than the budget: each node counts, and a
+/// proved one of the attacker as two more at most.
 ///
-/// No more nodes are added to the compiler than positions may be counted, the lesser of the budget and those of the game of threats,
-/// those before a refusal too; with an answer the tree has at most twice as many. `Full` comes only where the compiler has no room for
-/// as many, and more positions of the attacker are counted than it had room for, unless it was full before; `Memory` where there is no
-/// memory. After each answer and refusal the view is as before, and the compiler's earlier nodes
-/// stay; the tree keeps the nodes that were made.
+/// No more nodes are added to the compiler than the budget and than positions of the game of threats are won, those before a refusal
+/// too; with an answer the tree has at most twice as many nodes as positions may be counted. `Full` comes only where the compiler has
+/// no room for as many; `Memory` where there is no memory. After each answer and refusal the view is as before, and the compiler's
+/// earlier nodes stay; the tree keeps the nodes that were made.
 pub fn proof_number<R: Rule, V: Seen<R>>(
     alloc: Global,
     view: &mut V,
@@ -77,15 +77,14 @@ pub fn proof_number<R: Rule, V: Seen<R>>(
     ensures spent { IfOk result (λ a. a ≡ ProofAnswer.Spent → budget < threat_tree R.KIND depth (V.position view.old)) }
     ensures root { IfOk result (λ a. RootSays a (numbers_at tree.new.numbers 0)) }
 
-    // The tree lists what was counted, when the search has run out, and when there is no room for its wins.
+    // What the tree lists with each answer, after a denial, and where the search has run out.
     ensures searched { OnOk result (IsSearchTree R.KIND depth budget (V.position view.old) tree.new) }
+    ensures looked { IfOk result (λ a. a ≡ ProofAnswer.None → HasDisproved R.KIND depth budget (V.position view.old) tree.new) }
     ensures ran_out { IfOk result (λ a. a ≡ ProofAnswer.Spent → HasRunOut R.KIND depth budget (V.position view.old) tree.new) }
-    ensures no_room { IsErrOf result SearchError.Full → (MAX_NODES ≤ length compiler.old)
-        ⊎ HasNoRoom R.KIND depth budget (V.position view.old) tree.new (length compiler.old) }
 
     // What every answer and refusal leaves, and when the compiler is full.
     ensures leaves { Leaves (min budget (threat_tree R.KIND depth (V.position view.old)))
-        tree.old tree.new compiler.old compiler.new result }
+        (min budget (threat_wins R.KIND depth (V.position view.old))) tree.old tree.new compiler.old compiler.new result }
     ensures same { V.position view.new ≡ V.position view.old }
 {
     // This tells what holds of every tree.

@@ -169,6 +169,10 @@ impl Search {
         ensures tried { IsTried R.KIND self.old self.new tree.old tree.new compiler.old compiler.new leaf result }
         ensures same { V.position view.new ≡ V.position view.old }
     {
+        if leaf == 0 {
+            // Nothing is remembered before the root is looked at.
+            return self.try_attacks::<R, V>(looks, view, tree, compiler, leaf);
+        }
         match self.recall::<R, V>(view, leaf) {
             Some(Settled::Won(win)) => {
                 self.settle_won(tree, leaf, win);

@@ -17,8 +17,7 @@ use Rattle.threat_moves.specs.declared.threat_list.Threat.{Threat}
 use Rattle.line_proof.specs.Lines.{line_wins, line_tree}
 use Rattle.line_proof.specs.declared.proof.LineAnswer.{LineAnswer}
 use Rattle.line_proof.specs.declared.proof.LineAnswer.TheVariants.{Proved, Fails}
-use Rattle.threat_game.proofs.Common.{threat_tree}
-use Rattle.threat_game.proofs.TreeLaws.{tree-more}
+use Rattle.proof_number.proofs.WinLaws.{wins-more}
 use Rattle.position_files.specs.declared.PositionFile.{PositionFile}
 use Rattle.command_base.specs.declared.answer.Answer.{Answer}
 use Rattle.command_base.specs.declared.status.Status.TheVariants.{Done, NotFound, Spent, Full}
@@ -154,5 +153,5 @@ longer-win rule n m nodes b t win few is = (
     by_threats = WinsUnder-more (has_threat rule) rule n m b few is.0.by_threats;
     within = is.0.within;
   },
-  let more = tree-more rule n m b few in let short = is.1 in omega (arith, more, short),
+  let more = wins-more rule n m b few in let short = is.1 in omega (arith, more, short),
 )

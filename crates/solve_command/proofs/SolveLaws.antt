@@ -62,9 +62,7 @@ module _ (limit nodes : ℕ) (run : Run) where
       won = λ e. writes win way;
       none = λ (e : run.status ≡ 9). absurd (let no : 0 ≡ 9 = sym here ∙ e in cc);
       denial = λ (e : run.status ≡ 9). absurd (let no : 0 ≡ 9 = sym here ∙ e in cc);
-      looked = λ (e : run.status ≡ 9). absurd (let no : 0 ≡ 9 = sym here ∙ e in cc);
       spent = λ (e : run.status ≡ 5). absurd (let no : 0 ≡ 5 = sym here ∙ e in cc);
-      ran_out = λ (e : run.status ≡ 5). absurd (let no : 0 ≡ 5 = sym here ∙ e in cc);
       full = λ (e : run.status ≡ 12). absurd (let no : 0 ≡ 12 = sym here ∙ e in cc);
       by_fours = λ h. inl here;
       by_line = λ h. inl here;
@@ -85,9 +83,7 @@ module _ (limit nodes : ℕ) (run : Run) where
           won = λ (e : run.status ≡ 0). absurd (let no : 9 ≡ 0 = sym here ∙ e in cc);
           none = λ e. unwon.none;
           denial = λ e. unwon.denial;
-          looked = λ e. unwon.looked;
           spent = λ (e : run.status ≡ 5). absurd (let no : 9 ≡ 5 = sym here ∙ e in cc);
-          ran_out = λ (e : run.status ≡ 5). absurd (let no : 9 ≡ 5 = sym here ∙ e in cc);
           full = λ (e : run.status ≡ 12). absurd (let no : 9 ≡ 12 = sym here ∙ e in cc);
           by_fours = λ h. absurd (unwon.left.no_fours h);
           by_line = λ h. absurd (unwon.left.no_line h);
@@ -99,9 +95,7 @@ module _ (limit nodes : ℕ) (run : Run) where
           won = λ (e : run.status ≡ 0). absurd (let no : 5 ≡ 0 = sym here ∙ e in cc);
           none = λ (e : run.status ≡ 9). absurd (let no : 5 ≡ 9 = sym here ∙ e in cc);
           denial = λ (e : run.status ≡ 9). absurd (let no : 5 ≡ 9 = sym here ∙ e in cc);
-          looked = λ (e : run.status ≡ 9). absurd (let no : 5 ≡ 9 = sym here ∙ e in cc);
           spent = λ e. undecided.more;
-          ran_out = λ e. undecided.ran_out;
           full = λ (e : run.status ≡ 12). absurd (let no : 5 ≡ 12 = sym here ∙ e in cc);
           by_fours = λ h. absurd (undecided.left.no_fours h);
           by_line = λ h. absurd (undecided.left.no_line h);
@@ -113,9 +107,7 @@ module _ (limit nodes : ℕ) (run : Run) where
           won = λ (e : run.status ≡ 0). absurd (let no : 12 ≡ 0 = sym here ∙ e in cc);
           none = λ (e : run.status ≡ 9). absurd (let no : 12 ≡ 9 = sym here ∙ e in cc);
           denial = λ (e : run.status ≡ 9). absurd (let no : 12 ≡ 9 = sym here ∙ e in cc);
-          looked = λ (e : run.status ≡ 9). absurd (let no : 12 ≡ 9 = sym here ∙ e in cc);
           spent = λ (e : run.status ≡ 5). absurd (let no : 12 ≡ 5 = sym here ∙ e in cc);
-          ran_out = λ (e : run.status ≡ 5). absurd (let no : 12 ≡ 5 = sym here ∙ e in cc);
           full = λ e. great.great;
           by_fours = λ h. absurd (great.later h);
           by_line = λ h. inr (inl here);
@@ -127,9 +119,7 @@ module _ (limit nodes : ℕ) (run : Run) where
     won = λ e. absurd (silent run.status (inl y) (inl e));
     none = λ e. absurd (silent run.status (inl y) (inr (inl e)));
     denial = λ e. absurd (silent run.status (inl y) (inr (inl e)));
-    looked = λ e. absurd (silent run.status (inl y) (inr (inl e)));
     spent = λ e. absurd (silent run.status (inl y) (inr (inr (inl e))));
-    ran_out = λ e. absurd (silent run.status (inl y) (inr (inr (inl e))));
     full = λ e. absurd (silent run.status (inl y) (inr (inr (inr e))));
     by_fours = λ h. inr y;
     by_line = λ h. inr (inr y);

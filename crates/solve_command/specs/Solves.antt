@@ -14,9 +14,10 @@ use Rattle.threat_space.specs.declared.TheConstants.{MAX_LENGTH}
 use Rattle.line_proof.specs.Lines.{line_wins, line_tree}
 use Rattle.threat_game.specs.ThreatGame.{threat_tree}
 use Rattle.threat_game.specs.Wins.{IsThreatWin}
-use Rattle.proof_tree.specs.Trees.{Tree}
 use Rattle.proof_number.specs.Denials.{HasDenial}
-use Rattle.proof_number.specs.SearchTrees.{HasDisproved, HasNoRoom, HasRunOut}
+use Rattle.proof_number.specs.SearchTrees.{HasDisproved, HasRunOut}
+use Rattle.proof_number.specs.ThreatWins.{threat_wins}
+use Rattle.proof_tree.specs.Trees.{Tree}
 use Rattle.position_files.specs.declared.PositionFile.{PositionFile}
 use Rattle.renju_io.specs.Told.{Takes}
 use Rattle.command_base.specs.declared.status.Status.{Status}
@@ -69,13 +70,13 @@ pub record IsLeftOver (limit nodes : ℕ) (file : PositionFile) : Type 0 where
   pub no_fours : ¬ IsWonByFours limit nodes file
   pub no_line : ¬ IsWonByLine limit nodes file
 
--- the first two steps have no win, there is one by threats, and it is written, in no more nodes than positions may be counted: the
--- lesser of the budget and of those of the game of threats
+-- the first two steps have no win, there is one by threats, and it is written, in no more nodes than the budget and than positions of the
+-- game of threats are won
 pub record IsThreatsWin (limit nodes : ℕ) (file : PositionFile) (status : Status) (text : List ℕ) : Type 0 where
   pub left : IsLeftOver limit nodes file
   pub by_threats : WinsByThreats file.kind limit file.board
   pub win : IsWinText limit file text
-  pub few : length win.table ≤ min nodes (threat_tree file.kind limit file.board)
+  pub few : length win.table ≤ min nodes (threat_wins file.kind limit file.board)
   pub ends : status ≡ Done
 
 -- the first two steps have no win, and there is none by threats: a denial shows it, of no more positions than may be counted, the lesser
@@ -97,12 +98,12 @@ pub record IsUndecided (limit nodes : ℕ) (file : PositionFile) (status : Statu
   pub ends : status ≡ Spent
   pub line : text ≡ spent_line
 
--- more nodes than a table has may be needed: for the proof of the first sequence, or for the game of threats within the budget, and the
--- search of it has no room for them in a compiler of its own
+-- more nodes than a table has may be needed: for the proof of the first sequence, or, where the first two steps have no win, since both
+-- the budget and the won positions of the game of threats are more
 abbrev pub MayBeTooGreat : ℕ → ℕ → PositionFile → Type 0
 MayBeTooGreat limit nodes file =
     ((line : List Threat) × IsFirstLine limit nodes file line × (MAX_NODES < line_tree file.kind line limit file.board))
-    ⊎ ((MAX_NODES < min nodes (threat_tree file.kind limit file.board)) × ((t : Tree) × HasNoRoom file.kind limit nodes file.board t 0))
+    ⊎ (IsLeftOver limit nodes file × (MAX_NODES < min nodes (threat_wins file.kind limit file.board)))
 
 -- the first step has no win, and a later one has no room for its table
 pub record IsTooGreat (limit nodes : ℕ) (file : PositionFile) (status : Status) (text : List ℕ) : Type 0 where
@@ -123,17 +124,16 @@ SolutionSays limit nodes file status text =
     ⊎ IsTooGreat limit nodes file status text
 
 -- What a search for a win by threats within so many moves, with so many positions to look at, comes to. The compiler of a win has no
--- more nodes than positions may be counted, and a denial no more positions. Over the budget, or with no room, the search has run out, or
--- has no room, within these moves.
+-- more nodes than the budget and than positions of the game of threats are won, and a denial no more positions than may be counted. Over
+-- the budget it is the search within these moves that has run out.
 abbrev pub IsToldByThreats : RuleKind → ℕ → ℕ → Grid → Searched → Type 0
 IsToldByThreats rule limit nodes b (Win compiler win) =
-    IsThreatWin rule limit b compiler win × (length compiler ≤ min nodes (threat_tree rule limit b))
+    IsThreatWin rule limit b compiler win × (length compiler ≤ min nodes (threat_wins rule limit b))
 IsToldByThreats rule limit nodes b NoWin =
     (¬ WinsByThreats rule limit b) × HasDenial rule limit b (min nodes (threat_tree rule limit b))
     × ((t : Tree) × HasDisproved rule limit nodes b t)
 IsToldByThreats rule limit nodes b OverBudget = (nodes < threat_tree rule limit b) × ((t : Tree) × HasRunOut rule limit nodes b t)
-IsToldByThreats rule limit nodes b NoRoom =
-    (MAX_NODES < min nodes (threat_tree rule limit b)) × ((t : Tree) × HasNoRoom rule limit nodes b t 0)
+IsToldByThreats rule limit nodes b NoRoom = MAX_NODES < min nodes (threat_wins rule limit b)
 
 -- the words `solve DEPTH NODES`, with both numbers in decimal without leading zeros
 abbrev pub solve_words : ℕ → ℕ → List (List ℕ)
@@ -152,12 +152,12 @@ solve_command depth nodes = record {
 
 -- The side to move wins within the limit in one of the ways that are searched, and so many nodes are no more than that way may need: by
 -- fours, two for each move; along its first sequence of threats, for whose search the budget is enough, those of a proof; or by
--- threats whatever the order, one for each position that may be counted, of which there are no more than the budget.
+-- threats whatever the order, one for each position of the game of threats that is won, and no more than the budget.
 abbrev pub IsWonByAStep : ℕ → ℕ → PositionFile → ℕ → Type 0
 IsWonByAStep limit nodes file count =
     (IsWonByFours limit nodes file × (count ≤ 2 * limit))
     ⊎ ((along : IsWonByLine limit nodes file) × (count ≤ line_tree file.kind along.line limit file.board))
-    ⊎ (WinsByThreats file.kind limit file.board × (count ≤ min nodes (threat_tree file.kind limit file.board)))
+    ⊎ (WinsByThreats file.kind limit file.board × (count ≤ min nodes (threat_wins file.kind limit file.board)))
 
 -- The output took the text of a table whose last node is accepted, whole, and the side to move wins within the limit, in one of the
 -- ways that are searched, for which the table has no more nodes than it may need.
@@ -174,19 +174,17 @@ SpeaksOfSolution number = (number ≡ status_number Done) ⊎ (number ≡ status
     (number ≡ status_number Full)
 
 -- What the statuses of `solve` say of the lawful position that is the input: 0 that the table of a win by fours, along a sequence or by
--- threats is written; 9 that there is no win by threats, that a denial shows it of no more positions than may be counted, the lesser of
--- the budget and those of the game of threats, and that a tree of it has a disproved root; 5 that this game has more positions
--- than the budget, and that counts of a tree of it within all of the moves pass it; 12 that a table may have too many nodes. One of them
--- comes, unless the status is one that stands in place of each. Where the first step has a win it is 0, and where the second has one 0 or
--- 12.
+-- threats is written; 9 that there is no win by threats, and that a denial shows it of no more positions than may be counted, the lesser of
+-- the budget and those of the game of threats; 5 that this game has more positions than the budget; 12 that a table may have too many
+-- nodes.
+-- One of them comes, unless the status is one that stands in place of each. Where the first step has a win it is 0, and where the second
+-- has one 0 or 12.
 pub record IsSolved (limit nodes : ℕ) (file : PositionFile) (run : Run) : Type 0 where
   pub won : run.status ≡ status_number Done → WritesSolution limit nodes file run.output
   pub none : run.status ≡ status_number NotFound → ¬ WinsByThreats file.kind limit file.board
   pub denial : run.status ≡ status_number NotFound
       → HasDenial file.kind limit file.board (min nodes (threat_tree file.kind limit file.board))
-  pub looked : run.status ≡ status_number NotFound → (t : Tree) × HasDisproved file.kind limit nodes file.board t
   pub spent : run.status ≡ status_number Spent → nodes < threat_tree file.kind limit file.board
-  pub ran_out : run.status ≡ status_number Spent → (t : Tree) × HasRunOut file.kind limit nodes file.board t
   pub full : run.status ≡ status_number Full → MayBeTooGreat limit nodes file
   pub by_fours : IsWonByFours limit nodes file → (run.status ≡ status_number Done) ⊎ IsYielded run.status
   pub by_line : IsWonByLine limit nodes file → (run.status ≡ status_number Done) ⊎ (run.status ≡ status_number Full) ⊎ IsYielded run.status

@@ -9,7 +9,7 @@ pub mod TreeLaws
 -- one reply that stands for others
 pub mod Kept
 -- wins by a double point, their nodes, and new double points
-mod DoubleLaws
+pub mod DoubleLaws
 -- moves where each goes on; where an escape meets each of them there is no win
 mod FreeMoves
 -- where new double points can be, and the stones around a point as bits

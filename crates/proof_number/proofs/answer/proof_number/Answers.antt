@@ -1,7 +1,4 @@
-use Rattle.std.proofs.Common.{◌⊎◌, ◌≤◌, subst, length, ℕ}
-use Rattle.strategy_graph.specs.declared.TheConstants.{MAX_NODES}
-use Rattle.proof_number.proofs.Common.{HasNoRoom}
-use Rattle.proof_number.proofs.Ending.{can-begin, tells-denial, tells-none, tells-out, tells-spent, tells-win, told-leaves, told-room}
+use Rattle.proof_number.proofs.Ending.{can-begin, tells-denial, tells-disproved, tells-none, tells-out, tells-spent, tells-win, told-leaves}
 use Rattle.proof_number.proofs.Ending.{told-searched}
 use Rattle.proof_number.proofs.answer.proof_number.Goals as goal
 
@@ -35,8 +32,5 @@ returns-clause-searched g c = told-searched c.in_ok-search.ensures.begins c.boar
 pub returns-clause-ran_out : goal.returns-clause-ran_out
 returns-clause-ran_out g c = tells-out c.in_ok-search.ensures.begins c.board.ensures.board c.run.ensures.told
 
-pub returns-clause-no_room : goal.returns-clause-no_room
-returns-clause-no_room g c = λ full.
-    subst (λ (k : ℕ). (MAX_NODES ≤ length c.args.compiler.now)
-    ⊎ HasNoRoom g.R.Rule.KIND c.args.depth c.args.budget (g.V.Seen.position c.args.view.now) c.run.new.tree k) c.len-before.ensures.count
-    (told-room c.in_ok-search.ensures.begins c.board.ensures.board c.run.ensures.told full)
+pub returns-clause-looked : goal.returns-clause-looked
+returns-clause-looked g c = tells-disproved c.in_ok-search.ensures.begins c.board.ensures.board c.run.ensures.told

@@ -59,6 +59,7 @@ returns-in-Full g c =
     let above = subst (λ (s : Searched). IsToldByThreats rule c.args.depth c.args.nodes c.args.position s) c.in-Full.is
     c.in_ok-compiler.ensures.told in
     record {
-      says = full-says c.full.result c.args.depth c.args.nodes (file_at rule c.args.position) c.requires.left.no_fours (inr above)
+      says = full-says c.full.result c.args.depth c.args.nodes (file_at rule c.args.position) c.requires.left.no_fours
+          (inr (c.requires.left, above))
           c.full.ensures.status c.full.ensures.text;
     }

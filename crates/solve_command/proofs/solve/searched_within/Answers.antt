@@ -1,9 +1,8 @@
-use Rattle.std.proofs.Common.{◌<◌, ◌+◌, ◌∙◌, ℕ, inl, inr, subst, ap, List, length, length-append, arith, Err, min}
+use Rattle.std.proofs.Common.{◌<◌, ◌+◌, ◌∙◌, subst, ap, List, length, length-append, arith, Err, min}
 use Rattle.strategy_graph.specs.declared.Node.{Node}
 use Rattle.strategy_graph.specs.declared.TheConstants.{MAX_NODES}
-use Rattle.threat_game.proofs.Common.{threat_tree, IsThreatWin}
-use Rattle.proof_tree.proofs.Common.{numbers_at}
-use Rattle.proof_number.proofs.Common.{OnWin, RootSays, HasNoRoom}
+use Rattle.threat_game.proofs.Common.{IsThreatWin}
+use Rattle.proof_number.proofs.Common.{OnWin, threat_wins}
 use Rattle.proof_number.specs.declared.answer.ProofAnswer.{ProofAnswer}
 use Rattle.solve_command.proofs.solve.searched_within.Goals as goal
 
@@ -26,14 +25,7 @@ returns-in-Ok-None-clause-told g c =
     let none = c.in-Ok-None.ensures.none c.in-Ok-None.field-0-is in (
       none.no_threats,
       c.in-Ok-None.ensures.denial c.in-Ok-None.field-0-is,
-      (
-        c.proof_number.new.tree,
-        record {
-          so_far = c.in-Ok-None.ensures.searched;
-          lost = subst (λ (a : ProofAnswer). RootSays a (numbers_at c.proof_number.new.tree.numbers 0)) c.in-Ok-None.field-0-is
-              c.in-Ok-None.ensures.root;
-        },
-      ),
+      (c.proof_number.new.tree, c.in-Ok-None.ensures.looked c.in-Ok-None.field-0-is),
     )
 
 pub returns-in-Ok-Spent-clause-told : goal.returns-in-Ok-Spent-clause-told
@@ -46,17 +38,7 @@ pub returns-in-Err-Full-clause-told : goal.returns-in-Err-Full-clause-told
 returns-in-Err-Full-clause-told g c =
     let b = c.args.view.now in
     let more = c.in-Err-Full.ensures.leaves.writes.full (ap Err c.in-Err-Full.field-0-is) in
-    let none : MAX_NODES < 0 + min c.args.nodes (threat_tree g.R.Rule.KIND c.args.moves b) =
-    subst (λ (t : List Node). MAX_NODES < length t + min c.args.nodes (threat_tree g.R.Rule.KIND c.args.moves b))
+    let none : MAX_NODES < 0 + min c.args.nodes (threat_wins g.R.Rule.KIND c.args.moves b) =
+    subst (λ (t : List Node). MAX_NODES < length t + min c.args.nodes (threat_wins g.R.Rule.KIND c.args.moves b))
     c.new-compiler.ensures.empty more in
-    let t = c.proof_number.new.tree in (
-      omega (arith, none),
-      (
-        t,
-        elim (c.in-Err-Full.ensures.no_room (ap Err c.in-Err-Full.field-0-is)) [
-          | inl many ↦ absurd (let empty = ap length c.new-compiler.ensures.empty in omega (arith, many, empty))
-          | inr room ↦ subst (λ (k : ℕ). HasNoRoom g.R.Rule.KIND c.args.moves c.args.nodes b t k) (ap length c.new-compiler.ensures.empty)
-              room
-        ],
-      ),
-    )
+    omega (arith, none)

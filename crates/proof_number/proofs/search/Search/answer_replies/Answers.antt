@@ -15,8 +15,7 @@ use Rattle.proof_number.proofs.Common.{no_note, note_at, StandsAt}
 use Rattle.threat_game.proofs.Common.{AreChildren, AreReplies, HasEscape, nodes_for}
 use Rattle.proof_number.proofs.Steps.{attacked-few, leaf-board, leaf-is, leaf-noted, root-open, settled-at, writes-no_memory, writes-none}
 use Rattle.proof_number.proofs.Defending.{all-fresh, defend-moves, defend-no_five, defend-reply, each-is, each-same, escape-grows, few-new}
-use Rattle.proof_number.proofs.Defending.{replies-few, replies-grow, replies-no_room, replies-room, replies-spent, settled-same, some-new}
-use Rattle.proof_number.proofs.RunningOut.{answer-room, memory-room}
+use Rattle.proof_number.proofs.Defending.{replies-few, replies-grow, replies-room, replies-spent, settled-same, some-new}
 use Rattle.strategy_compiler.proofs.Growing.{grows-more, writes-fails, writes-memory, writes-tells}
 use Rattle.proof_number.proofs.ExpandedCounts.{budget-few, short-there, sums-there}
 use Rattle.proof_number.proofs.search.Search.answer_replies.Goals as goal
@@ -86,7 +85,6 @@ returns-in-None-clause-tried g c =
           c.settle.ensures.others c.settle.ensures.leaves c.settle.ensures.tree)
           c.judge_replies.new.board c.judge_replies.ensures.same_board;
       writes = writes-none c.requires.at_leaf _;
-      no_room = answer-room _;
     }
 
 pub returns-then-count-self-clause-tried : goal.returns-then-count-self-clause-tried
@@ -101,7 +99,6 @@ returns-then-count-self-clause-tried g c =
           c.requires.at_leaf c.requires.defend c.in-Some.children are (omega (arith, over)) c.judge_replies.new.board
           c.judge_replies.ensures.same_board;
       writes = writes-none c.requires.at_leaf _;
-      no_room = answer-room _;
     }
 
 pub returns-in_err-settled-in-Some-clause-tried : goal.returns-in_err-settled-in-Some-clause-tried
@@ -116,8 +113,6 @@ returns-in_err-settled-in-Some-clause-tried g c =
     record {
       step = search rules;
       writes = writes-fails _ _ _ _ _ _ c.in_err-settled-in-Some.ensures.writes (omega (arith, same, room)) (search rules);
-      no_room = replies-no_room c.requires.at_leaf c.requires.defend c.in-Some.children are _ same
-          c.in_err-settled-in-Some.ensures.writes (search rules);
     }
 
 pub returns-in_err-expand-in-Some-clause-tried : goal.returns-in_err-expand-in-Some-clause-tried
@@ -133,14 +128,12 @@ returns-in_err-expand-in-Some-clause-tried g c =
       step = search rules;
       writes = writes-memory _ _ _ _ (grows-more _ _ _ _ c.in_ok-settled-in-Some.ensures.writes.grows (omega (arith, same, room)))
           (search rules);
-      no_room = memory-room (search rules);
     }
 
 pub returns-in_err-judge_replies-clause-tried : goal.returns-in_err-judge_replies-clause-tried
 returns-in_err-judge_replies-clause-tried g c = record {
   step = search rules;
   writes = writes-no_memory (search rules);
-  no_room = memory-room (search rules);
 }
 
 pub expand-requires : goal.expand-requires
@@ -215,7 +208,6 @@ returns-in_ok-expand-in-Some-clause-tried g c =
           (let same = ap (sum_by (λ (child : Child). nodes_for child.judged)) c.as_slice.ensures.value in
           let room = replies-room c.requires.at_leaf c.requires.defend c.in-Some.children are (omega (arith, within)) in
           omega (arith, same, room));
-      no_room = answer-room _;
     }
 
 pub settle_children-requires : goal.settle_children-requires

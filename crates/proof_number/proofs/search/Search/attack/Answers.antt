@@ -7,7 +7,6 @@ use Rattle.proof_number.proofs.Common.{note_at, IsNotedWin}
 use Rattle.strategy_compiler.specs.declared.wins.WrittenWin.{WrittenWin}
 use Rattle.proof_number.proofs.Steps.{leaf-found, leaf-is, leaf-noted, left-few, recalled-lost, recalled-stands, recalled-won, root-open}
 use Rattle.proof_number.proofs.Steps.{settled-at, tried-from, writes-none}
-use Rattle.proof_number.proofs.RunningOut.{answer-room}
 use Rattle.proof_number.proofs.search.Search.attack.Goals as goal
 
 pub recall-requires : goal.recall-requires
@@ -48,7 +47,6 @@ returns-in-Some-Won-clause-tried g c =
           c.settle_won.new.tree c.settle_won.ensures.settled c.settle_won.new.self c.settle_won.ensures.rest _ c.settle_won.ensures.notes
           (subst P (sym c.in-Some-Won.win-is) known);
       writes = writes-none c.requires.at_leaf _;
-      no_room = answer-room _;
     }
 
 pub settle-requires : goal.settle-requires
@@ -67,14 +65,13 @@ returns-in-Some-Lost-clause-tried g c =
           c.requires.at_leaf c.requires.attack c.recall.new.self c.recall.ensures.rest _ c.recall.ensures.entries
           c.settle.new.self (settled-at c.args.tree.now c.settle.new.self c.args.leaf false is c.settle.ensures.links
           c.settle.ensures.settled
-          c.settle.ensures.others c.settle.ensures.leaves c.settle.ensures.tree) known;
+          c.settle.ensures.others c.settle.ensures.leaves c.settle.ensures.tree) known c.if-leaf-eq0.false;
       writes = writes-none c.requires.at_leaf _;
-      no_room = answer-room _;
     }
 
-pub try_attacks-requires-clause-at_leaf : goal.try_attacks-requires-clause-at_leaf
-try_attacks-requires-clause-at_leaf g c =
+pub try_attacks-requires-in-None-clause-at_leaf : goal.try_attacks-requires-in-None-clause-at_leaf
+try_attacks-requires-in-None-clause-at_leaf g c =
     recalled-stands c.requires.at_leaf c.requires.attack c.recall.new.self c.recall.ensures.rest _ c.recall.ensures.entries
 
 pub returns-in-None-clause-tried : goal.returns-in-None-clause-tried
-returns-in-None-clause-tried g c = tried-from c.recall.ensures.rest c.try_attacks.ensures.tried
+returns-in-None-clause-tried g c = tried-from c.recall.ensures.rest c.try_attacks-in-None.ensures.tried

@@ -6,13 +6,15 @@ use Rattle.strategy_compiler.proofs.Growing.{grows-not, writes-fails, writes-mem
 use Rattle.proof_number.specs.declared.search.Search.{Search}
 use Rattle.threat_game.specs.Wins.{IsThreatWin}
 use Rattle.threat_game.proofs.TreeLaws.{few-moves}
-use Rattle.proof_number.proofs.Beginning.{begun-open, begun-refused, begun-won}
+use Rattle.proof_number.proofs.Beginning.{begun-open, begun-refused, begun-won, some-won}
+use Rattle.game_rules.proofs.Games.{five-threats}
+use Rattle.threat_game.proofs.Common.{nowhere}
 use Rattle.proof_number.proofs.search.Search.begin.Goals as goal
 
 pub returns-in_err-fives-clause-begun : goal.returns-in_err-fives-clause-begun
 returns-in_err-fives-clause-begun g c =
     begun-refused c.requires.begins c.side-attacker.ensures.lawful c.len.ensures.tree refl refl (search rules)
-    (writes-memory _ _ 1 _ (grows-not _ _ 1 refl) (search rules))
+    (writes-memory _ _ _ _ (grows-not _ _ _ refl) (search rules))
 
 pub returns-then-self-gt1-clause-begun : goal.returns-then-self-gt1-clause-begun
 returns-then-self-gt1-clause-begun g c =
@@ -38,8 +40,15 @@ one_move-requires-clause-one_move g c =
 
 pub returns-in_err-win-in-len1-up-clause-begun : goal.returns-in_err-win-in-len1-up-clause-begun
 returns-in_err-win-in-len1-up-clause-begun g c =
+    let b : Grid = g.V.Seen.position c.args.view.now in
+    let are : c.as_slice.result.now ≡ five_points g.R.Rule.KIND b (mover b) =
+    c.as_slice.ensures.items ∙ c.in_ok-fives.ensures.fives ∙ ap (five_points g.R.Rule.KIND b) c.side-attacker.ensures.side in
     begun-refused c.requires.begins c.side-attacker.ensures.lawful c.len.ensures.tree refl refl (search rules)
-    (writes-fails _ _ 1 1 _ _ c.in_err-win-in-len1-up.ensures.writes (omega arith) (search rules))
+    (writes-fails _ _ 1 _ _ _ c.in_err-win-in-len1-up.ensures.writes
+    (some-won c.requires.begins c.side-attacker.ensures.lawful c.len.ensures.tree
+    (five-threats g.R.Rule.KIND b _ c.args.self.now.depth
+    (first_listed g.R.Rule.KIND b (mover b) c.as_slice.result.now nowhere are c.in-len1-up.len_at_least) c.requires.begins.some_depth))
+    (search rules))
 
 pub settle_won-requires-clause-leaf : goal.settle_won-requires-clause-leaf
 settle_won-requires-clause-leaf g c = lone-leaf c.args.tree.now c.len.ensures.tree c.requires.begins.one_node

@@ -3,7 +3,6 @@ use Rattle.game_rules.specs.Grid.{Grid}
 use Rattle.proof_number.specs.Searches.{StandsAt}
 use Rattle.proof_number.proofs.Steps.{leaf-is, leaf-noted, root-open, settled-at, writes-no_memory, writes-none}
 use Rattle.proof_number.proofs.Defending.{denied-grows}
-use Rattle.proof_number.proofs.RunningOut.{answer-room, memory-room}
 use Rattle.proof_number.proofs.search.Search.defend.Goals as goal
 
 pub index-requires : goal.index-requires
@@ -24,7 +23,6 @@ returns-then-denied-clause-tried g c =
           (settled-at c.args.tree.now c.settle.new.self c.args.leaf false is c.settle.ensures.links c.settle.ensures.settled
           c.settle.ensures.others c.settle.ensures.leaves c.settle.ensures.tree);
       writes = writes-none c.requires.at_leaf _;
-      no_room = answer-room _;
     }
 
 pub answer_replies-requires-clause-at_leaf : goal.answer_replies-requires-clause-at_leaf
@@ -36,5 +34,4 @@ pub returns-in_err-denied-clause-tried : goal.returns-in_err-denied-clause-tried
 returns-in_err-denied-clause-tried g c = record {
   step = search rules;
   writes = writes-no_memory (search rules);
-  no_room = memory-room (search rules);
 }

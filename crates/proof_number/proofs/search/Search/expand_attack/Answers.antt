@@ -10,7 +10,6 @@ use Rattle.proof_number.specs.Notes.{no_note, note_at}
 use Rattle.proof_number.proofs.Steps.{attack-moves, leaf-is, leaf-noted, root-open, settled-at, writes-no_memory, writes-none}
 use Rattle.proof_number.proofs.Attacking.{moves-grow, moves-spent, none-grows, open_note, open_one}
 use Rattle.proof_number.proofs.ExpandedCounts.{budget-few, defended-few, short-there, sums-there}
-use Rattle.proof_number.proofs.RunningOut.{answer-room, memory-room}
 use Rattle.proof_number.proofs.search.Search.expand_attack.Goals as goal
 
 pub settle-requires : goal.settle-requires
@@ -74,7 +73,6 @@ returns-then-moves-eq0 g c =
             c.settle.ensures.settled
             c.settle.ensures.others c.settle.ensures.leaves c.settle.ensures.tree);
         writes = writes-none c.requires.at_leaf _;
-        no_room = answer-room _;
       };
     }
 
@@ -89,7 +87,6 @@ returns-then-count-self g c =
         step = moves-spent c.requires.at_leaf c.requires.attack
             c.requires.others (left - 1) (omega (arith, two)) (omega (arith, over, same));
         writes = writes-none c.requires.at_leaf _;
-        no_room = answer-room _;
       };
     }
 
@@ -120,7 +117,6 @@ returns g c =
             ∙ ap (λ (k : ℕ). record c.args.self.now { notes = c.expand.new.self.notes; defended = k }) count)
             (omega (arith, count, within));
         writes = writes-none c.requires.at_leaf _;
-        no_room = answer-room _;
       };
     }
 
@@ -129,7 +125,6 @@ returns-in_err-numbers g c = record {
   tried = record {
     step = search rules;
     writes = writes-no_memory (search rules);
-    no_room = memory-room (search rules);
   };
 }
 
@@ -138,11 +133,10 @@ returns-in_err-notes g c = record {
   tried = record {
     step = search rules;
     writes = writes-no_memory (search rules);
-    no_room = memory-room (search rules);
   };
 }
 
 pub returns-in_err-expand : goal.returns-in_err-expand
 returns-in_err-expand g c = record {
-  tried = record { step = search rules; writes = writes-no_memory (search rules); no_room = memory-room (search rules) };
+  tried = record { step = search rules; writes = writes-no_memory (search rules) };
 }

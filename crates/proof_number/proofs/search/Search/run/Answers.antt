@@ -1,13 +1,13 @@
-use Rattle.std.proofs.Common.{rules, ◌≡◌, ◌∙◌, inl, inr, ◌*◌, ◌≤◌, ℕ, refl, sym, ap, subst, arith, length, min}
+use Rattle.std.proofs.Common.{rules, ◌≡◌, ◌∙◌, ◌*◌, ◌≤◌, ℕ, sym, ap, subst, arith, length, min}
 use Rattle.proof_tree.proofs.Common.{is_settled, Tree, numbers_at}
 use Rattle.strategy_compiler.proofs.Growing.{writes-fails, writes-tells}
 use Rattle.threat_game.proofs.Common.{threat_tree}
 use Rattle.proof_number.proofs.Common.{HasStepped, IsOverBudget, HasRunOut, IsSearchTree}
 use Rattle.proof_number.proofs.Ending.{begun-room, closed-few, leaves-told, root-noted, steps-write, told-denial, told-lost, told-none}
-use Rattle.proof_number.proofs.Ending.{told-proved, told-tree, told-win}
+use Rattle.proof_number.proofs.Ending.{told-proved, told-tree, told-win, told-disproved}
 use Rattle.proof_number.proofs.StepLaws.{on-done, on-spent, searched-tree}
 use Rattle.proof_number.proofs.Opening.{searching-facts}
-use Rattle.proof_number.proofs.RunningOut.{answer-room, begun-full, out-aim, room-aim, same-error, so-far-tree, tree-aim}
+use Rattle.proof_number.proofs.RunningOut.{out-aim, so-far-tree, tree-aim}
 use Rattle.proof_number.proofs.search.Search.run.Goals as goal
 
 pub returns-in_err-begin-clause-told : goal.returns-in_err-begin-clause-told
@@ -20,9 +20,8 @@ returns-in_err-begin-clause-told g c =
       root = search rules;
       leaves = leaves-told g.R.Rule.KIND c.args.self.now c.requires.begins.new.before_is begun.tree (omega (arith, one, still))
           (search rules)
-          (writes-fails _ _ 1 _ _ _ begun.writes (begun-room g.R.Rule.KIND c.requires.begins) (search rules));
+          (writes-fails _ _ _ _ _ _ begun.writes (begun-room g.R.Rule.KIND c.requires.begins) (search rules));
       searched = search rules;
-      no_room = λ full. inl (begun-full begun.writes (search rules) full);
     }
 
 pub loop-self-init : goal.loop-self-init
@@ -37,7 +36,7 @@ loop-self-init g c =
       view = c.begin.ensures.same;
       board = begun.board ∙ new.board_is ∙ sym (begun.aim.root ∙ new.root_is);
       longer = omega (arith, one, still);
-      writes = writes-tells _ _ 1 _ _ tt begun.writes (begun-room g.R.Rule.KIND c.requires.begins);
+      writes = writes-tells _ _ _ _ _ tt begun.writes (begun-room g.R.Rule.KIND c.requires.begins);
     }
 
 pub step-requires-clause-view : goal.step-requires-clause-view
@@ -94,7 +93,6 @@ returns-in_err-step-clause-told g c =
           (search rules)
           (writes-fails _ _ _ _ _ _ (steps-write g.R.Rule.KIND inv.aim inv.writes step.writes) (omega arith) (search rules));
       searched = search rules;
-      no_room = λ full. inr (room-aim inv.aim (step.no_room (same-error _ refl (search rules) full)));
     }
 
 pub returns-in_err-step-clause-same : goal.returns-in_err-step-clause-same
@@ -127,7 +125,6 @@ returns-in-Spent-clause-told g c =
           (writes-tells _ _ _ _ c.in_ok-step.field-0 _ (steps-write rule inv.aim inv.writes step.writes) (omega arith));
       searched = subst (λ (t : Tree). IsSearchTree rule s.depth s.budget s.root t) (sym came.same)
           (tree-aim inv.aim (so-far-tree (searching-facts inv.searching)));
-      no_room = answer-room _;
     }
 
 pub returns-in-Spent-clause-same : goal.returns-in-Spent-clause-same
@@ -152,7 +149,6 @@ returns-in-Some-clause-told g c =
           (told-tree inv.searching s.depth s.budget s.root inv.aim.depth inv.aim.budget inv.aim.root)
           (writes-tells _ _ _ _ tt _ inv.writes (omega arith));
       searched = tree-aim inv.aim (so-far-tree (searching-facts inv.searching));
-      no_room = answer-room _;
     }
 
 pub returns-in-None-clause-told : goal.returns-in-None-clause-told
@@ -165,6 +161,8 @@ returns-in-None-clause-told g c =
         told-none inv.searching s.depth s.root inv.aim.depth inv.aim.root c.index.result.now c.index.ensures c.in-None.ensures.win settled,
         told-denial inv.searching s.depth s.root inv.aim.depth inv.aim.root c.index.result.now c.index.ensures s.budget inv.aim.budget
             c.in-None.ensures.win settled,
+        told-disproved inv.searching s.depth s.root inv.aim.depth inv.aim.root c.index.result.now c.index.ensures s.budget inv.aim.budget
+            c.requires.begins.some_depth c.in-None.ensures.win settled,
       );
       root = told-lost inv.searching s.depth s.root inv.aim.depth inv.aim.root c.index.result.now c.index.ensures c.in-None.ensures.win
           settled;
@@ -172,5 +170,4 @@ returns-in-None-clause-told g c =
           (told-tree inv.searching s.depth s.budget s.root inv.aim.depth inv.aim.budget inv.aim.root)
           (writes-tells _ _ _ _ tt _ inv.writes (omega arith));
       searched = tree-aim inv.aim (so-far-tree (searching-facts inv.searching));
-      no_room = answer-room _;
     }

@@ -95,7 +95,7 @@ take_back-requires-in-Err g c =
 
 pub returns-in-Err-clause-step : goal.returns-in-Err-clause-step
 returns-in-Err-clause-step g c = stayed-step c.requires.searching c.go_to.ensures.rest c.in-Err.ensures.tried.step
-    c.take_back-in-Err.ensures.rest c.take_back-in-Err.ensures.board tt c.in-Err.ensures.tried.writes c.in-Err.ensures.tried.no_room
+    c.take_back-in-Err.ensures.rest c.take_back-in-Err.ensures.board tt c.in-Err.ensures.tried.writes
 
 pub returns-in-Err-clause-view : goal.returns-in-Err-clause-view
 returns-in-Err-clause-view g c = c.take_back-in-Err.ensures.view

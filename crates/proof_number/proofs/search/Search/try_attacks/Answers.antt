@@ -3,7 +3,6 @@ use Rattle.game_rules.specs.Grid.{Grid}
 use Rattle.threat_game.specs.declared.attacks.Attacks.TheVariants.{NoReply, Moves}
 use Rattle.threat_game.specs.Attacks.{AreAttacks, OthersFail, is_last_move, tried_moves}
 use Rattle.proof_number.proofs.Steps.{attack-no_five, board-stands, leaf-board, tried-on-board, writes-no_memory}
-use Rattle.proof_number.proofs.RunningOut.{memory-room}
 use Rattle.proof_number.proofs.search.Search.try_attacks.Goals as goal
 
 pub find_attacks-requires-clause-none : goal.find_attacks-requires-clause-none
@@ -46,7 +45,6 @@ pub returns-in_err-double-clause-tried : goal.returns-in_err-double-clause-tried
 returns-in_err-double-clause-tried g c = record {
   step = search rules;
   writes = writes-no_memory (search rules);
-  no_room = memory-room (search rules);
 }
 
 pub returns-in-DoublePoint-clause-tried : goal.returns-in-DoublePoint-clause-tried

@@ -1,11 +1,11 @@
-use Rattle.std.proofs.Common.{rules, ◌≡◌, ◌+◌, ℕ, inr, ap, subst, arith}
+use Rattle.std.proofs.Common.{rules, ◌≡◌, ◌+◌, ℕ, ap, subst, arith}
 use Rattle.game_rules.specs.Grid.{Grid}
 use Rattle.threat_game.proofs.Common.{IsThreatWin, answer_nodes}
 use Rattle.strategy_compiler.specs.Growth.{GrowsBy}
 use Rattle.proof_number.specs.Notes.{note_at}
 use Rattle.proof_number.proofs.Steps.{attack-moves, leaf-is, leaf-noted, root-open, attacked-few, counted-step, double-fits, double-room}
-use Rattle.proof_number.proofs.Steps.{spent-there, win-few, win-no_room, writes-none}
-use Rattle.proof_number.proofs.RunningOut.{answer-room}
+use Rattle.proof_number.proofs.Steps.{spent-there, double-won, win-few, writes-none}
+use Rattle.proof_number.proofs.WinLaws.{answers-few}
 use Rattle.strategy_compiler.proofs.Growing.{writes-fails, writes-tells}
 use Rattle.proof_number.proofs.search.Search.win_double.Goals as goal
 
@@ -16,32 +16,21 @@ overflow_add-count g c =
 
 pub returns-then-count-self-clause-tried : goal.returns-then-count-self-clause-tried
 returns-then-count-self-clause-tried g c =
-    let few = double-fits c.requires.at_leaf c.requires.attack c.args.double c.requires.double in
     let nodes = c.answers_of.ensures.nodes in
     let over = c.if-count-self.true in
     record {
-      step = spent-there c.requires.at_leaf c.requires.attack c.answers_of.result (inr (c.args.double, c.requires.double, nodes))
-          (omega (arith, over)) (omega (arith, few, nodes));
+      step = spent-there c.requires.at_leaf c.requires.attack c.args.double c.requires.double (omega (arith, over, nodes));
       writes = writes-none c.requires.at_leaf _;
-      no_room = answer-room _;
     }
 
 pub returns-in_err-win-clause-tried : goal.returns-in_err-win-clause-tried
 returns-in_err-win-clause-tried g c =
     let within = c.if-count-self.false in
-    let nodes = c.answers_of.ensures.nodes in
-    let same : answer_nodes g.R.Rule.KIND (g.V.Seen.position c.answers_of.new.view) c.args.double ≡ answer_nodes g.R.Rule.KIND
-    (g.V.Seen.position c.args.view.now) c.args.double =
-    ap (λ (b : Grid). answer_nodes g.R.Rule.KIND b c.args.double) c.answers_of.ensures.same in
-    let added : 1 + answer_nodes g.R.Rule.KIND (g.V.Seen.position c.answers_of.new.view) c.args.double ≡ 1 + c.answers_of.result =
-    omega (arith, same, nodes) in
     record {
       step = search rules;
       writes = writes-fails _ _ _ _ _ _ c.in_err-win.ensures.writes
           (double-room c.requires.at_leaf c.requires.attack (g.V.Seen.position c.answers_of.new.view) c.args.double c.answers_of.result
           c.answers_of.ensures.same c.answers_of.ensures.nodes c.requires.double (omega (arith, within))) (search rules);
-      no_room = win-no_room c.requires.at_leaf c.requires.attack c.answers_of.result
-          (inr (c.args.double, c.requires.double, c.answers_of.ensures.nodes)) _ added c.in_err-win.ensures.writes (search rules);
     }
 
 pub settle_won-requires-clause-open : goal.settle_won-requires-clause-open
@@ -70,6 +59,8 @@ returns-clause-tried g c =
     subst (λ (b : Grid). IsThreatWin g.R.Rule.KIND left b c.compile_double.new.compiler c.in_ok-win.win) c.answers_of.ensures.same
     (c.in_ok-win.ensures.win left two) in
     let few = double-fits c.requires.at_leaf c.requires.attack c.args.double c.requires.double in
+    let won = double-won c.requires.at_leaf c.requires.attack c.args.double c.requires.double in
+    let two_most = answers-few g.R.Rule.KIND (g.V.Seen.position c.args.view.now) c.args.double in
     let nodes = c.answers_of.ensures.nodes in
     let within = c.if-count-self.false in
     let same : answer_nodes g.R.Rule.KIND (g.V.Seen.position c.answers_of.new.view) c.args.double ≡ answer_nodes g.R.Rule.KIND
@@ -81,12 +72,12 @@ returns-clause-tried g c =
     (λ (k : ℕ). GrowsBy c.args.compiler.now c.compile_double.new.compiler k) added c.in_ok-win.ensures.writes.grows in
     record {
       step = counted-step
-          c.requires.at_leaf c.requires.attack c.answers_of.result (omega (arith, within)) (omega (arith, few, nodes))
+          c.requires.at_leaf c.requires.attack c.answers_of.result (omega (arith, within)) (omega (arith, two_most, nodes))
+          (omega (arith, few, nodes)) (omega (arith, won, nodes))
           c.settle_won.new.tree c.settle_won.ensures.settled c.settle_won.new.self c.settle_won.ensures.rest c.compile_double.new.compiler
           grown
           c.in_ok-win.ensures.writes.compiled c.in_ok-win.win c.settle_won.ensures.notes is;
       writes = writes-tells _ _ _ _ c.in_ok-win.win _ c.in_ok-win.ensures.writes
           (double-room c.requires.at_leaf c.requires.attack (g.V.Seen.position c.answers_of.new.view) c.args.double c.answers_of.result
           c.answers_of.ensures.same c.answers_of.ensures.nodes c.requires.double (omega (arith, within)));
-      no_room = answer-room _;
     }
