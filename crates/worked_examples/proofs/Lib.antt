@@ -7,3 +7,5 @@ mod OwnWins
 mod OwnWinSession
 -- and others, without a held root or with one that is not asked
 mod OwnWinGames
+-- a win that is accepted by a zone
+mod ThreeZone

@@ -1,1 +1,2 @@
 pub mod HeldSessions
+pub mod Zones
