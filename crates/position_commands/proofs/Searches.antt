@@ -1,10 +1,13 @@
 -- What is said of a position, where the search of fours ran at its board.
-use Rattle.std.proofs.Common.{◌≡◌, inl, inr, ℕ, ◌≤◌, ap, subst, ◌∙◌, List, [], length, arith, length-append, Result, Ok}
+use Rattle.std.proofs.Common.{◌≡◌, true, inl, inr, ℕ, ◌≤◌, ap, subst, ◌∙◌, List, [], length, arith, length-append, Result, Ok}
 use Rattle.std.proofs.Common.{Err, IfOk}
-use Rattle.game_rules.proofs.Common.{Grid, WinsByFours}
+use Rattle.game_rules.proofs.Common.{Grid, WinsByFours, WinsWithin}
+use Rattle.game_rules.proofs.Games.{WinsUnder-more}
 use Rattle.game_rules.specs.declared.RuleKind.{RuleKind}
 use Rattle.strategy_graph.specs.declared.Node.{Node}
+use Rattle.strategy_graph.proofs.Soundness.{accepted-wins}
 use Rattle.strategy_compiler.proofs.Common.{GrowsBy, last}
+use Rattle.position_files.specs.declared.PositionFile.{PositionFile}
 use Rattle.position_files.proofs.Common.{IsTextOfTable}
 use Rattle.four_search.specs.declared.fewest.FourTable.{FourTable}
 use Rattle.four_search.specs.Answers.{IsFourWin}
@@ -13,7 +16,7 @@ use Rattle.four_search.specs.FourGame.{four_cost}
 use Rattle.command_base.specs.declared.answer.Answer.{Answer}
 use Rattle.command_base.specs.declared.status.Status.TheVariants.{Done, NotFound}
 use Rattle.command_base.specs.Texts.{none_line}
-use Rattle.position_commands.proofs.Common.{IsFourText, SearchSays, table_at}
+use Rattle.position_commands.proofs.Common.{IsFourText, IsWinText, SearchSays, table_at}
 use Rattle.command_base.proofs.PositionLaws.{file_at}
 
 -- a new compiler has no more nodes than are added
@@ -22,6 +25,13 @@ new-few t c most new grows =
     let all = ap length grows.is ∙ length-append t grows.added in
     let none : length t ≡ 0 = ap length new in
     omega (arith, all, none, grows.few)
+
+-- the side to move wins within the limit of a text of a win
+pub text-wins : (limit : ℕ) (file : PositionFile) (text : List ℕ) → IsWinText limit file text → WinsWithin file.kind limit file.board
+text-wins limit file text win =
+    WinsUnder-more (λ c s. true) file.kind win.moves limit file.board win.within
+    (subst (λ (n : ℕ). WinsWithin file.kind n file.board) win.deep
+    (accepted-wins file.kind win.table (last win.table) file.board win.accepted))
 
 -- the win is at the last node of its table
 pub wins-last : (rule : RuleKind) (limit : ℕ) (b : Grid) (made : FourTable) → IsMade rule limit b made

@@ -1,9 +1,7 @@
 -- The command `solve`: its words, its answers, and what its statuses show.
-use Rattle.std.proofs.Common.{◌≡◌, true, inl, inr, sym, ap, subst, ◌∙◌, ◌⊎◌, ℕ, List, length, arith, IfSome}
-use Rattle.game_rules.proofs.Common.{WinsWithin, has_five}
+use Rattle.std.proofs.Common.{◌≡◌, inl, inr, sym, ap, ◌∙◌, ◌⊎◌, ℕ, List, length, arith, IfSome}
+use Rattle.game_rules.proofs.Common.{has_five}
 use Rattle.game_rules.proofs.Games.{WinsUnder-more}
-use Rattle.strategy_graph.proofs.Soundness.{accepted-wins}
-use Rattle.strategy_compiler.proofs.Common.{last}
 use Rattle.position_files.specs.declared.PositionFile.{PositionFile}
 use Rattle.renju_io.specs.Told.{Takes}
 use Rattle.command_base.specs.declared.status.Status.{Status}
@@ -15,6 +13,7 @@ use Rattle.command_base.specs.Searches.{ShowsOfPosition}
 use Rattle.position_commands.specs.Fours.{IsFoundWin, IsWinText}
 use Rattle.solve_command.proofs.Common.{IsWonByAStep, IsWonByFours, SolutionSays, solve_command, WritesSolution, SpeaksOfSolution, IsSolved}
 use Rattle.command_base.proofs.PositionLaws.{shows-of-position}
+use Rattle.position_commands.proofs.Searches.{text-wins}
 
 -- what is said of a position for which the budget is enough is an answer
 pub solve-answers : (limit nodes : ℕ) (file : PositionFile) → (solve_command limit nodes).IsEnough file → (status : Status) (text : List ℕ)
@@ -51,9 +50,7 @@ module _ (limit nodes : ℕ) (run : Run) where
       win = win;
       way = way;
       whole = whole;
-      wins = WinsUnder-more (λ c s. true) file.kind win.moves limit file.board win.within
-          (subst (λ (n : ℕ). WinsWithin file.kind n file.board) win.deep
-          (accepted-wins file.kind win.table (last win.table) file.board win.accepted));
+      wins = text-wins limit file text win;
     }
 
     done-solved : run.status ≡ 0 → (win : IsWinText limit file text) → IsWonByAStep limit nodes file (length win.table)
@@ -69,7 +66,7 @@ module _ (limit nodes : ℕ) (run : Run) where
       only = inl (inl here);
     }
 
-    solved-by : (status : Status) → run.status ≡ status_number status → SolutionSays limit nodes file status text
+    pub solved-by : (status : Status) → run.status ≡ status_number status → SolutionSays limit nodes file status text
         → IsSolved limit nodes file run
     solved-by status ends (inl first) = done-solved (ends ∙ ap status_number first.found.ends) first.win
         (inl (first-won limit nodes file status text first.found, first.few))
