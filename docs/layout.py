@@ -77,6 +77,7 @@ CHAPTERS = (
             "table_commands",
             "position_commands",
             "solve_command",
+            "quiet_command",
             "brain_commands",
             "renju_cli",
         ),

@@ -1,0 +1,5 @@
+-- the words of the crate, in one place
+mod Common
+mod BoardTests
+mod Sayings
+pub mod QuietLaws

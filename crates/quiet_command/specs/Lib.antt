@@ -1,0 +1,2 @@
+-- the command
+pub mod Quiets

@@ -1,0 +1,149 @@
+//! The command `quiet`: what `solve` says with the same numbers, and where that is no win, one with quiet moves.
+//!
+//! A quiet move threatens nothing at once; after it a pass would lose. The search for such wins is free, and nothing is known of the
+//! table that it finds. So the table is checked against every reply before it is written, and one that is refused, is too deep or
+//! names a point off the board counts as none.
+#![tactic(auto)]
+
+ghost use Rattle.std.specs.Prelude.{◌≡◌, ◌≤◌, ◌<◌, length, IfOk, IfSome, IsTrue};
+ghost use Rattle.strategy_graph.specs.Tables.{RepliesOn, TableOnBoard};
+ghost use Rattle.quiet_command.specs.Quiets.{IsCheckedTable, IsFinished, IsUnsolved, QuietSays};
+
+use command_base::{Answer, AtPosition, MAX_SEARCHED, Status, spent};
+use foul_judge::{Position, Seen};
+use four_search::MAX_DEPTH;
+use position_commands::table_text;
+use proof_tree::ProofTree;
+use quiet_search::{MAX_LISTED, quiet_search};
+use row_shapes::Rule;
+use solve_command::Solve;
+use std::alloc::{AllocError, Global};
+use stone_board::Board;
+use strategy_checker::{Verdict, check};
+use strategy_compiler::{Compiler, SearchError};
+use strategy_graph::{Reply, Table};
+
+/// The most arrivals that a check of a table takes: as many as `check` may be allowed.
+const CHECK_WORK: u64 = 1_000_000_000_000;
+
+/// `quiet DEPTH NODES`.
+#[derive(Clone, Copy)]
+pub struct Quiet {
+    /// The most moves, from 1 to `MAX_DEPTH`.
+    pub depth: u32,
+    /// The most positions that each search may look at, from 1 to `MAX_SEARCHED`: that for quiet moves lists at most
+    /// `MAX_LISTED` of them at a time.
+    pub nodes: u64,
+}
+
+impl AtPosition for Quiet {
+    ghost use Rattle.position_commands.specs.Fours.{AreLimits};
+    ghost use Rattle.quiet_command.specs.Quiets.{QuietSays};
+
+    ghost in_range = { λ c. AreLimits c.depth c.nodes };
+
+    ghost says = { λ c. QuietSays c.depth c.nodes };
+
+    fn say_at<R: Rule>(&self, alloc: Global, position: Position<R>) -> Result<Answer, AllocError> {
+        let solve = Solve {
+            depth: self.depth,
+            nodes: self.nodes,
+        };
+        let solution = solve.say_at(alloc, position.copy()?)?;
+        match solution.status {
+            Status::Done | Status::Full => Ok(solution),
+            _ => by_quiet_moves(alloc, position, self.depth, self.nodes),
+        }
+    }
+}
+
+/// What is said of a position at which `solve` has no win.
+fn by_quiet_moves<R: Rule>(
+    alloc: Global,
+    position: Position<R>,
+    depth: u32,
+    nodes: u64,
+) -> Result<Answer, AllocError>
+    requires some_depth { 1 ≤ depth }
+    requires depth_fits { depth ≤ MAX_DEPTH }
+    requires some_nodes { 1 ≤ nodes }
+    requires nodes_fit { nodes ≤ MAX_SEARCHED }
+    requires unsolved { IsUnsolved depth nodes (record { kind = R.KIND; board = position }) }
+    ensures says { IfOk result (λ answer. QuietSays depth nodes (record { kind = R.KIND; board = position }) answer.status answer.text) }
+{
+    let mut view = position;
+    let Some(table) = found_table::<R>(alloc, &view, depth, nodes)? else {
+        return Ok(spent());
+    };
+    match checked_moves::<R>(alloc, &mut view, &table, depth)? {
+        Some(moves) => table_text::<R>(alloc, view.board(), &table, moves),
+        None => Ok(spent()),
+    }
+}
+
+/// The table of the node that the search for quiet moves finds, if it finds one and the compiler has room. Nothing is known of it
+/// but that it was finished from one node.
+fn found_table<R: Rule>(
+    alloc: Global,
+    position: &Position<R>,
+    depth: u32,
+    nodes: u64,
+) -> Result<Option<Table>, AllocError>
+    requires some_depth { 1 ≤ depth }
+    requires depth_fits { depth ≤ MAX_DEPTH }
+    requires some_nodes { 1 ≤ nodes }
+    ensures finished { IfOk result (λ found. IfSome found IsFinished) }
+{
+    let mut compiler = Compiler::new(alloc);
+    let mut tree = ProofTree::new(alloc)?;
+    let most = nodes.min(u64::from(MAX_LISTED)) as u32;
+    match quiet_search::<R>(alloc, position, depth, most, &mut tree, &mut compiler) {
+        Ok(Some(node)) => Ok(Some(compiler.finish(node)?)),
+        Ok(None) => Ok(None),
+        Err(SearchError::Full) => Ok(None),
+        Err(SearchError::Memory) => Err(AllocError),
+    }
+}
+
+/// The moves of the table's last node, if it is accepted at the position with no more moves than the limit, and each node
+/// names points of the board alone. The position is the same afterwards.
+fn checked_moves<R: Rule>(
+    alloc: Global,
+    view: &mut Position<R>,
+    table: &Table,
+    limit: u32,
+) -> Result<Option<u32>, AllocError>
+    requires some { 0 < length table.now }
+    ensures checked { IfOk result (λ found. IfSome found (IsCheckedTable R.KIND limit view.old table.now)) }
+    ensures same { view.new ≡ view.old }
+{
+    let root = table.len() - 1;
+    if table.depth(root)? > limit || !is_on_board(view.board(), table) {
+        return Ok(None);
+    }
+    match check::<R>(alloc, table, root, view, CHECK_WORK)? {
+        Verdict::Accepted { moves, arrivals: _ } => Ok(Some(moves)),
+        Verdict::Refused { line: _, why: _ } => Ok(None),
+        Verdict::Spent => Ok(None),
+    }
+}
+
+/// Whether each node of the table names points of the board alone.
+fn is_on_board(board: &Board, table: &Table) -> bool
+    ensures on_board { IsTrue result → TableOnBoard board.now table.now }
+{
+    for i in 0..table.len() {
+        let node = table.node(i);
+        if !board.on(node.attack) || !are_on_board(board, node.replies.as_slice()) {
+            return false;
+        }
+    }
+    true
+}
+
+/// Whether each reply is on the board.
+fn are_on_board(board: &Board, replies: &[Reply]) -> bool
+    ensures on_board { IsTrue result → RepliesOn board.now replies.now }
+{
+    replies.iter().all(|reply| board.on(reply.at))
+}
