@@ -40,7 +40,7 @@ SYMMETRIES = ["identity", "half", "flip-x", "flip-y", "quarter", "three-quarter"
 MAX_INPUT_BYTES = 16_777_216
 MAX_NODES = 1_000_000
 USAGE = (
-    "usage: renju check WORK, foul, fours DEPTH NODES, threats LENGTH NODES, solve DEPTH NODES, "
+    "usage: renju check WORK, foul, fours DEPTH NODES, threats LENGTH NODES, solve DEPTH NODES, quiet DEPTH NODES, "
     "brain [FILE], drill N, image SYMMETRY, referee [FILE], defend DEPTH NODES, bind FILE .., book WORK\n"
 )
 
@@ -124,6 +124,8 @@ def words_without_a_form():
         ["solve"], ["solve", "5"], ["solve", "0", "1"], ["solve", "61", "1"], ["solve", "1", "0"], ["solve", "1", "10000001"],
         ["solve", "05", "3"],
         ["solve", "5", "3", "1"], ["solve", "4294967297", "1"], ["Solve", "5", "3"],
+        ["quiet"], ["quiet", "5"], ["quiet", "0", "1"], ["quiet", "61", "1"], ["quiet", "1", "0"], ["quiet", "1", "10000001"],
+        ["quiet", "05", "3"], ["quiet", "5", "3", "1"], ["quiet", "4294967297", "1"], ["Quiet", "5", "3"], ["quiets", "5", "3"],
         ["drill"], ["drill", ""], ["drill", "00"], ["drill", "01"], ["drill", "-1"], ["drill", "1000000"], ["drill", "0", "0"], ["drill 0"],
         ["Drill", "0"],
         ["image"], ["image", ""], ["image", "0"], ["image", "Half"], ["image", "flip"], ["image", "flipx"], ["image", "half", "half"],
@@ -146,7 +148,7 @@ def words_without_a_form():
     # Words of no command, words of a command that are too few or too many, and words that are no number in its range.
     others = [
         "images half", "Check 1", "checks 1", "chec 1", "1 check", "219", "check 1,000", "check one", "check foul", "foul foul", "fours 0 3",
-        "fours 5 0", "fours 5 03", "fours 4294967297 3", "fours 61 2", "solve 5 0", "referees t", "defend 02 1",
+        "fours 5 0", "fours 5 03", "fours 4294967297 3", "fours 61 2", "solve 5 0", "quiet 5 0", "referees t", "defend 02 1",
         "book 219 219", "Book 219", "books 219",
     ]
     for each in others:
@@ -237,7 +239,7 @@ def refused_texts():
         yield Case(f"a table text with {name}", ["check", "219"], bytes_, 3, f"refused {why}\n")
     uneven = position("freestyle", 15, "", "0,0")
     won = position("freestyle", 15, "0,0 1,0 2,0 3,0 4,0", "0,2 2,2 4,2 0,4")
-    for words in (["foul"], ["fours", "5", "3"], ["threats", "1", "1"], ["solve", "5", "3"]):
+    for words in (["foul"], ["fours", "5", "3"], ["threats", "1", "1"], ["solve", "5", "3"], ["quiet", "5", "3"]):
         yield Case("a white stone more", words, uneven, 3, "refused uneven 0 1\n")
         yield Case("five in a row", words, won, 3, "refused already won 0,0\n")
         yield Case("a full board", words, position(*FULL), 3, "refused board full\n")
@@ -383,6 +385,34 @@ def solves():
         yield Case(
             f"solve: a win within {depth} that needs more positions", ["solve", depth, "1"], example("wins/quiet-three.txt"), 5, "spent\n",
         )
+
+
+# Black wins within 12 moves, of which the first is quiet: a table of each was accepted, and under freestyle a separately written program
+# found one. Under renju the replies that foul are no answers.
+CROWDED = (19, "9,6 10,6 10,7 12,7 11,8 9,9 10,9 11,9 12,9 8,10 9,10", "8,5 8,6 13,6 11,7 8,8 8,9 13,9 10,10 13,10 8,11 11,11")
+OPEN_ROW = (15, "8,5 9,5 7,7 8,7 9,7 11,7", "0,0 7,6 6,7 10,7 4,9 3,10")
+QUIET_WINS = [
+    ("freestyle", *CROWDED),
+    ("exact", *CROWDED),
+    ("renju", *CROWDED),
+    ("freestyle", *OPEN_ROW),
+    ("exact", *OPEN_ROW),
+    ("freestyle", 15, "9,5 7,7 8,7 9,7 11,7", "0,0 9,4 7,6 6,7 10,7"),
+    ("freestyle", 15, "9,5 7,7 8,7 9,7 11,7", "0,0 7,6 6,7 10,7 5,8"),
+    ("freestyle", 15, "9,5 7,7 8,7 9,7 11,7", "0,0 7,6 6,7 10,7 4,9"),
+]
+
+
+def quiets():
+    # Where `solve` has a win, that is the answer.
+    yield Case("quiet: three in a row", ["quiet", "5", "3"], position(*THREE), 0, table(*THREE, 2, THREE_WINS))
+    yield Case("quiet: the most moves and positions", ["quiet", "60", "10000000"], position(*THREE), 0, table(*THREE, 2, THREE_WINS))
+    yield Case(
+        "quiet: a block that fouls", ["quiet", "5", "2"], position(*BLOCK_FOULS), 0, table(*BLOCK_FOULS, 2, ["7,3 wins", "6,3 rest 0"]),
+    )
+    # No win takes so few moves, whatever they are: `solve` says `none`, and `quiet` never does.
+    yield Case("quiet: within one move too few", ["quiet", "1", "1"], position(*THREE), 5, "spent\n")
+    yield Case("quiet: the last line not ended", ["quiet", "5", "3"], position(*THREE)[:-1], 3, "refused line 5\n")
 
 
 def drilled(number, wins, none, spent, moves):
@@ -763,7 +793,7 @@ def cut_tables():
 
 # The commands that read a whole input, with words.
 WHOLE_INPUTS = [
-    ["check", "1"], ["foul"], ["fours", "1", "1"], ["threats", "1", "1"], ["solve", "1", "1"], ["image", "half"], ["referee"],
+    ["check", "1"], ["foul"], ["fours", "1", "1"], ["threats", "1", "1"], ["solve", "1", "1"], ["quiet", "1", "1"], ["image", "half"], ["referee"],
     ["defend", "1", "1"], ["book", "1"],
 ]
 
@@ -782,7 +812,7 @@ def long_inputs():
 
 
 def all_cases():
-    for group in (words_without_a_form, checks, shared_games, refused_tables, refused_texts, fouls, fours, threats, solves, drills, images, defends, brains, held_brains, books, binds, full_books, referees, examples, rows, carriage_returns, long_tables, cut_tables, long_inputs):
+    for group in (words_without_a_form, checks, shared_games, refused_tables, refused_texts, fouls, fours, threats, solves, quiets, drills, images, defends, brains, held_brains, books, binds, full_books, referees, examples, rows, carriage_returns, long_tables, cut_tables, long_inputs):
         yield from group()
 
 
@@ -855,6 +885,16 @@ class Runs:
             listed = solved.stdout.splitlines()[-1].count(b">")
             if listed != 3:
                 self.failed.append(f"FAILED solve ({self.program.name}): {name} lists {listed} replies to its first move, of which 3 do")
+
+    def over_quiet_wins(self):
+        """Wins that begin with a quiet move: the table that `quiet` writes is accepted, in no more moves than were allowed."""
+        for at, stones in enumerate(QUIET_WINS):
+            text = position(*stones)
+            head = re.escape(lines("renju-table 1", *text.splitlines()[1:]))
+            found = self.run(["quiet", "12", "2000"], input=as_bytes(text))
+            self.expect(f"quiet: win {at}", found, 0, re.compile(head + r"moves ([1-9]|1[0-2])\nnodes \d+\n(.+\n)+"))
+            checked = self.run(["check", "1000000000000"], input=found.stdout)
+            self.expect(f"check of quiet win {at}", checked, 0, re.compile(r"accepted in ([1-9]|1[0-2]) moves, \d+ arrivals\n"))
 
     def over_collection(self):
         """The rows of the collection: a win is that of the side and the moves that are told, and its table is accepted."""
@@ -1192,7 +1232,7 @@ def main():
             continue
         with tempfile.TemporaryDirectory() as folder:
             runs = Runs(program, folder)
-            for group in (runs.over_cases, runs.over_solutions, runs.over_collection, runs.over_drill, runs.over_a_large_book, runs.over_games, runs.over_a_choice, runs.over_names, runs.over_inputs, runs.over_outputs, runs.over_managers, runs.over_memory):
+            for group in (runs.over_cases, runs.over_solutions, runs.over_quiet_wins, runs.over_collection, runs.over_drill, runs.over_a_large_book, runs.over_games, runs.over_a_choice, runs.over_names, runs.over_inputs, runs.over_outputs, runs.over_managers, runs.over_memory):
                 group()
             failed += runs.failed
         over_documents(program, failed)

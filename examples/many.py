@@ -24,7 +24,7 @@ from outputs import distinct, replace
 from solving import add_jobs, each
 
 HEAD = "renju-answers 1"
-COMMANDS = ("check", "foul", "fours", "threats", "solve", "image", "referee", "defend", "book")
+COMMANDS = ("check", "foul", "fours", "threats", "solve", "quiet", "image", "referee", "defend", "book")
 LONGEST = 100
 
 

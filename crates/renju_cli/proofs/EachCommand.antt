@@ -9,7 +9,7 @@ use Rattle.board_symmetry.specs.declared.symmetry.Symmetry.TheVariants.{Identity
 use Rattle.board_symmetry.specs.declared.symmetry.Symmetry.TheVariants.{AntiDiagonal}
 use Rattle.renju_cli.specs.declared.commands.Form.{Form}
 use Rattle.renju_cli.specs.declared.commands.Form.TheVariants.{Check, Foul, Fours, Threats, Solve, Brain, BrainWith, Drill, Referee}
-use Rattle.renju_cli.specs.declared.commands.Form.TheVariants.{RefereeWith, Image, Defend, Bind, Book}
+use Rattle.renju_cli.specs.declared.commands.Form.TheVariants.{RefereeWith, Image, Defend, Bind, Book, Quiet}
 use Rattle.table_commands.specs.declared.TheConstants.{MAX_WORK}
 use Rattle.command_base.specs.Runs.{Run}
 use Rattle.renju_cli.proofs.Common.{command, second_word, words_after}
@@ -18,6 +18,7 @@ use Rattle.position_commands.specs.Fouls.{foul_command}
 use Rattle.position_commands.specs.Fours.{fours_command}
 use Rattle.position_commands.specs.Threats.{threats_command}
 use Rattle.solve_command.specs.Solves.{solve_command}
+use Rattle.quiet_command.specs.Quiets.{quiet_command}
 use Rattle.table_commands.specs.Images.{image_command, symmetry_word}
 use Rattle.table_commands.specs.Referees.{referee_command}
 use Rattle.position_commands.specs.Defends.{defend_command}
@@ -29,6 +30,7 @@ use Rattle.position_commands.proofs.FoulLaws.{foul-answers}
 use Rattle.position_commands.proofs.FoursLaws.{fours-answers}
 use Rattle.position_commands.proofs.ThreatsLaws.{threats-answers}
 use Rattle.solve_command.proofs.SolveLaws.{solve-answers}
+use Rattle.quiet_command.proofs.QuietLaws.{quiet-answers}
 use Rattle.brain_commands.proofs.BrainLaws.{brain-answers, brain-with-answers}
 use Rattle.brain_commands.proofs.DrillLaws.{drill-answers}
 use Rattle.table_commands.proofs.ImageLaws.{image-answers}
@@ -70,6 +72,7 @@ form_told words =
     else (if bytes_eq (get_or words 0 []) (codes "fours") then Fours (number_at words 1) (number_at words 2)
     else (if bytes_eq (get_or words 0 []) (codes "threats") then Threats (number_at words 1) (number_at words 2)
     else (if bytes_eq (get_or words 0 []) (codes "solve") then Solve (number_at words 1) (number_at words 2)
+    else (if bytes_eq (get_or words 0 []) (codes "quiet") then Quiet (number_at words 1) (number_at words 2)
     else (if bytes_eq (get_or words 0 []) (codes "foul") then Foul
     else (if bytes_eq (get_or words 0 []) (codes "drill") then Drill (number_at words 1)
     else (if bytes_eq (get_or words 0 []) (codes "image") then Image (symmetry_told (get_or words 1 []))
@@ -77,7 +80,7 @@ form_told words =
     else (if bytes_eq (get_or words 0 []) (codes "defend") then Defend (number_at words 1) (number_at words 2)
     else (if bytes_eq (get_or words 0 []) (codes "bind") then Bind
     else (if bytes_eq (get_or words 0 []) (codes "book") then Book (number_at words 1)
-    else (if nat_lt 1 (length words) then BrainWith else Brain)))))))))))
+    else (if nat_lt 1 (length words) then BrainWith else Brain))))))))))))
 
 number-written : (n : ℕ) → n ≤ MAX_WORK → digits_value 10 (decimal n) ≡ n
 number-written n few = let d = decimal_is_IsNumeral n (omega (arith, few)) in d.1
@@ -101,6 +104,7 @@ form-spelled words (Drill number) range = ap Drill (number-written number (omega
 form-spelled words (Fours depth nodes) range = two-written Fours depth nodes (omega (arith, range.1)) (omega (arith, range.3))
 form-spelled words (Threats limit nodes) range = two-written Threats limit nodes (omega (arith, range.1)) (omega (arith, range.3))
 form-spelled words (Solve depth nodes) range = two-written Solve depth nodes (omega (arith, range.1)) (omega (arith, range.3))
+form-spelled words (Quiet depth nodes) range = two-written Quiet depth nodes (omega (arith, range.1)) (omega (arith, range.3))
 form-spelled words (Defend depth nodes) range = two-written Defend depth nodes (omega (arith, range.1)) (omega (arith, range.3))
 
 -- a command that did what it does answered where it is sure to
@@ -118,4 +122,5 @@ answers RefereeWith run does = referee-with-answers (second_word run.words) run 
 answers (Fours depth nodes) run does = position-answers (fours_command depth nodes) (fours-answers depth nodes) run does
 answers (Threats limit nodes) run does = position-answers (threats_command limit nodes) (threats-answers limit nodes) run does
 answers (Solve depth nodes) run does = position-answers (solve_command depth nodes) (solve-answers depth nodes) run does
+answers (Quiet depth nodes) run does = position-answers (quiet_command depth nodes) (quiet-answers depth nodes) run does
 answers (Defend depth nodes) run does = position-answers (defend_command depth nodes) (defend-answers depth nodes) run does

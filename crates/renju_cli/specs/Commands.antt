@@ -3,7 +3,7 @@ use Rattle.std.specs.Prelude.{ℕ, List, codes}
 use Rattle.text_lines.specs.Lines.{ended}
 use Rattle.renju_cli.specs.declared.commands.Form.{Form}
 use Rattle.renju_cli.specs.declared.commands.Form.TheVariants.{Check, Foul, Fours, Threats, Solve, Brain, BrainWith, Drill, Referee}
-use Rattle.renju_cli.specs.declared.commands.Form.TheVariants.{RefereeWith, Image, Defend, Bind, Book}
+use Rattle.renju_cli.specs.declared.commands.Form.TheVariants.{RefereeWith, Image, Defend, Bind, Book, Quiet}
 use Rattle.command_base.specs.Forms.{Command, IsSpelled}
 use Rattle.command_base.specs.Told.{told}
 use Rattle.command_base.specs.Positions.{of_position}
@@ -12,6 +12,7 @@ use Rattle.position_commands.specs.Fouls.{foul_command}
 use Rattle.position_commands.specs.Fours.{fours_command}
 use Rattle.position_commands.specs.Threats.{threats_command}
 use Rattle.solve_command.specs.Solves.{solve_command}
+use Rattle.quiet_command.specs.Quiets.{quiet_command}
 use Rattle.renju_cli.specs.Words.{second_word, words_after}
 use Rattle.brain_commands.specs.Brains.{brain_command, brain_with_command}
 use Rattle.brain_commands.specs.Drills.{drill_command}
@@ -28,6 +29,7 @@ command words Foul = told (of_position foul_command)
 command words (Fours depth nodes) = told (of_position (fours_command depth nodes))
 command words (Threats limit nodes) = told (of_position (threats_command limit nodes))
 command words (Solve depth nodes) = told (of_position (solve_command depth nodes))
+command words (Quiet depth nodes) = told (of_position (quiet_command depth nodes))
 command words Brain = brain_command
 command words BrainWith = brain_with_command (second_word words)
 command words (Drill number) = drill_command number
@@ -49,4 +51,4 @@ HasForm words = (form : Form) × IsForm words form
 -- what words without a form are answered with
 abbrev pub usage_line : List ℕ
 usage_line = ended (codes
-    "usage: renju check WORK, foul, fours DEPTH NODES, threats LENGTH NODES, solve DEPTH NODES, brain [FILE], drill N, image SYMMETRY, referee [FILE], defend DEPTH NODES, bind FILE .., book WORK")
+    "usage: renju check WORK, foul, fours DEPTH NODES, threats LENGTH NODES, solve DEPTH NODES, quiet DEPTH NODES, brain [FILE], drill N, image SYMMETRY, referee [FILE], defend DEPTH NODES, bind FILE .., book WORK")

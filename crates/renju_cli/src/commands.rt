@@ -14,6 +14,7 @@ use board_symmetry::Symmetry;
 use brain_commands::{play, play_with, print_drill};
 use command_base::{OfPosition, Status, deliver, tell};
 use position_commands::{Defend, FindSequence, Fours, ListFouls};
+use quiet_command::Quiet;
 use renju_io::{Shelf, Sink, Source};
 use solve_command::Solve;
 use std::alloc::Global;
@@ -21,7 +22,7 @@ use table_commands::{Check, CheckBook, Image, Referee, bind_book, referee_with};
 
 /// The line that words without a form are answered with.
 pub const USAGE: &str =
-    "usage: renju check WORK, foul, fours DEPTH NODES, threats LENGTH NODES, solve DEPTH NODES, brain [FILE], drill N, image SYMMETRY, referee [FILE], defend DEPTH NODES, bind FILE .., book WORK\n";
+    "usage: renju check WORK, foul, fours DEPTH NODES, threats LENGTH NODES, solve DEPTH NODES, quiet DEPTH NODES, brain [FILE], drill N, image SYMMETRY, referee [FILE], defend DEPTH NODES, bind FILE .., book WORK\n";
 
 /// A form of words: the command and its numbers.
 #[derive(Clone, Copy, Debug, PartialEq, Eq)]
@@ -36,6 +37,8 @@ pub enum Form {
     Threats { length: u32, nodes: u64 },
     /// `solve DEPTH NODES`, with DEPTH and NODES as those of `fours`.
     Solve { depth: u32, nodes: u64 },
+    /// `quiet DEPTH NODES`, with DEPTH and NODES as those of `fours`.
+    Quiet { depth: u32, nodes: u64 },
     /// `brain`.
     Brain,
     /// `brain FILE`, with a FILE that is not empty. It is the second word.
@@ -69,6 +72,7 @@ pub(crate) fn form_of(words: &[String]) -> Option<Form>
         "fours" => forms::fours(rest),
         "threats" => forms::threats(rest),
         "solve" => forms::solve(rest),
+        "quiet" => forms::quiet(rest),
         "brain" => forms::brain(rest),
         "drill" => forms::drill(rest),
         "image" => forms::image(rest),
@@ -114,6 +118,12 @@ pub(crate) fn run<I: Source, O: Sink, F: Shelf>(
         Some(Form::Solve { depth, nodes }) => tell(
             alloc,
             &OfPosition(Solve { depth, nodes }),
+            input,
+            output,
+        ),
+        Some(Form::Quiet { depth, nodes }) => tell(
+            alloc,
+            &OfPosition(Quiet { depth, nodes }),
             input,
             output,
         ),

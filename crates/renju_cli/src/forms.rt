@@ -69,6 +69,18 @@ pub(crate) fn solve(rest: &[String]) -> Option<Form>
     })
 }
 
+/// The form of `quiet` and the words after it, if they are DEPTH and NODES.
+pub(crate) fn quiet(rest: &[String]) -> Option<Form>
+    ensures form { MatchOption result (¬ HasForm (codes "quiet" ∷ map string_bytes rest.now))
+        (λ form. IsForm (codes "quiet" ∷ map string_bytes rest.now) form) }
+{
+    let (depth, nodes) = two_counts(rest, u64::from(MAX_DEPTH), MAX_SEARCHED)?;
+    Some(Form::Quiet {
+        depth: depth as u32,
+        nodes,
+    })
+}
+
 /// The form of `brain` and the words after it, if they are none, or a FILE that is not empty.
 pub(crate) fn brain(rest: &[String]) -> Option<Form>
     ensures form { MatchOption result (¬ HasForm (codes "brain" ∷ map string_bytes rest.now)) (λ form. IsForm (codes "brain" ∷ map string_bytes rest.now) form) }

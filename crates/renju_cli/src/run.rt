@@ -10,6 +10,7 @@ ghost use Rattle.table_commands.specs.Checks.{ShowsWin};
 ghost use Rattle.position_commands.specs.Fours.{ShowsSearch};
 ghost use Rattle.position_commands.specs.Threats.{ShowsSequence};
 ghost use Rattle.solve_command.specs.Solves.{ShowsSolution};
+ghost use Rattle.quiet_command.specs.Quiets.{ShowsQuietWin};
 ghost use Rattle.brain_commands.specs.Games.{ShowsHeldGames, ShowsOwnGames};
 ghost use Rattle.brain_commands.specs.Drills.{ShowsDrill};
 ghost use Rattle.table_commands.specs.Referees.{ShowsReferee, ShowsVerdict};
@@ -27,11 +28,11 @@ use std::alloc::Global;
 /// the shelf, writes to the output, and answers the status to exit with.
 ///
 /// The status and the text that are due are those of `Status` and of the commands. Words without a form get the usage line
-/// and status 1, and leave the input unasked, as `drill` and `bind` do. `check`, `foul`, `fours`, `threats`, `solve`, `image`, `referee`,
-/// `defend` and `book` speak of an input only once it was read to its end. Only `brain FILE` and `referee FILE`, before the input, and
-/// `bind` ask the shelf, and no command changes it. A failing output gives status 8 in place of the status that was due, and the
-/// output then has the front of the text; want of memory gives 6 and a failing input 7, and then nothing is written, or by a brain
-/// that serves the answers to the lines before.
+/// and status 1, and leave the input unasked, as `drill` and `bind` do. `check`, `foul`, `fours`, `threats`, `solve`, `quiet`, `image`,
+/// `referee`, `defend` and `book` speak of an input only once it was read to its end. Only `brain FILE` and `referee FILE`, before the
+/// input, and `bind` ask the shelf, and no command changes it. A failing output gives status 8 in place of the status that was due,
+/// and the output then has the front of the text; want of memory gives 6 and a failing input 7, and then nothing is written, or by a
+/// brain that serves the answers to the lines before.
 /// A status other than 7 says that the input counted no fault, one other than 8 that the output did not, and one that is
 /// neither 2 nor 8 that the shelf did not.
 pub fn run_renju<I: Source, O: Sink, F: Shelf>(
@@ -60,6 +61,11 @@ pub fn run_renju<I: Source, O: Sink, F: Shelf>(
     // What statuses 0, 9, 5 and 12 of `solve` show: an accepted table of a win, that there is none by threats, too small a budget,
     // or no room for a table; and where it is sure to find the win.
     ensures solved { ShowsSolution (program_run (map string_bytes words.now) (change I.left I.faults I.asked input.old input.new)
+        (change O.written O.faults O.asked output.old output.new) (change F.files F.faults F.asked shelf.old shelf.new)
+        (I.last input.new) result) }
+    // What statuses 0, 5 and 12 of `quiet` show: an accepted table of a win, of a way of `solve`, or any other where `solve` may say
+    // `none` or `spent`; that `solve` may say so; or no room for its table; and where it is sure to find the win.
+    ensures quietly { ShowsQuietWin (program_run (map string_bytes words.now) (change I.left I.faults I.asked input.old input.new)
         (change O.written O.faults O.asked output.old output.new) (change F.files F.faults F.asked shelf.old shelf.new)
         (I.last input.new) result) }
     // What `brain FILE` shows: where FILE is a table that is accepted, or a book of which each entry is, a game by a root of it begins

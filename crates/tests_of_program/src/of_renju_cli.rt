@@ -138,7 +138,7 @@ macro_rules! run {
 }
 
 /// Each command over devices that do not fail.
-static SOUND_RUNS: [Run; 14] = [
+static SOUND_RUNS: [Run; 16] = [
     run!("check 219", "", THREE_TABLE, 0, ACCEPTED),
     run!("foul", "", THREE, 0, "fouls 0\n"),
     run!("fours 5 3", "", THREE, 0, THREE_TABLE),
@@ -150,6 +150,8 @@ static SOUND_RUNS: [Run; 14] = [
         "threats 1\nthree 7,7 row 5,7 9,7\nfinal 7,5\n"
     ),
     run!("solve 5 3", "", THREE, 0, THREE_TABLE),
+    run!("quiet 5 3", "", THREE, 0, THREE_TABLE),
+    run!("quiet 1 1", "", THREE, 5, "spent\n"),
     run!(
         "defend 2 4",
         "",
@@ -192,7 +194,7 @@ static SOUND_RUNS: [Run; 14] = [
 ];
 
 /// Inputs that fail at their first read, in their midst and where the end is told.
-static FAILING_READS: [Run; 16] = [
+static FAILING_READS: [Run; 17] = [
     run!("check 219", "", THREE_TABLE, 7, "", reads: &[1]),
     run!("check 219", "", THREE_TABLE, 7, "", piece: 1, reads: &[11]),
     run!("check 219", "", THREE_TABLE, 7, "", reads: &[2]),
@@ -201,6 +203,7 @@ static FAILING_READS: [Run; 16] = [
     run!("book 219", "", TWO_ENTRIES, 7, "", reads: &[2]),
     run!("book 219", "", TWO_ENTRIES, 7, "", piece: 1, reads: &[TWO_ENTRIES.len() as u64 + 1]),
     run!("image half", "", THREE_TABLE, 7, "", piece: 7, reads: &[2]),
+    run!("quiet 5 3", "", THREE, 7, "", piece: 7, reads: &[2]),
     run!("defend 2 4", "", OPEN_THREE, 7, "", piece: 7, reads: &[2]),
     run!("referee t", THREE_TABLE, GAME, 7, "", reads: &[1]),
     run!("brain t", BLOCK_FOULS, BLOCK_LINES, 7, "", reads: &[1]),
@@ -225,11 +228,12 @@ static READS_AFTER: [Run; 8] = [
 
 /// Outputs that fail and keep the front of their piece, of which the drill's has an input that is not asked; and one that would fail
 /// after the last piece.
-static FAILING_WRITES: [Run; 9] = [
+static FAILING_WRITES: [Run; 10] = [
     run!("check 219", "", THREE_TABLE, 8, "acc", piece: 3, writes: &[1], kept: 3),
     run!("check 219", "", THREE_TABLE, 0, ACCEPTED, piece: 3, writes: &[2]),
     run!("book 219", "", TWO_ENTRIES, 8, "accepted", piece: 7, writes: &[1], kept: 8),
     run!("image half", "", THREE_TABLE, 8, "renju", piece: 7, writes: &[1], kept: 5),
+    run!("quiet 5 3", "", THREE, 8, "renju-t", piece: 7, writes: &[1], kept: 7),
     run!("defend 2 4", "", OPEN_THREE, 8, "defen", piece: 7, writes: &[1], kept: 5),
     run!("drill 0", "", "", 8, "dri", piece: 1, reads: &[1], writes: &[1], kept: 3),
     run!("bind t t", THREE_TABLE, "input", 8, "renju-b", writes: &[1], kept: 7),

@@ -2,7 +2,7 @@ use Rattle.std.proofs.Common.{◌≡◌, List, ℕ, [], ◌∷◌, ◌∙◌, ap
 use Rattle.std.specs.Prelude.{codes, string_bytes, Option, MatchOption}
 use Rattle.renju_cli.specs.declared.commands.Form.{Form}
 use Rattle.renju_cli.specs.declared.commands.Form.TheVariants.{Check, Foul, Fours, Threats, Solve, Brain, BrainWith, Drill, Referee}
-use Rattle.renju_cli.specs.declared.commands.Form.TheVariants.{RefereeWith, Image, Defend, Bind, Book}
+use Rattle.renju_cli.specs.declared.commands.Form.TheVariants.{RefereeWith, Image, Defend, Bind, Book, Quiet}
 use Rattle.renju_cli.specs.Commands.{command, HasForm, IsForm}
 use Rattle.renju_cli.proofs.Words.{no-words as none, first-word}
 use Rattle.renju_cli.proofs.FormLaws.{no-words, no-command}
@@ -51,6 +51,13 @@ returns-in-solve c = record {
   form = told-of c.solve.result _ _ (codes "solve") _
       (first-word string_bytes c.args.words.now c.name-item.result c.in-len1-up.len_at_least c.name-item.is)
       (sym c.as_str.ensures.value ∙ c.in-solve.is) c.solve.ensures.form;
+}
+
+pub returns-in-quiet : goal.returns-in-quiet
+returns-in-quiet c = record {
+  form = told-of c.quiet.result _ _ (codes "quiet") _
+      (first-word string_bytes c.args.words.now c.name-item.result c.in-len1-up.len_at_least c.name-item.is)
+      (sym c.as_str.ensures.value ∙ c.in-quiet.is) c.quiet.ensures.form;
 }
 
 pub returns-in-brain : goal.returns-in-brain
@@ -113,6 +120,7 @@ returns-in_default-as_str c =
       | Fours depth nodes ↦ λ is. c.in_default-as_str.not-fours (c.as_str.ensures.value ∙ is)
       | Threats limit nodes ↦ λ is. c.in_default-as_str.not-threats (c.as_str.ensures.value ∙ is)
       | Solve depth nodes ↦ λ is. c.in_default-as_str.not-solve (c.as_str.ensures.value ∙ is)
+      | Quiet depth nodes ↦ λ is. c.in_default-as_str.not-quiet (c.as_str.ensures.value ∙ is)
       | Brain ↦ λ is. c.in_default-as_str.not-brain (c.as_str.ensures.value ∙ is)
       | BrainWith ↦ λ is. c.in_default-as_str.not-brain (c.as_str.ensures.value ∙ is)
       | Image s ↦ λ is. c.in_default-as_str.not-image (c.as_str.ensures.value ∙ is)

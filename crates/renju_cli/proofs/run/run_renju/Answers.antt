@@ -1,13 +1,14 @@
 -- What the statuses of each command show follows from the report of its run.
 use Rattle.std.proofs.Common.{◌≡◌, sym, ap, subst, ℕ, List}
 use Rattle.renju_cli.specs.declared.commands.Form.TheVariants.{Check, Fours, Threats, Solve, Brain, BrainWith, Drill, Image, Book, Referee}
-use Rattle.renju_cli.specs.declared.commands.Form.TheVariants.{RefereeWith, Defend, Bind}
+use Rattle.renju_cli.specs.declared.commands.Form.TheVariants.{RefereeWith, Defend, Bind, Quiet}
 use Rattle.command_base.specs.Runs.{Run}
 use Rattle.command_base.specs.Forms.{HasWords}
 use Rattle.table_commands.specs.Checks.{ShowsWin}
 use Rattle.position_commands.specs.Fours.{ShowsSearch}
 use Rattle.position_commands.specs.Threats.{ShowsSequence}
 use Rattle.solve_command.specs.Solves.{ShowsSolution}
+use Rattle.quiet_command.specs.Quiets.{ShowsQuietWin}
 use Rattle.brain_commands.specs.Brains.{brain_with_words, IsBrainWith}
 use Rattle.file_loading.specs.HeldFiles.{IsFileName}
 use Rattle.renju_cli.proofs.Common.{second_word, words_after, Report}
@@ -22,6 +23,7 @@ use Rattle.table_commands.proofs.CheckLaws.{check-won}
 use Rattle.position_commands.proofs.FoursLaws.{fours-searched}
 use Rattle.position_commands.proofs.ThreatsLaws.{threats-searched}
 use Rattle.solve_command.proofs.SolveLaws.{solve-shown}
+use Rattle.quiet_command.proofs.QuietLaws.{quiet-shown}
 use Rattle.brain_commands.proofs.GameLaws.{brain-plays, brain-plays-own, file-plays-own}
 use Rattle.brain_commands.proofs.DrillLaws.{drill-shown}
 use Rattle.table_commands.proofs.ImageLaws.{image-shown}
@@ -62,6 +64,10 @@ report-sequences run report limit nodes words range =
 report-solved : (run : Run) → Report run → ShowsSolution run
 report-solved run report depth nodes words range =
     solve-shown depth nodes run (does-of run report (Solve depth nodes) (has_words words range))
+
+report-quietly : (run : Run) → Report run → ShowsQuietWin run
+report-quietly run report depth nodes words range =
+    quiet-shown depth nodes run (does-of run report (Quiet depth nodes) (has_words words range))
 
 report-imaged : (run : Run) → Report run → ShowsImage run
 report-imaged run report s words zero = image-shown s run zero (does-of run report (Image s) (has_words words tt))
@@ -108,6 +114,7 @@ returns g c = rw c.number.ensures.number (record {
   bound = report-bound _ c.run.ensures.report;
   sequences = report-sequences _ c.run.ensures.report;
   solved = report-solved _ c.run.ensures.report;
+  quietly = report-quietly _ c.run.ensures.report;
   complete = report-complete _ c.run.ensures.report;
   devices = c.run.ensures.devices;
 })
