@@ -36,6 +36,7 @@ PICTURES = {
     "three-in-a-row": [],
     "two-move-win": [],
     "two-move-win-quarter": [],
+    "quiet-win": [],
     "wins/quiet-three": ["--mark", "1=7,2", "--mark", "2=6,2", "--mark", "3=5,3", "--mark", "4=4,4"],
     "wins/block-fouls": ["--play", "14,10 12,12 10,13 9,13 10,12"],
     "wins/defended": ["--mark", "1=8,5", "--mark", "2=6,5"],
