@@ -1,16 +1,19 @@
 //! Searches whose compiler has no room for the nodes of a win: each says that it is full, and not that memory ran out.
 //!
-//! That a search tells `Full` only there is a clause of it. That it does so where memory is left is not, so it is tried.
+//! That a search tells `Full` only there is a clause of it, but of that with quiet moves. That it does so where memory is left is not,
+//! so it is tried.
 
 ghost use Rattle.std.specs.Prelude.{◌<◌, length};
 
 use crate::compared::same;
+use crate::of_quiet_search::{BLACK, WHITE};
 use foul_judge::{Position, Seen};
 use four_search::four_search;
 use game_rules::Point;
 use line_proof::prove_line;
 use proof_number::proof_number;
 use proof_tree::ProofTree;
+use quiet_search::quiet_search;
 use row_shapes::Freestyle;
 use std::alloc::Global;
 use std::process::Abort;
@@ -84,6 +87,13 @@ fn hinders_numbers(alloc: Global, compiler: &mut Compiler) -> Option<SearchError
     ).err()
 }
 
+/// What hinders a search for a win with quiet moves.
+fn hinders_quiet_moves(alloc: Global, compiler: &mut Compiler) -> Option<SearchError> {
+    let position = position_of::<Freestyle>(alloc, BLACK, WHITE)?;
+    let mut tree = ProofTree::new(alloc).ok()?;
+    quiet_search::<Freestyle>(alloc, &position, 30, 1_000, &mut tree, compiler).err()
+}
+
 #[test]
 fn a_search_without_room_for_its_win_is_full(rt: HostRuntime) {
     let mut compiler = Compiler::new(rt.alloc());
@@ -93,6 +103,8 @@ fn a_search_without_room_for_its_win_is_full(rt: HostRuntime) {
     let told = hinders_line(rt.alloc(), &mut compiler);
     same(&rt, told, Some(SearchError::Full));
     let told = hinders_numbers(rt.alloc(), &mut compiler);
+    same(&rt, told, Some(SearchError::Full));
+    let told = hinders_quiet_moves(rt.alloc(), &mut compiler);
     same(&rt, told, Some(SearchError::Full));
     same(&rt, compiler.len(), MAX_NODES);
 }
