@@ -12,6 +12,8 @@ mod answers;
 #[cfg(test)]
 mod compared;
 #[cfg(test)]
+mod counting;
+#[cfg(test)]
 mod drill_positions;
 #[cfg(test)]
 mod full_compilers;
