@@ -33,11 +33,11 @@ const MORE_PASS: u64 = 6;
 const MORE_MOVES: u32 = 2;
 
 /// Searches a win with quiet moves for the side to move, within about `depth` moves, 1 to `MAX_DEPTH`. Each round grows a tree of at most
-/// `nodes` nodes, 1 to `MAX_LISTED`, and the last of them is left: its nodes are the positions that were listed.
+/// `nodes` nodes, 1 to `MAX_LISTED`, one for each position that it lists, and that of the last round is left. That its nodes stand for
+/// positions, no clause says.
 ///
 /// A node that is told is one of the compiler, and nothing more is said of it: a table that is finished from it has to be checked.
-/// `None` says nothing of the position. `Full` says that the compiler has no room for a node,
-/// `Memory` that there is no memory.
+/// `None` says nothing of the position. `Full` says that the compiler has no room for a node, `Memory` that there is no memory.
 pub fn quiet_search<R: Rule>(
     alloc: Global,
     position: &Position<R>,
