@@ -1,7 +1,6 @@
-use Rattle.std.proofs.Common.{◌≡◌, ℕ, ◌<◌, get_or}
+use Rattle.std.proofs.Common.{◌≡◌, take, All}
 use Rattle.game_rules.specs.Play.{outcome}
 use Rattle.game_rules.specs.declared.Outcome.TheVariants.{GoesOn}
-use Rattle.threat_game.specs.declared.doubles.Kept.{Kept}
 use Rattle.threat_game.specs.Replies.{IsBeside}
 use Rattle.threat_game.proofs.replies.still_double.Given as goal
 
@@ -9,6 +8,6 @@ use Rattle.threat_game.proofs.replies.still_double.Given as goal
 abbrev pub invariant-loop-kept : goal.invariant-loop-kept
 invariant-loop-kept g l = record {
   same : g.V.Seen.position l.view ≡ g.V.Seen.position l.fn.view;
-  stopped : (k : ℕ) (d : Kept) → k < l.kept-index → IsBeside (get_or l.doubles k d).double l.q
-      → ¬ (outcome g.R.Rule.KIND (g.V.Seen.position l.fn.view) (get_or l.doubles k d).double.at ≡ GoesOn);
+  stopped : All (λ kept. IsBeside kept.double l.q → ¬ (outcome g.R.Rule.KIND (g.V.Seen.position l.fn.view) kept.double.at ≡ GoesOn))
+      (take l.kept-index l.doubles);
 }
