@@ -76,10 +76,7 @@ fn compile_four<R: Rule, V: Seen<R>>(
     ensures same { V.position view.new ≡ V.position view.old }
     ensures writes { Writes compiler.old compiler.new (2 * moves) result }
 {
-    let Ok(answer) = forced::<R, V>(alloc, view, p) else {
-        return Err(SearchError::Memory);
-    };
-    match answer {
+    match forced::<R, V>(view, p) {
         BlockAnswer::Lost => unreachable!(),
         BlockAnswer::Draw(_) => unreachable!(),
         BlockAnswer::Won => compile_won::<R, V>(alloc, view, p, moves, compiler),

@@ -63,18 +63,18 @@ fn five_points_come_in_reading_order(rt: HostRuntime) {
 }
 
 /// What becomes of a four of the side to move.
-fn fate<R: Rule>(alloc: Global, view: &mut Position<R>, four: Point) -> Option<BlockAnswer> {
+fn fate<R: Rule>(view: &mut Position<R>, four: Point) -> Option<BlockAnswer> {
     if !is_four_move::<R, Position<R>>(view, four) {
         return None;
     }
-    forced::<R, Position<R>>(alloc, view, four).ok()
+    Some(forced::<R, Position<R>>(view, four))
 }
 
 /// What becomes of White's four at 6,3, where Black has two threes in the column 7 round the block 7,3.
 fn blocked<R: Rule>(alloc: Global) -> Option<BlockAnswer> {
     let black = "7,0 7,1 7,2 2,3 7,4 7,5";
     let mut view = position_of::<R>(alloc, black, "3,3 4,3 5,3 12,14 14,14")?;
-    fate::<R>(alloc, &mut view, at(6, 3))
+    fate::<R>(&mut view, at(6, 3))
 }
 
 #[test]
@@ -96,7 +96,7 @@ fn two_five_points_win(rt: HostRuntime) {
         (at(9, 7), BlockAnswer::One(at(8, 7))),
     ];
     for (four, answer) in fates {
-        same(&rt, fate(rt.alloc(), &mut view, four), Some(answer));
+        same(&rt, fate(&mut view, four), Some(answer));
     }
 }
 

@@ -4,14 +4,12 @@
 //! and has lost where there are two or where it may not play there.
 #![tactic(auto)]
 
-ghost use Rattle.std.specs.Prelude.{◌≡◌, IfOk, IsTrue};
+ghost use Rattle.std.specs.Prelude.{◌≡◌, IsTrue};
 ghost use Rattle.threat_moves.specs.FourMoves.{is_four_move};
 ghost use Rattle.threat_moves.specs.Blocks.{by_block as by_block_lem, fate as fate_lem, block_answer};
 
-use crate::fives;
 use foul_judge::{Outcome, Seen};
-use row_shapes::Rule;
-use std::alloc::{AllocError, Global};
+use row_shapes::{FivePoints, Rule};
 use stone_board::Point;
 
 /// What becomes of a four move, the first that holds after it.
@@ -27,40 +25,32 @@ pub enum BlockAnswer {
     One(Point),
 }
 
-/// What becomes of the four move `p`. The view is as before, also where memory ran out.
-pub fn forced<R: Rule, V: Seen<R>>(
-    alloc: Global,
-    view: &mut V,
-    p: Point,
-) -> Result<BlockAnswer, AllocError>
+/// What becomes of the four move `p`. The view is as before. No memory is taken.
+pub fn forced<R: Rule, V: Seen<R>>(view: &mut V, p: Point) -> BlockAnswer
     requires four { IsTrue (is_four_move R.KIND (V.position view.old) p) }
-    ensures answer { IfOk result (λ answer. answer ≡ block_answer R.KIND (V.position view.old) p) }
+    ensures answer { result ≡ block_answer R.KIND (V.position view.old) p }
     ensures same { V.position view.new ≡ V.position view.old }
 {
     view.play(p);
-    let answer = fate::<R, V>(alloc, view);
+    let answer = fate::<R, V>(view);
     view.undo(p);
     answer
 }
 
 /// What becomes of a four where the defender is to move.
 #[tactic(auto, unfolding(crate::specs::Blocks::fate))]
-fn fate<R: Rule, V: Seen<R>>(alloc: Global, view: &mut V) -> Result<BlockAnswer, AllocError>
-    ensures fate { IfOk result (λ answer. answer ≡ fate_lem R.KIND (V.position view.old)) }
+fn fate<R: Rule, V: Seen<R>>(view: &mut V) -> BlockAnswer
+    ensures fate { result ≡ fate_lem R.KIND (V.position view.old) }
     ensures same { V.position view.new ≡ V.position view.old }
 {
     let defender = view.side();
     if view.has_five(defender) {
-        return Ok(BlockAnswer::Lost);
+        return BlockAnswer::Lost;
     }
-    let points = fives::<R, V>(alloc, view, defender.other())?;
-    match points.as_slice() {
-        [] => Ok(BlockAnswer::Lost),
-        [block] => {
-            let block = *block;
-            Ok(by_block(block, view.outcome(block)))
-        }
-        _ => Ok(BlockAnswer::Won),
+    match view.fives_in_short(defender.other()) {
+        FivePoints::None => BlockAnswer::Lost,
+        FivePoints::One(block) => by_block(block, view.outcome(block)),
+        FivePoints::Several => BlockAnswer::Won,
     }
 }
 

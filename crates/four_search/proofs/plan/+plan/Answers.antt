@@ -101,7 +101,7 @@ compile_four-forced-requires g t c =
 pub compile_four-unreachable-requires : goal.compile_four-unreachable-requires
 compile_four-unreachable-requires g t c =
     plan-not-lost g.R.Rule.KIND c.args.moves (g.V.Seen.position c.args.view.now) c.args.p c.requires.lawful c.requires.five
-    c.requires.chosen (sym c.in-Ok.ensures.answer ∙ c.in-Lost.is)
+    c.requires.chosen (sym c.in-Lost.ensures.answer)
 
 pub compile_one-overflow_sub-moves : goal.compile_one-overflow_sub-moves
 compile_one-overflow_sub-moves g t c =
@@ -172,4 +172,4 @@ compile_one-returns-clause-writes g t c =
 pub compile_four-unreachable-requires-in-Draw : goal.compile_four-unreachable-requires-in-Draw
 compile_four-unreachable-requires-in-Draw g t c =
     plan-not-draw g.R.Rule.KIND c.args.moves (g.V.Seen.position c.args.view.now) c.args.p c.requires.lawful c.requires.five
-    c.requires.chosen _ (sym c.in-Ok.ensures.answer ∙ c.in-Draw.is)
+    c.requires.chosen _ (sym c.in-Draw.ensures.answer)
