@@ -1,11 +1,30 @@
-use Rattle.std.proofs.Common.{rules, ◌≡◌, ◌*◌, true, false, Bool, cond, ap, sym, subst, ◌∙◌, arith, refl, Result, Ok, Err}
-use Rattle.std.proofs.Common.{OnErr}
+use Rattle.std.proofs.Common.{rules, ◌≡◌, ◌↔◌, ℕ, ◌*◌, ◌<◌, ◌≤◌, true, false, Bool, cond, ap, sym, subst, ◌∙◌}
+use Rattle.std.proofs.Common.{arith, refl, OnErr, Result, Ok, Err}
 use Rattle.game_rules.proofs.Common.{Grid, wins_by_fours}
+use Rattle.strategy_compiler.specs.declared.wins.WrittenWin.{WrittenWin}
 use Rattle.strategy_compiler.proofs.Common.{GrowsBy, StandsFor}
 use Rattle.strategy_compiler.proofs.Growing.{grows-more}
+use Rattle.four_search.specs.declared.answer.FourAnswer.TheVariants.{Win, None, Spent}
 use Rattle.four_search.proofs.Common.{IsSought, IsSoughtOut, IsWithoutFours, four_plan, four_line}
 use Rattle.four_search.proofs.Written.{sought-win, sought-limit}
 use Rattle.four_search.proofs.answer.four_search_with.Goals as goal
+
+-- an answer is told where what it says holds, and no other is
+module _ (budget cost : ℕ) (wins : Bool) where
+  win-not_none : (win : WrittenWin) → wins ≡ true → (Win win ≡ None) ↔ ((wins ≡ false) × (cost ≤ budget))
+  win-not_none win won = (λ e. absurd (cc), λ h. absurd (let lost : true ≡ false = sym won ∙ h.0 in cc))
+
+  win-not_spent : (win : WrittenWin) → cost ≤ budget → (Win win ≡ Spent) ↔ (budget < cost)
+  win-not_spent win fits = (λ e. absurd (cc), λ h. absurd (omega arith))
+
+  none-not_spent : cost ≤ budget → (None ≡ Spent) ↔ (budget < cost)
+  none-not_spent fits = (λ e. absurd (cc), λ h. absurd (omega arith))
+
+  spent-not_none : budget < cost → (Spent ≡ None) ↔ ((wins ≡ false) × (cost ≤ budget))
+  spent-not_none high = (λ e. absurd (cc), λ h. absurd (let low = h.1 in omega arith))
+
+twice : (moves depth : ℕ) → moves ≤ depth → 2 * moves ≤ 2 * depth
+twice moves depth within = omega arith
 
 pub compile-requires : goal.compile-requires
 compile-requires g c =
@@ -38,9 +57,8 @@ returns-in_err-node-in-Ok-Win-clause-kept g c =
     let is : IsSought g.R.Rule.KIND c.args.depth c.args.budget b c.in-Ok-Win.moves c.in-Ok-Win.line =
     subst (IsSoughtOut g.R.Rule.KIND c.args.depth c.args.budget b) c.in-Ok-Win.field-0-is c.in-Ok-Win.ensures.sought in
     let wins = sought-limit g.R.Rule.KIND b c.args.depth c.args.budget c.in-Ok-Win.moves c.in-Ok-Win.line is in
-    let within = is.within in
     let grown = grows-more c.args.compiler.now c.compile.new.compiler _ (2 * c.args.depth) c.in_err-node-in-Ok-Win.ensures.writes.grows
-    (omega (arith, within)) in
+    (twice _ _ is.within) in
     any-err c.from_residual.result
     (subst (λ (r : Bool). GrowsBy c.args.compiler.now c.compile.new.compiler (cond r (2 * c.args.depth) 0)) (sym wins) grown)
 
@@ -62,15 +80,14 @@ returns-in_ok-node-in-Ok-Win-clause-none g c =
     let is : IsSought g.R.Rule.KIND c.args.depth c.args.budget b c.in-Ok-Win.moves c.in-Ok-Win.line =
     subst (IsSoughtOut g.R.Rule.KIND c.args.depth c.args.budget b) c.in-Ok-Win.field-0-is c.in-Ok-Win.ensures.sought in
     let wins = sought-limit g.R.Rule.KIND b c.args.depth c.args.budget c.in-Ok-Win.moves c.in-Ok-Win.line is in
-    (λ e. absurd (cc), λ h. absurd (let lost : true ≡ false = sym wins ∙ h.0 in cc))
+    win-not_none _ _ _ _ wins
 
 pub returns-in_ok-node-in-Ok-Win-clause-spent : goal.returns-in_ok-node-in-Ok-Win-clause-spent
 returns-in_ok-node-in-Ok-Win-clause-spent g c =
     let b : Grid = g.V.Seen.position c.args.view.now in
     let is : IsSought g.R.Rule.KIND c.args.depth c.args.budget b c.in-Ok-Win.moves c.in-Ok-Win.line =
     subst (IsSoughtOut g.R.Rule.KIND c.args.depth c.args.budget b) c.in-Ok-Win.field-0-is c.in-Ok-Win.ensures.sought in
-    let fits = is.fits in
-    (λ e. absurd (cc), λ h. absurd (omega (arith, fits, h)))
+    win-not_spent _ _ true _ is.fits
 
 pub returns-in-Ok-None-clause-none : goal.returns-in-Ok-None-clause-none
 returns-in-Ok-None-clause-none g c =
@@ -91,14 +108,13 @@ returns-in-Ok-None-clause-spent g c =
     let none : IsWithoutFours g.R.Rule.KIND c.args.depth c.args.budget (g.V.Seen.position c.args.view.now) =
     subst (IsSoughtOut g.R.Rule.KIND c.args.depth c.args.budget (g.V.Seen.position c.args.view.now)) c.in-Ok-None.field-0-is
     c.in-Ok-None.ensures.sought in
-    let fits = none.fits in
-    (λ e. absurd (cc), λ h. absurd (omega (arith, fits, h)))
+    none-not_spent _ _ true none.fits
 
 pub returns-in-Ok-Spent-clause-none : goal.returns-in-Ok-Spent-clause-none
 returns-in-Ok-Spent-clause-none g c =
     let above = subst (IsSoughtOut g.R.Rule.KIND c.args.depth c.args.budget (g.V.Seen.position c.args.view.now)) c.in-Ok-Spent.field-0-is
     c.in-Ok-Spent.ensures.sought in
-    (λ e. absurd (cc), λ h. absurd (let low = h.1 in omega (arith, above, low)))
+    spent-not_none _ _ _ above
 
 pub returns-in-Ok-Spent-clause-spent : goal.returns-in-Ok-Spent-clause-spent
 returns-in-Ok-Spent-clause-spent g c =
