@@ -31,17 +31,17 @@ spent_at (Spent q) = Some q
 abbrev pub fewest_plan : RuleKind → ℕ → Grid → Tree
 fewest_plan rule n b = four_plan rule (unwrap_or (least_moves rule n b) 0) b
 
--- the node that answers the reply r at b stands for the plan of the fewest win after it
+-- the node that answers the reply r at b stands for the plan of the win with the fewest moves after it
 abbrev pub IsPlanned : RuleKind → ℕ → Grid → List Node → Reply → Type 0
 IsPlanned rule n b t r = StandsFor t r.next (fewest_plan rule n (after b r.at))
 
--- a branch for each of these replies at b, with the plan of the fewest win after it
+-- a branch for each of these replies at b, with the plan of the win with the fewest moves after it
 abbrev pub plans_after : RuleKind → ℕ → Grid → List Point → Branches
 plans_after rule n b [] = NoBranch
 plans_after rule n b (q ∷ qs) = Branch q (fewest_plan rule n (after b q)) (plans_after rule n b qs)
 
 -- these are the moves at b that go on and are no defences, in reading order, each with a node that wins after it, which stands for the
--- plan of the fewest win there
+-- plan of the win with the fewest moves there
 pub record AreBeaten (rule : RuleKind) (n : ℕ) (b : Grid) (t : List Node) (bad : List Reply) : Type 0 where
   pub points : map (λ r. r.at) bad ≡ beaten_of rule n b
   pub each : AllByRecursion (IsBeatenBy rule n b t) bad

@@ -14,8 +14,8 @@ pub fn spent_is_told()
 {}
 
 /// Where there is no defence, the other side wins within so many moves whatever is played first, and so does the start that is
-/// made of the answers to the replies. These answers stand for the plans of the fewest wins after the replies, so that there is one
-/// such start.
+/// made of the answers to the replies. These answers stand for the plans of the wins with the fewest moves after the replies, so that
+/// there is one such start.
 pub fn no_defence_loses()
     ensures loses { NoDefenceLoses }
     ensures wins { BeatenRepliesWin }

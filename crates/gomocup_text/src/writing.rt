@@ -30,7 +30,7 @@ impl Model for AnswerText {
 }
 
 impl AnswerText {
-    /// The bytes of the line.
+    /// The bytes of the line, at most MAX_ANSWER_BYTES.
     pub fn as_slice(&self) -> &[u8]
         ensures bytes { result.now ≡ self.now }
         ensures short { length result.now ≤ MAX_ANSWER_BYTES }

@@ -20,8 +20,8 @@ pub trait Sink {
     /// How often the sink was asked, up to 2^64 - 1. A write that fails counts too.
     ghost asked: { Self → ℕ };
 
-    /// Writes the whole piece behind what was written. A write that fails has written some first bytes of the piece,
-    /// maybe none or all of them.
+    /// Writes the whole piece, of at most MAX_PIECE_BYTES bytes, behind what was written. A write that fails has written some first
+    /// bytes of the piece, maybe none or all of them.
     fn write(&mut self, piece: &[u8]) -> Result<(), Failed>
         requires short { length piece.now ≤ MAX_PIECE_BYTES }
         ensures whole { OnOk result (Takes (written self.old) piece.now (written self.new)) }

@@ -29,8 +29,8 @@ pub trait Source {
         ensures told { result ≡ tells_end (last self.now) }
         ensures at_end { result ≡ true → IsAtEnd (left self.now) };
 
-    /// Moves the next bytes that are left to the front of `buf`, and answers how many. The bytes of `buf` behind
-    /// them may be any. 0 means that the input has ended.
+    /// Moves the next bytes that are left to the front of `buf`, which has room, and answers how many. The bytes of `buf` behind
+    /// them may be any. 0 means that the input has ended, and no read may follow.
     fn read(&mut self, buf: &mut [u8]) -> Result<usize, Failed>
         requires room { 0 < length buf.old }
         requires open { tells_end (last self.old) ≡ false }
