@@ -72,9 +72,6 @@ module _ (f : ℕ → Bool) where
       rw (m, n) (rw (first, find-later d e (a + 1) (λ k low high. h k (omega arith) (omega arith))) refl)
 
 module _ (rule : RuleKind) (b : Grid) (depth : ℕ) where
-  tree : ℕ → ℕ
-  tree k = four_tree rule k b
-
   -- what the first d depths take
   abbrev pub spent_on : ℕ → ℕ
   spent_on d = sum_by (λ k. four_tree rule k b) (range_with_len 1 d)
@@ -210,9 +207,6 @@ module _ (rule : RuleKind) (b : Grid) (depth budget left d : ℕ) (l : d < depth
     win-cost =
         let fits = (found-win rule (d + 1) b left rest line found).0 in
         omega (arith, fits, cost-win rule b depth d l none win-here, spent-more rule b depth d, spent)
-
-    pub win-depth : wins_by_fours rule depth b ≡ true
-    win-depth = wins-more rule (d + 1) depth b (omega arith) win-here
 
   pub cost-above : Spent ≡ found_at rule (d + 1) b left → budget < four_cost rule depth b
   cost-above found =

@@ -22,7 +22,7 @@ use Rattle.game_rules.proofs.Outcomes.{goes_on_with-else}
 use Rattle.row_shapes.specs.FivePoints.{in_short, takes}
 use Rattle.row_shapes.specs.declared.fives.FivePoints.{FivePoints}
 use Rattle.row_shapes.specs.declared.fives.FivePoints.TheVariants.{None as NoPoint, One as OnePoint, Several}
-use Rattle.row_shapes.proofs.FiveLaws.{has_five-one, has_five-several, one-empty, several-left, one-stays, not_taken-five, taken-none}
+use Rattle.row_shapes.proofs.FiveLaws.{one-empty, several-left, one-stays, not_taken-five, taken-none}
 use Rattle.threat_moves.specs.declared.block.BlockAnswer.{BlockAnswer}
 use Rattle.threat_moves.specs.declared.block.BlockAnswer.TheVariants.{Lost, One}
 use Rattle.threat_moves.proofs.Common.{is_four_move, fate, block_wins}
@@ -473,12 +473,6 @@ module _ (rule : RuleKind) (n : ℕ) (b : Grid) (p : Point) (budget : ℕ) where
   trying-else h = sym (trying-no_four rule n b p budget no_four) where
     no_four : is_four_move rule b p ≡ false
     no_four = goes_on_with-else (outcome rule b p) (has_five rule (after b p) (mover b)) h
-
-  some_five : (made : FivePoints) → made ≡ in_short (five_points rule (after b p) (mover b)) → (made ≡ NoPoint → ⊥)
-      → has_five rule (after b p) (mover b) ≡ true
-  some_five NoPoint e some = absurd (some refl)
-  some_five (OnePoint w) e some = has_five-one rule (after b p) (mover b) w (sym e)
-  some_five Several e some = has_five-several rule (after b p) (mover b) (sym e)
 
   pub trying-goes : has_five rule (after b p) (mover b) ≡ true → outcome rule b p ≡ GoesOn
       → found_behind rule n b p budget ≡ found_trying rule n b p budget

@@ -17,7 +17,6 @@ use Rattle.strategy_graph.specs.declared.Node.{Node}
 use Rattle.strategy_graph.specs.declared.roots.Root.{Root}
 use Rattle.game_referee.specs.declared.ReplayAnswer.TheVariants.{Follows, Departs}
 use Rattle.game_referee.specs.declared.GameVerdict.{GameVerdict}
-use Rattle.game_referee.specs.declared.GameVerdict.TheVariants.{Open}
 use Rattle.game_referee.proofs.Common.{outcomes, verdict_from, WentOn, departs_from, is_stray, next_turn, strays}
 
 module _ (rule : RuleKind) (b c : Grid) (p : Point) (lawful : IsPosition rule b) (on : outcome rule b p ≡ GoesOn)
@@ -82,12 +81,6 @@ module _ (rule : RuleKind) (b : Grid) (ms : List Point) where
         let points = mul-le b.width b.height 32 32 ok.width_fits ok.height_fits in
         let fewer = h.fewer in
         omega (arith, all, points, fewer)
-
-    -- all of them
-    pub played-all : PlayedOn rule b ms n e → n ≡ length ms → Open n ≡ verdict_from 0 (mover b) (outcomes rule b ms)
-    played-all h all =
-        let none : drop n ms ≡ [] = drop_all n ms (omega (arith, all)) in
-        ap (λ (l : List Point). verdict_from n (mover e) (outcomes rule e l)) (sym none) ∙ h.judged
 
     -- as many outcomes as moves
     pub length-outcomes : (c : Grid) (ps : List Point) → length (outcomes rule c ps) ≡ length ps

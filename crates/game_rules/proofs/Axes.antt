@@ -2,7 +2,6 @@
 use Rattle.std.proofs.Common.{◌≡◌, Bool, true, false, ◌≤◌, ◌≢◌, ◌⊎◌, rules}
 use Rattle.std.specs.List.{list_any, count_by}
 use Rattle.std.proofs.lemmas.Bool.{or_left, or_right, or_cases, or_parts}
-use Rattle.std.proofs.Math.Bool.{or-false}
 use Rattle.game_rules.proofs.Common.{axes, opposite}
 use Rattle.game_rules.specs.declared.Axis.{Axis}
 use Rattle.game_rules.specs.declared.Way.{Way}
@@ -23,10 +22,6 @@ no_axis f h d = search (rules, or_parts)
 -- where one test follows from another, at most as many axes meet the other
 pub fewer_axes : (f g : Axis → Bool) → ((d : Axis) → f d ≡ true → g d ≡ true) → count_by f axes ≤ count_by g axes
 fewer_axes f g h = search (rules, more_pass)
-
--- where no other axis wins, the one decides
-pub by_axis : (f : Axis → Bool) (d : Axis) → ((e : Axis) → e ≢ d → f e ≡ false) → list_any f axes ≡ f d
-by_axis f d h = search (rules, or-false)
 
 pub same_way : (v u : Way) → (u ≡ v) ⊎ (u ≡ opposite v)
 same_way v u = search rules

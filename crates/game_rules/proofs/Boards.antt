@@ -188,9 +188,6 @@ cells_fit b ok = search (rules, mul-le)
 pub grid_eq : (a b : Grid) → a.width ≡ b.width → a.height ≡ b.height → a.cells ≡ b.cells → a ≡ b
 grid_eq a b w h c = λ i. record { width = w i; height = h i; cells = c i }
 
-pub kept_empty_by : (b : Grid) (r q : Point) (t : Bool) → is_empty b r ≡ t → cond t (Some r) None ≡ Some q → (r ≡ q) × (is_empty b r ≡ true)
-kept_empty_by b r q t e h = search rules
-
 -- a stone of either side on an empty point takes no stone away
 pub stone_kept : (b : Grid) (s t : Side) (g q : Point) → holds b s g ≡ true → is_empty b q ≡ true → holds (put b t q) s g ≡ true
 stone_kept b s t g q mine empty = search (rules, same_or_apart, empty_holds, holds-put_other, is_empty-on)

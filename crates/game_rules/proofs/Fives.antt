@@ -15,7 +15,7 @@ use Rattle.game_rules.proofs.Boards.{cell_at-put_same, same_or_apart, stone_of-t
 use Rattle.game_rules.proofs.Positions.{IsBoard-put, ahead-other, behind-other, GoesOn-empty, mover-then}
 use Rattle.game_rules.specs.declared.RuleKind.TheVariants.{Freestyle, Exact}
 use Rattle.game_rules.specs.declared.Side.TheVariants.{Black}
-use Rattle.game_rules.proofs.PointLists.{some_listed, no_points, passing, apart_same, find-and}
+use Rattle.game_rules.proofs.PointLists.{no_points, passing, apart_same, find-and}
 use Rattle.game_rules.proofs.Points.{filter-none, filter-passes, points-found, is_same_point-itself, is_same_point-same}
 use Rattle.game_rules.proofs.Places.{two_passing-apart}
 use Rattle.game_rules.specs.declared.Outcome.TheVariants.{GoesOn}
@@ -49,13 +49,6 @@ same_fives rule b c s q h = rw (h Row, h Column, h Down, h Up) refl
 
 pub five_alone : (rule : RuleKind) → has_fouls rule Black ≡ true → (n : ℕ) → row_wins rule Black n ≡ nat_eq n 5
 five_alone rule f n = search rules
-
-pub run_short : (rule : RuleKind) (s : Side) (m n : ℕ) → row_wins rule s n ≡ true → row_wins rule s m ≡ false → m < n → (m ≤ 4) × (5 ≤ n)
-run_short rule s m n h k less = search rules
-
-pub has_by : (rule : RuleKind) (b : Grid) (s : Side) (xs : List Point) (none : Bool) → xs ≡ five_points rule b s
-    → none ≡ nat_eq (length xs) 0 → not none ≡ has_five rule b s
-has_by rule b s xs none h e = ap not e ∙ some_listed (five rule b s) (points_of b) xs h
 
 -- the least five point of the side to move
 abbrev pub least_five : RuleKind → Grid → Option Point

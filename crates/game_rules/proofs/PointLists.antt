@@ -1,19 +1,18 @@
 -- Lists of points: what is found, filtered, counted and summed in them.
 use Rattle.std.proofs.Common.{rules}
 use Rattle.std.proofs.Common.{not, List, ◌≡◌, Bool, cond, refl, ap, ◌∙◌, [], ◌∷◌, true, false, ◌&&◌, ◌||◌, suc, sym, subst, arith, zero, ℕ}
-use Rattle.std.proofs.Common.{◌+◌, ◌<◌, length, drop, get_or, ◌++◌, take, nat_eq, ◌≤◌, reverse, nat_le, leb-true, leb-false, le-leb}
+use Rattle.std.proofs.Common.{◌+◌, ◌<◌, length, drop, get_or, ◌++◌, take, ◌≤◌, reverse, nat_le, leb-true, leb-false, le-leb}
 use Rattle.std.specs.List.{filter, list_any, find, All, list_all, sum_by, AllByRecursion}
 use Rattle.std.specs.Prelude.{Some, None, Contains, Option, unwrap_or}
 use Rattle.std.specs.Option.{option_or}
-use Rattle.std.proofs.lemmas.Bool.{or_right, and_from, and_parts, false_from_ne_true, or_parts, or_from}
+use Rattle.std.proofs.lemmas.Bool.{or_right, and_from, false_from_ne_true, or_parts, or_from}
 use Rattle.std.proofs.Math.Seq.{drop-cons}
 use Rattle.std.proofs.lemmas.List.{take_more, reverse-append}
 use Rattle.std.proofs.lemmas.List.Folds.{list_all-append}
-use Rattle.std.proofs.lemmas.Bool.Decides.{nat_tests}
 use Rattle.std.proofs.lemmas.List.Sums.{sum_by-cons}
 use Rattle.game_rules.proofs.Common.{is_same_point, is_at, Grid, is_on, points_of}
 use Rattle.game_rules.specs.declared.Point.{Point}
-use Rattle.game_rules.proofs.Points.{is_same_point-same, filter-none, filter-some, filter-passes, is_same_point-itself, points-found}
+use Rattle.game_rules.proofs.Points.{is_same_point-same, filter-passes, is_same_point-itself, points-found}
 use Rattle.game_rules.proofs.Boards.{Apart, and_left, and_right}
 use Rattle.game_rules.proofs.Places.{find-passes, find-some}
 
@@ -73,29 +72,6 @@ first_points points i within = take_more points i (record { x = 0; y = 0 }) with
 
 pub all-append : (f : Point → Bool) (xs ys : List Point) → list_all f xs ≡ true → list_all f ys ≡ true → list_all f (xs ++ ys) ≡ true
 all-append f xs ys h k = list_all-append f xs ys ∙ and_from (list_all f xs) _ h k
-
-pub first_on : (f : Point → Bool) (p : Point) (ps : List Point) → list_all f (p ∷ ps) ≡ true → (f p ≡ true) × (list_all f ps ≡ true)
-first_on f p ps h = and_parts (f p) (list_all f ps) h
-
-pub filter_same : (f g h : Point → Bool) → ((q : Point) → h q ≡ true → f q ≡ g q) → (xs : List Point) → list_all h xs ≡ true
-    → filter f xs ≡ filter g xs
-filter_same f g h same [] all = refl
-filter_same f g h same (x ∷ xs) all =
-    let both = first_on h x xs all in
-    let here = same x both.0 in
-    rw here (ap (λ (ps : List Point). cond (g x) (x ∷ ps) ps) (filter_same f g h same xs both.1))
-
-pub filter_all : (g h : Point → Bool) (xs : List Point) → list_all h xs ≡ true → list_all h (filter g xs) ≡ true
-filter_all g h [] all = refl
-filter_all g h (x ∷ xs) all = let both = first_on h x xs all in by_test (g x) both.0 (filter_all g h xs both.1) where
-  by_test : (r : Bool) → h x ≡ true → list_all h (filter g xs) ≡ true → list_all h (cond r (x ∷ filter g xs) (filter g xs)) ≡ true
-  by_test true here rest = rw (here, rest) refl
-  by_test false here rest = rest
-
-pub some_listed : (f : Point → Bool) (ps xs : List Point) → xs ≡ filter f ps → not (nat_eq (length xs) 0) ≡ list_any f ps
-some_listed f ps [] h = sym (filter-none f ps (sym h))
-some_listed f ps (x ∷ xs) h = let some = filter-some f x xs ps (sym h) in let more : nat_eq (suc (length xs)) 0 ≡ false =
-    grind (arith, nat_tests) in rw (more, some) refl
 
 pub some_passes : (f g : Point → Bool) (xs : List Point) → list_any f (filter g xs) ≡ true → (x : Point) × (g x ≡ true)
 some_passes f g [] h = cc

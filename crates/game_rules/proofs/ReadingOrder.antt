@@ -1,21 +1,17 @@
 -- Points in reading order: rows of points, and lists whose points come one after another.
 use Rattle.std.proofs.Common.{◌≡◌, ℕ, suc, ◌+◌, refl, ◌∷◌, List, ◌++◌, ◌⊎◌, ◌≤◌, ◌<◌, [], inr, arith, zero, Bool, true, false}
-use Rattle.std.proofs.Common.{nat_lt, eq-eqb, ◌*◌, length, ◌∙◌, not, sym, ap, ◌&&◌, ◌/◌, ◌%◌, rules}
+use Rattle.std.proofs.Common.{nat_lt, eq-eqb, ◌*◌, length, ◌∙◌, ap, ◌&&◌, ◌/◌, ◌%◌, rules}
 use Rattle.std.specs.List.{flat_map, range_with_len, filter, list_all, sum_by, AllByRecursion}
-use Rattle.std.specs.Prelude.{map, slice_index_or}
+use Rattle.std.specs.Prelude.{slice_index_or}
 use Rattle.std.proofs.lemmas.Bool.Decides.{nat_tests}
 use Rattle.std.proofs.lemmas.Bool.{or_right, lt-ltb}
-use Rattle.std.proofs.lemmas.List.{length-map}
-use Rattle.std.proofs.lemmas.List.Filters.{length-filter_both}
-use Rattle.std.proofs.Math.ListN.{length-append}
 use Rattle.std.proofs.lemmas.List.Sums.{sum_by-cons}
 use Rattle.std.proofs.Math.Nat.{div-lt_iff_lt-mul}
 use Rattle.game_rules.proofs.Common.{row_from, Grid, points_of, is_on, IsBoard, is_empty, is_empty_cell, cell_at, empties_of, precedes}
 use Rattle.game_rules.proofs.Common.{is_same_point}
 use Rattle.game_rules.specs.declared.Point.{Point}
 use Rattle.game_rules.specs.declared.Cell.TheVariants.{Empty}
-use Rattle.game_rules.proofs.Places.{points_length, points_on}
-use Rattle.game_rules.proofs.PointLists.{all-append, first_on, filter_same, sum-ones, each-append}
+use Rattle.game_rules.proofs.PointLists.{sum-ones, each-append}
 use Rattle.game_rules.proofs.Points.{is_same_point-same}
 use Rattle.game_rules.proofs.Cells.{some_place}
 
@@ -73,61 +69,8 @@ filter-following f y x (p ∷ ps) h = search (rules, Following-later, filter-fol
 pub precedes-from : (p q : Point) → From p.y (p.x + 1) q → precedes p q ≡ true
 precedes-from p q h = search (rules, eq-eqb, or_right)
 
-pub told_length : {X : Type 0} (f : Point → X) (b : Grid) → length (map f (points_of b)) ≡ b.width * b.height
-told_length f b = length-map (points_of b) f ∙ points_length b
-
-pub row_all : (f : Point → Bool) (y : ℕ) (x n : ℕ) → ((v : ℕ) → x ≤ v → v < x + n → f (record { x = v; y = y }) ≡ true)
-    → list_all f (row_from y x n) ≡ true
-row_all f y x zero h = refl
-row_all f y x (suc n) h = rw (h x (omega arith) (omega arith)) (row_all f y (x + 1) n (λ v low high. h v (omega arith) (omega arith)))
-
 abbrev pub rows : ℕ → ℕ → ℕ → List Point
 rows width a n = flat_map (λ y. row_from y 0 width) (range_with_len a n)
-
-pub rows_all : (f : Point → Bool) (width a n : ℕ) → ((v u : ℕ) → v < width → a ≤ u → u < a + n → f (record { x = v; y = u }) ≡ true)
-    → list_all f (rows width a n) ≡ true
-rows_all f width a zero h = refl
-rows_all f width a (suc n) h = all-append f (row_from a 0 width) _
-    (row_all f a 0 width (λ v low high. h v a (omega arith) (omega arith) (omega arith)))
-    (rows_all f width (a + 1) n (λ v u near low high. h v u near (omega arith) (omega arith)))
-
--- each point precedes all later ones
-abbrev pub Rises : List Point → Type 0
-Rises [] = Unit {0}
-Rises (x ∷ xs) = (list_all (precedes x) xs ≡ true) × Rises xs
-
-rises-append : (xs ys : List Point) → Rises xs → Rises ys → list_all (λ x. list_all (precedes x) ys) xs ≡ true → Rises (xs ++ ys)
-rises-append [] ys h k all = k
-rises-append (x ∷ xs) ys h k all =
-    let both = first_on (λ x. list_all (precedes x) ys) x xs all in
-    (all-append (precedes x) xs ys h.0 both.0, rises-append xs ys h.1 k both.1)
-
-row_rises : (y x n : ℕ) → Rises (row_from y x n)
-row_rises y x zero = tt
-row_rises y x (suc n) = search (rules, row_all, row_rises y (x + 1) n)
-
-pub rows_rise : (width a n : ℕ) → Rises (rows width a n)
-rows_rise width a zero = tt
-rows_rise width a (suc n) = search (rules, rises-append, row_rises, row_all, rows_all, rows_rise width (a + 1) n)
-
--- tests that agree on the points of the board pass the same
-pub filter_agree : (b : Grid) (f g : Point → Bool) → ((q : Point) → is_on b q ≡ true → f q ≡ g q)
-    → filter f (points_of b) ≡ filter g (points_of b)
-filter_agree b f g same = filter_same f g (is_on b) same (points_of b) (points_on b)
-
--- they are no more than there are points
-pub filter_fits : (b : Grid) (g : Point → Bool) → length (filter g (points_of b)) ≤ b.width * b.height
-filter_fits b g =
-    let both = length-filter_both g (λ q. not (g q)) (λ q. refl) (points_of b) in
-    let all = points_length b in
-    omega (arith, both, all)
-
-pub one_more_fits : (b : Grid) (f : Point → Bool) (found rest : List Point) (p : Point) (room : ℕ)
-    → found ++ p ∷ rest ≡ filter f (points_of b) → b.width * b.height ≤ room → length found + 1 ≤ room
-one_more_fits b f found rest p room all fits =
-    let few = filter_fits b f in
-    let sizes : length found + length (p ∷ rest) ≡ length (filter f (points_of b)) = sym (length-append found (p ∷ rest)) ∙ ap length all in
-    omega (arith, few, sizes)
 
 -- each point comes before all later ones
 abbrev pub Rising : List Point → Type 0

@@ -12,7 +12,6 @@ use Rattle.game_rules.specs.declared.Way.{Way}
 use Rattle.game_rules.specs.declared.Point.{Point}
 use Rattle.game_rules.specs.declared.Way.TheVariants.{Ahead, Behind}
 use Rattle.game_rules.proofs.Boards.{Apart, and_left, and-same, empty_holds, holds-put_same, is_empty-on, is_empty-put}
-use Rattle.game_rules.proofs.Lines.{OnLine, along-OnLine}
 use Rattle.game_rules.proofs.Points.{is_at-here, is_at-Some}
 use Rattle.game_rules.proofs.Positions.{IsBoard-put, is_at_or_not, stone_at-else, stone_at-more}
 use Rattle.game_rules.proofs.Rows.{any_found, any_in_range}
@@ -23,19 +22,6 @@ use Rattle.game_rules.proofs.OneLine.{empty-before}
 use Rattle.game_rules.proofs.Runs.{InRun}
 
 -- ---- where the ends are
-
--- a point besides p is on one axis through it at most
-one_axis : (p q : Point) (x y u v : ℕ) → x ≢ y → u ≢ v → (d e : Axis) → OnLine d p x y q → OnLine e p u v q → d ≡ e
-one_axis p q x y u v h k d e l m = search rules
-
-axes_by : (d e : Axis) (p q : Point) (w v : Way) (j k : ℕ) → 1 ≤ j → 1 ≤ k → go w d p j 0 ≡ Some q → go v e p k 0 ≡ Some q → d ≡ e
-axes_by d e p q w v j k low some h f = search (rules, one_axis, along-OnLine)
-
--- an end of a run on one axis is none on another
-pub ends_differ : (b : Grid) (s : Side) (p q : Point) (d e : Axis) (w v : Way) → run_end b s d w p ≡ Some q → run_end b s e v p ≡ Some q
-    → d ≡ e
-ends_differ b s p q d e w v h f = axes_by d e p q w v (1 + stones_towards w b s d p) (1 + stones_towards v b s e p) (omega arith)
-    (omega arith) h f
 
 -- and it is not the point of the stone
 pub end_apart : (b : Grid) (s : Side) (p q : Point) (d : Axis) (w : Way) → run_end b s d w p ≡ Some q → Apart p q

@@ -111,9 +111,6 @@ module _ (rule : RuleKind) (left : ℕ) (c : Grid) where
       }
 
   module _ (children : List Child) where
-    pub none-settled : (t : List Node) → AreSettled rule left c t children 0 [] []
-    none-settled t = record { numbers_count = refl; notes_count = refl; each = λ k low. absurd (omega (arith, low)) }
-
     -- one more child
     pub one-settled : (t more : List Node) (k : ℕ) (numbers : List Numbers) (notes : List Note) (child : Child) (n : Numbers) (note : Note)
         → NamesLower t → AreSettled rule left c t children k numbers notes

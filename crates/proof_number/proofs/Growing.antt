@@ -50,9 +50,6 @@ module _ {rule : RuleKind} {s : Search} {t : Tree} {c : List Node} {leaf : ℕ} 
     (wins : length (c ++ more) + sum_below (length t.links) (unwritten (won_at (game_of rule s t)) t v.notes.items)
     + behind_leaves wins_behind (game_of rule s t) ≤ s.before + threat_wins rule s.depth s.root
     + wins_behind (link_at t.links leaf).kind rule (left_at (game_of rule s t).left leaf) (board_at (game_of rule s t) leaf)) where
-  now : Tree
-  now = record { links = t.links; numbers = u.numbers }
-
   same-tree : u ≡ record { links = t.links; numbers = u.numbers }
   same-tree = λ i. record { links = st.links i; numbers = u.numbers }
 

@@ -82,10 +82,6 @@ sum-list h d (x ∷ xs) =
       one_more : (j : ℕ) → 1 + j ≡ suc j
       one_more j = omega arith
 
-pub sum-zeros : (n : ℕ) → sum_below n (λ i. 0) ≡ 0
-sum-zeros zero = sum-zero (λ i. 0)
-sum-zeros (suc n) = let a = sum-suc n (λ i. 0) in let rest = sum-zeros n in omega (arith, a, rest)
-
 -- one for each
 pub sum-ones : (n : ℕ) (f : ℕ → ℕ) → ((i : ℕ) → f i ≡ 1) → sum_below n f ≡ n
 sum-ones zero f one = sum-zero f

@@ -115,9 +115,6 @@ pub record IsAskedUpTo (rest all old new : ℕ) : Type 0 where
   pub exact : rest + calls ≡ all
   pub asked : IsAsked calls old new
 
-pub up_to_begun : (all a : ℕ) → IsAskedUpTo all all a a
-up_to_begun all a = record { calls = 0; exact = omega arith; asked = refl }
-
 pub up_to_once : (rest later all a b c : ℕ) → IsAskedUpTo rest all a b → later + 1 ≡ rest → IsAskedOnce b c → IsAskedUpTo later all a c
 up_to_once rest later all a b c so_far less once = record {
   calls = suc so_far.calls;
@@ -128,9 +125,3 @@ up_to_once rest later all a b c so_far less once = record {
 -- so there were no more calls than these
 pub up_to_few : (rest all a b : ℕ) → IsAskedUpTo rest all a b → IsAskedAtMost all a b
 up_to_few rest all a b so_far = record { calls = so_far.calls; few = omega (arith, so_far.exact); asked = so_far.asked }
-
--- and all of them where none is left
-pub up_to_all : (rest all a b : ℕ) → IsAskedUpTo rest all a b → rest ≡ 0 → IsAsked all a b
-up_to_all rest all a b so_far none =
-    let all_made : so_far.calls ≡ all = omega (arith, so_far.exact, none) in
-    so_far.asked ∙ ap (λ n. after_calls n a) all_made

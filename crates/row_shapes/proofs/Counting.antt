@@ -1,16 +1,14 @@
 -- Fours counted by gaps: each four by the first of its five places and by the one that is left out.
-use Rattle.std.proofs.Common.{◌≡◌, ℕ, ◌+◌, ◌<◌, Bool, true, false, cond, ◌&&◌, ◌||◌, refl, arith, zero, suc}
-use Rattle.std.proofs.Common.{◌≤◌, ◌≢◌, ◌-◌, not, sym, ◌∙◌, nat_eq, map, count_by, sum_by}
+use Rattle.std.proofs.Common.{◌≡◌, ℕ, ◌+◌, ◌<◌, Bool, true, false, cond, ◌&&◌, ◌||◌, refl, arith}
+use Rattle.std.proofs.Common.{◌≤◌, ◌≢◌, ◌-◌, not, ◌∙◌, nat_eq, map, count_by, sum_by}
 use Rattle.std.specs.List.{range_with_len}
-use Rattle.std.proofs.lemmas.Bool.{false_from_ne_true, or_right}
-use Rattle.std.proofs.lemmas.Bool.Decides.{nat_tests}
+use Rattle.std.proofs.lemmas.Bool.{false_from_ne_true}
 use Rattle.game_rules.proofs.Common.{count_fours, Grid, fours_of, place_stone, place_wins}
 use Rattle.game_rules.specs.declared.RuleKind.{RuleKind}
 use Rattle.game_rules.specs.declared.Side.{Side}
 use Rattle.game_rules.specs.declared.Axis.{Axis}
 use Rattle.game_rules.specs.declared.Point.{Point}
 use Rattle.row_shapes.proofs.Common.{listed, fours_from, is_four, are_stones}
-use Rattle.game_rules.proofs.Rows.{all_range}
 
 -- all fours, over where their five places begin
 abbrev pub fours_by_gap : (ℕ → Bool) → (ℕ → Bool) → ℕ
@@ -95,59 +93,3 @@ module _ (stone wins : ℕ → Bool) (none : (i : ℕ) → wins i ≡ false) whe
   -- where no place wins, there is no four
   pub no_wins : fours_by_gap stone wins ≡ 0
   no_wins = rw (none_from 0, none_from 1, none_from 2, none_from 3, none_from 4) refl
-
-each_zero : (f : ℕ → ℕ) → sum_by f (range_with_len 0 5) ≡ 0 → (k : ℕ) → k < 5 → f k ≡ 0
-each_zero f h zero low = omega arith
-each_zero f h (suc zero) low = omega arith
-each_zero f h (suc (suc zero)) low = omega arith
-each_zero f h (suc (suc (suc zero))) low = omega arith
-each_zero f h (suc (suc (suc (suc zero)))) low = omega arith
-each_zero f h (suc (suc (suc (suc (suc k))))) low = absurd (omega arith)
-
-no_by : (r : Bool) → ◌≡◌ {A = ℕ} (cond r 1 0) 0 → r ≡ false
-no_by true h = absurd (omega arith)
-no_by false h = refl
-
-each_none : (f : ℕ → Bool) → count_by f (range_with_len 1 4) ≡ 0 → (k : ℕ) → 1 ≤ k → k ≤ 4 → f k ≡ false
-each_none f h zero low high = absurd (omega arith)
-each_none f h (suc zero) low high = no_by (f 1) (omega arith)
-each_none f h (suc (suc zero)) low high = no_by (f 2) (omega arith)
-each_none f h (suc (suc (suc zero))) low high = no_by (f 3) (omega arith)
-each_none f h (suc (suc (suc (suc zero)))) low high = no_by (f 4) (omega arith)
-each_none f h (suc (suc (suc (suc (suc k))))) low high = absurd (omega arith)
-
-module _ (stone wins : ℕ → Bool) (none : fours_by_gap stone wins ≡ 0) where
-  no_four : (first gap : ℕ) → first < 5 → 1 ≤ gap → gap ≤ 4 → is_four stone wins first gap ≡ false
-  no_four first gap low some high = each_none (λ g. is_four stone wins first g) (each_zero (λ f. fours_from stone wins f) none first low)
-      gap some high
-
-  stones_but : (first gap : ℕ) → ((i : ℕ) → i < 5 → i ≢ gap → stone (i + 4 - first) ≡ true) → are_stones stone first gap ≡ true
-  unfolding are_stones
-  stones_but first gap h = all_range (λ i. nat_eq i gap || stone (i + 4 - first)) 5 0
-      (λ i low high. by_test i (nat_eq i gap) refl (omega arith)) where
-        by_test : (i : ℕ) (r : Bool) → nat_eq i gap ≡ r → i < 5 → (r || stone (i + 4 - first)) ≡ true
-        by_test i true e high = refl
-        by_test i false e high = h i high
-            (λ same. absurd (let yes : nat_eq i gap ≡ true = grind (arith, nat_tests) in let differ : false ≡ true = sym e ∙ yes in cc))
-
-  -- five places with one to win between them, or past four in a row
-  pub no_window : (first gap : ℕ) → first < 5 → 1 ≤ gap → gap ≤ 4 → first ≢ gap → ((i : ℕ) → i < 5 → i ≢ gap → stone (i + 4 - first) ≡ true)
-      → wins (gap + 4 - first) ≡ true → ⊥
-  unfolding is_four
-  no_window first gap low some high differ stones win =
-      let apart : nat_eq first gap ≡ false = false_from_ne_true _ (λ e. differ (grind (arith, nat_tests))) in
-      let four : (not (nat_eq first gap) && are_stones stone first gap && (wins (gap + 4 - first) || (nat_eq gap 4 && wins (3 - first))))
-      ≡ true = rw (apart, stones_but first gap stones, win) refl in
-      let no = no_four first gap low some high in
-      let both : false ≡ true = sym no ∙ four in
-      cc
-
-  pub no_row : (first : ℕ) → first < 4 → ((i : ℕ) → i < 4 → stone (i + 4 - first) ≡ true) → wins (3 - first) ≡ true → ⊥
-  unfolding is_four
-  no_row first low stones win =
-      let apart : nat_eq first 4 ≡ false = grind (arith, nat_tests) in
-      let four : (not (nat_eq first 4) && are_stones stone first 4 && (wins (4 + 4 - first) || (nat_eq 4 4 && wins (3 - first)))) ≡ true =
-      rw (apart, stones_but first 4 (λ i small other. stones i (omega arith))) (or_right (wins (4 + 4 - first)) _ win) in
-      let no = no_four first 4 (omega arith) (omega arith) (omega arith) in
-      let both : false ≡ true = sym no ∙ four in
-      cc

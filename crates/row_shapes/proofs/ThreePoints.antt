@@ -71,9 +71,6 @@ module _ (rule : RuleKind) (b : Grid) (s : Side) (w : Way) (d : Axis) (p q : Poi
 -- q is the first point in that way that holds no stone of the side, and it is empty
 module _ (rule : RuleKind) (b : Grid) (s : Side) (w : Way) (d : Axis) (p q : Point) (ok : IsBoard b) (mine : holds b s p ≡ true)
     (empty : is_empty b q ≡ true) (here : go w d p (1 + stones_towards w b s d p) 0 ≡ Some q) where
-  on_p : is_on b p ≡ true
-  on_p = and_left (is_on b p) _ mine
-
   on_q : is_on b q ≡ true
   on_q = is_empty-on b q empty
 

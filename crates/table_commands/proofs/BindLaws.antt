@@ -332,27 +332,11 @@ bind-shown names run is done = where-told run.shelf.before (λ shelf told. by-en
 
 -- ---- names, one by one
 
-each-more : (names : List (List ℕ)) (name : List ℕ) → AllByRecursion IsFileName names → IsFileName name
-    → AllByRecursion IsFileName (names ++ name ∷ [])
-each-more [] name all is = (is, tt)
-each-more (n ∷ names) name all is = (all.0, each-more names name all.1 is)
-
--- the words that were looked at are no empty ones
-pub filled-more : {X : Type 0} (f : X → List ℕ) (xs : List X) (i : ℕ) (x : X) → i < length xs → x ≡ get_or xs i x
-    → AllByRecursion IsFileName (map f (take i xs)) → IsFileName (f x)
-    → AllByRecursion IsFileName (map f (take (i + 1) xs))
-filled-more f xs i x l is all named =
-    subst (AllByRecursion IsFileName) (sym (names-more f xs i x (f x) l is refl)) (each-more (map f (take i xs)) (f x) all named)
-
 pub filled-at : {X : Type 0} (f : X → List ℕ) (xs : List X) (i : ℕ) (x : X) → i < length xs → x ≡ get_or xs i x
     → AllByRecursion IsFileName (map f xs) → IsFileName (f x)
 filled-at f [] i x l is all = absurd (omega arith)
 filled-at f (y ∷ xs) zero x l is all = subst IsFileName (ap f (sym is)) all.0
 filled-at f (y ∷ xs) (suc i) x l is all = filled-at f xs i x (omega arith) is all.1
-
-pub filled-all : {X : Type 0} (f : X → List ℕ) (xs : List X) (i : ℕ) → length xs ≤ i → AllByRecursion IsFileName (map f (take i xs))
-    → AllByRecursion IsFileName (map f xs)
-filled-all f xs i l all = subst (AllByRecursion IsFileName) (ap (map f) (take_all i xs l)) all
 
 -- once all were added, an entry is held
 pub some-left : {X : Type 0} (f : X → List ℕ) (xs : List X) (i : ℕ) (shelf : Option Files) (book : Book)

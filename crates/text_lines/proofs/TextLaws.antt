@@ -1,11 +1,11 @@
 -- Texts that grow by one piece after another. Texts of lists of lines.
 use Rattle.std.proofs.Common.{◌≡◌, ℕ, ◌∙◌, List, Result, Ok, Err, IfOk, zero, suc, ◌+◌, ◌-◌, ◌≤◌, ◌<◌, true, false, refl, sym, ap, arith}
-use Rattle.std.proofs.Common.{[], ◌∷◌, ◌++◌, append_assoc, length, take, drop, eqb, take-append-drop}
+use Rattle.std.proofs.Common.{[], ◌∷◌, ◌++◌, append_assoc, length, take, eqb}
 use Rattle.std.specs.List.{AllByRecursion}
 use Rattle.std.proofs.lemmas.Bool.{eqb-true, eq-eqb, both_ways}
-use Rattle.std.proofs.lemmas.List.{append-nil, nil_from_length, length-append, length-drop, length-take-le, take_all, take_at}
+use Rattle.std.proofs.lemmas.List.{append-nil, nil_from_length}
 use Rattle.std.proofs.lemmas.List.Concat.{flat_map-append}
-use Rattle.text_lines.proofs.Common.{line_feed, ended, text_of, IsFront, is_free}
+use Rattle.text_lines.proofs.Common.{line_feed, ended, text_of, is_free}
 use Rattle.text_lines.proofs.LineLaws.{same_line}
 
 -- the same bytes, put together in another way
@@ -101,38 +101,3 @@ pub text_end : (more : List (List ℕ)) (y : List ℕ) → [] ≡ text_of more +
 text_end [] y e = sym e
 text_end ([] ∷ more) y e = absurd cc
 text_end ((b ∷ l) ∷ more) y e = absurd cc
-
--- ---- texts at the front of bytes
-
--- what bytes begin with, and what comes after it
-pub front_parts : (text bytes : List ℕ) (taken : ℕ) → IsFront text bytes taken → bytes ≡ text ++ drop taken bytes
-front_parts text bytes taken h = sym (take-append-drop taken bytes) ∙ ap (λ (l : List ℕ). l ++ drop taken bytes) h.spelled
-
--- what comes after it, as a slice of the bytes
-pub front_rest : (text bytes : List ℕ) (taken : ℕ) → IsFront text bytes taken
-    → bytes ≡ text ++ take (length bytes - taken) (drop taken bytes)
-front_rest text bytes taken h =
-    let count : length (drop taken bytes) ≡ length bytes - taken = length-drop taken bytes in
-    front_parts text bytes taken h ∙ ap (λ (l : List ℕ). text ++ l)
-    (sym (take_all (length bytes - taken) (drop taken bytes) (omega (arith, count))))
-
--- bytes that begin with a text, where its length is counted by what comes after it
-pub front_taken : (text bytes rest : List ℕ) → bytes ≡ text ++ rest → IsFront text bytes (length bytes - length rest)
-front_taken text bytes rest e =
-    let count : length bytes ≡ length text + length rest = ap length e ∙ length-append text rest in
-    record {
-      within = omega arith;
-      spelled = ap (take (length bytes - length rest)) e ∙ take_at text rest (length bytes - length rest) (omega (arith, count));
-    }
-
--- the length of such a text is known by it
-pub front_length : (text bytes : List ℕ) (taken : ℕ) → IsFront text bytes taken → taken ≡ length text
-front_length text bytes taken h = sym (length-take-le taken bytes h.within) ∙ ap length h.spelled
-
--- where the text is all of the bytes, nothing comes after it, and else something does
-pub front_ends : (bytes : List ℕ) (taken : ℕ) → length bytes ≤ taken → drop taken bytes ≡ []
-front_ends bytes taken all = nil_from_length (drop taken bytes) (let count = length-drop taken bytes in omega (arith, count))
-
-pub front_goes_on : (bytes : List ℕ) (taken : ℕ) → taken < length bytes → drop taken bytes ≡ [] → ⊥
-front_goes_on bytes taken more e = let count = length-drop taken bytes in let none : length (drop taken bytes) ≡ 0 =
-    ap length e in omega (arith, count, none)

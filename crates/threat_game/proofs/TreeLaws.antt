@@ -3,7 +3,7 @@
 use Rattle.std.proofs.Common.{◌≡◌, ℕ, zero, suc, ◌+◌, ◌≤◌, Bool, true, false, cond, ◌&&◌, ◌||◌, not, refl, sym, ap, subst, ◌∙◌, arith, List}
 use Rattle.std.proofs.Common.{[], ◌∷◌, map, All, ◌<◌, length, get_or, ◌-◌, Option, IfSome, IsTrue, rules}
 use Rattle.std.specs.List.{list_any, filter, sum_by, list_all}
-use Rattle.std.proofs.lemmas.List.Sums.{sum_by-cons, sum_by-le-sum_by}
+use Rattle.std.proofs.lemmas.List.Sums.{sum_by-cons}
 use Rattle.std.proofs.lemmas.Bool.{and_parts, not-true}
 use Rattle.game_rules.specs.declared.RuleKind.{RuleKind}
 use Rattle.game_rules.specs.declared.Outcome.{Outcome}
@@ -51,38 +51,6 @@ tree_by r k = search rules
 pub tree-positive : (rule : RuleKind) (n : ℕ) (b : Grid) → 1 ≤ threat_tree rule n b
 unfolding threat_tree
 tree-positive rule n b = search (rules, tree_by)
-
--- within more moves it has no fewer
-replies-more : (rule : RuleKind) (f g : Grid → ℕ) → ((c : Grid) → f c ≤ g c) → (c : Grid)
-    → behind_replies rule f c ≤ behind_replies rule g c
-replies-more rule f g more c = search (rules, sum_by-le-sum_by)
-
-moves-more : (rule : RuleKind) (f g : Grid → ℕ) → ((c : Grid) → f c ≤ g c) → (b : Grid) → cond (has_five rule b (mover b)) 1
-    (1 + sum_by (λ p. cond (is_safe_threat rule b p) (behind_replies rule f (after b p)) 0) (points_of b))
-    ≤ cond (has_five rule b (mover b)) 1
-    (1 + sum_by (λ p. cond (is_safe_threat rule b p) (behind_replies rule g (after b p)) 0) (points_of b))
-moves-more rule f g more b =
-    by_five (has_five rule b (mover b)) _ _ (sum_by-le-sum_by
-    (λ p. cond (is_safe_threat rule b p) (behind_replies rule f (after b p)) 0)
-    (λ p. cond (is_safe_threat rule b p) (behind_replies rule g (after b p)) 0) (points_of b)
-    (λ p. by_safe (is_safe_threat rule b p) (behind_replies rule f (after b p)) (behind_replies rule g (after b p))
-    (replies-more rule f g more (after b p)))) where
-      by_safe : (r : Bool) (k l : ℕ) → k ≤ l → cond r k 0 ≤ cond r l 0
-      by_safe true k l h = h
-      by_safe false k l h = omega arith
-
-      by_five : (r : Bool) (k l : ℕ) → k ≤ l → cond r 1 (1 + k) ≤ cond r 1 (1 + l)
-      by_five true k l h = omega arith
-      by_five false k l h = omega (arith, h)
-
-pub tree-more : (rule : RuleKind) (n m : ℕ) (b : Grid) → n ≤ m → threat_tree rule n b ≤ threat_tree rule m b
-unfolding threat_tree
-tree-more rule zero m b few = tree-positive rule m b
-tree-more rule (suc zero) m b few = tree-positive rule m b
-tree-more rule (suc (suc n)) zero b few = absurd (omega (arith, few))
-tree-more rule (suc (suc n)) (suc zero) b few = absurd (omega (arith, few))
-tree-more rule (suc (suc n)) (suc (suc m)) b few =
-    moves-more rule (threat_tree rule (suc n)) (threat_tree rule (suc m)) (λ c. tree-more rule (suc n) (suc m) c (omega (arith, few))) b
 
 -- the other side has no five point after a move, where it has none before
 pub still-safe : (rule : RuleKind) (b : Grid) (p : Point) → IsPosition rule b → outcome rule b p ≡ GoesOn
