@@ -5,4 +5,4 @@ pub use Rattle.stone_board.specs.Lines.{places_left, side_number, told}
 unfoldable pub use Rattle.stone_board.specs.Lines.{all_turned, turned}
 pub use Rattle.stone_board.specs.Order.{following, points_left}
 pub use Rattle.stone_board.specs.Steps.{holds_stone, kept_empty, kept_on}
-pub use Rattle.stone_board.specs.Walks.{place_after, steps_forward, steps_left, stride}
+pub use Rattle.stone_board.specs.Walks.{steps_left}

@@ -16,4 +16,4 @@ pub use game_rules::{Axis, Cell, Look, MAX_SIDE, MIN_SIDE, Point, Side, Way};
 pub use lines::{LINES, bit_of_place, line_of, place_on};
 pub use order::ReadingOrder;
 pub use points::Points;
-pub use walks::{place_after, steps_forward, steps_left, stride};
+pub use walks::steps_left;
