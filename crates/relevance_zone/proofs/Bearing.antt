@@ -1,8 +1,8 @@
 -- Further stones of the defender that a zone bears, before and after a move; and that they make no five.
-use Rattle.std.proofs.Common.{◌≡◌, inl, inr, ℕ, ◌+◌, ◌≤◌, ◌<◌, Bool, true, false, cond, ◌&&◌, not, refl, sym, ap}
-use Rattle.std.proofs.Common.{subst, ◌∙◌, arith, Option, Some, None}
+use Rattle.std.proofs.Common.{◌≡◌, inl, inr, ℕ, ◌+◌, ◌≤◌, ◌<◌, true, false, cond, ◌&&◌, not, sym, ap}
+use Rattle.std.proofs.Common.{subst, ◌∙◌, arith, Option, Some, None, rules}
 use Rattle.std.proofs.lemmas.Bool.{both_ways, cases_Bool, false_from_ne_true}
-use Rattle.game_rules.proofs.Common.{Grid, IsBoard, is_on, is_empty, is_empty_cell, is_stone_of, holds, put, cell_at, along, other}
+use Rattle.game_rules.proofs.Common.{Grid, IsBoard, is_on, is_empty, holds, put, cell_at, along, other}
 use Rattle.game_rules.proofs.Common.{stone_at, run_of, stones_ahead, stones_behind, line_bound, wins_on, five}
 use Rattle.game_rules.specs.declared.RuleKind.{RuleKind}
 use Rattle.game_rules.specs.declared.Side.{Side}
@@ -11,7 +11,7 @@ use Rattle.game_rules.specs.declared.Point.{Point}
 use Rattle.game_rules.proofs.Axes.{some_axis}
 use Rattle.game_rules.proofs.Boards.{and_left, and_right, is_empty-on, is_empty-put, same_or_apart, empty_holds, stone_kept, stone_of-other}
 use Rattle.game_rules.proofs.Boards.{holds-put_other, holds-put_same}
-use Rattle.game_rules.proofs.Cells.{IsLike, on-like, taken_by, not_both_stones}
+use Rattle.game_rules.proofs.Cells.{on-like, taken_by, not_both_stones}
 use Rattle.game_rules.proofs.Fives.{same_fives}
 use Rattle.game_rules.proofs.OneLine.{empty-before, holds-put_others, wins_alike}
 use Rattle.game_rules.proofs.Positions.{IsBoard-put, holds-other}
@@ -22,36 +22,15 @@ use Rattle.relevance_zone.proofs.Counts.{count_all, visits-once, visits-never, s
 
 -- a board has no further stones
 pub bears_itself : (s : Side) (z : Zone) (b : Grid) → IsBoard b → Bears s z b b
-bears_itself s z b ok = record {
-  before = ok;
-  later = ok;
-  wide = refl;
-  high = refl;
-  attackers = λ p. refl;
-  defenders = λ p h. h;
-  points = λ p in_zone empty. empty;
-  windows = λ d p. omega arith;
-}
+bears_itself s z b ok = search rules
 
 module _ (s : Side) (z : Zone) (b c : Grid) (bears : Bears s z b c) where
   on_before : (p : Point) → is_on c p ≡ true → is_on b p ≡ true
-  on_before p on =
-      let like : IsLike c b = record { board = bears.before; wide = sym bears.wide; high = sym bears.high } in on-like c b p like on
+  on_before p on = search (rules, on-like)
 
   -- what is empty was empty
   pub was_empty : (p : Point) → is_empty c p ≡ true → is_empty b p ≡ true
-  was_empty p empty = by_test (is_empty_cell (cell_at b p)) refl where
-    on : is_on b p ≡ true
-    on = on_before p (is_empty-on c p empty)
-
-    by_test : (r : Bool) → is_empty_cell (cell_at b p) ≡ r → is_empty b p ≡ true
-    by_test true e = ap (λ r. r && is_empty_cell (cell_at b p)) on ∙ e
-    by_test false e = elim (taken_by s (cell_at b p) e) [
-      | inl own ↦ absurd (both_ways _ (empty_holds c s p empty) (bears.attackers p
-          ∙ ap (λ r. r && is_stone_of s (cell_at b p)) on ∙ own))
-      | inr theirs ↦ absurd (both_ways _ (empty_holds c (other s) p empty) (bears.defenders p
-          (ap (λ r. r && is_stone_of (other s) (cell_at b p)) on ∙ theirs)))
-    ]
+  was_empty p empty = search (rules, on_before, is_empty-on, taken_by, both_ways, empty_holds)
 
   -- the attacker has the same five points, where they are empty on both
   pub five_same : (rule : RuleKind) (a : Point) → is_empty b a ≡ true → is_empty c a ≡ true → five rule c s a ≡ five rule b s a

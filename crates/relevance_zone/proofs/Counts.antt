@@ -1,10 +1,10 @@
 -- How many stones stand in a window: what one more changes, and which window a run of five fills.
 use Rattle.std.proofs.Common.{◌≡◌, inl, inr, ℕ, zero, suc, ◌+◌, ◌-◌, ◌≤◌, ◌<◌, Bool, true, false, cond, List, []}
-use Rattle.std.proofs.Common.{◌∷◌, refl, ap, subst, ◌∙◌, arith, Option, Some, None, count_by}
+use Rattle.std.proofs.Common.{◌∷◌, refl, ap, ◌∙◌, arith, Option, Some, None, count_by, rules}
 use Rattle.std.specs.List.{range_with_len}
 use Rattle.std.proofs.lemmas.Bool.{both_ways, cases_lt, false_from_ne_true}
 use Rattle.std.proofs.lemmas.List.Sums.{sum_by-cons}
-use Rattle.game_rules.proofs.Common.{Grid, IsBoard, is_on, is_empty, holds, put, along, is_at, is_same_point, other, stone_at, stones_ahead}
+use Rattle.game_rules.proofs.Common.{Grid, IsBoard, is_on, is_empty, holds, put, along, is_at, other, stone_at, stones_ahead}
 use Rattle.game_rules.proofs.Common.{stones_behind}
 use Rattle.game_rules.specs.declared.Side.{Side}
 use Rattle.game_rules.specs.declared.Axis.{Axis}
@@ -57,13 +57,7 @@ count_one f (suc n) a once = by_test (f a) refl (count_one f n (a + 1) once) whe
 count_sum : (f g h : ℕ → Bool) → ((k : ℕ) → mark (f k) ≡ mark (g k) + mark (h k)) → (ks : List ℕ)
     → count_by f ks ≡ count_by g ks + count_by h ks
 count_sum f g h each [] = refl
-count_sum f g h each (k ∷ ks) =
-    let whole = sum_by-cons (λ k. mark (f k)) k ks in
-    let one = sum_by-cons (λ k. mark (g k)) k ks in
-    let two = sum_by-cons (λ k. mark (h k)) k ks in
-    let here = each k in
-    let rest = count_sum f g h each ks in
-    omega (arith, whole, one, two, here, rest)
+count_sum f g h each (k ∷ ks) = search (rules, sum_by-cons, count_sum f g h each ks)
 
 -- ---- one more stone
 
@@ -78,25 +72,12 @@ visits-once q d p = count_one (λ k. is_at q (along d p k 0)) 5 0
 
 pub visits-never : (q : Point) (d : Axis) (p : Point) → is_in_window q d p ≡ false → visits q d p ≡ 0
 unfolding visits is_in_window
-visits-never q d p out = count_none (λ k. is_at q (along d p k 0)) 5 0
-    (λ k low high. false_from_ne_true _ (λ e. both_ways _ out (any_found (λ k. is_at q (along d p k 0)) 5 0 k low high e)))
+visits-never q d p out = search (rules, count_none, false_from_ne_true, both_ways, any_found)
 
 module _ (b : Grid) (s : Side) (q : Point) (ok : IsBoard b) (empty : is_empty b q ≡ true) where
   stone_here : (o : Option Point) → mark (stone_at (put b s q) s o) ≡ mark (stone_at b s o) + mark (is_at q o)
-  stone_here None = refl
-  stone_here (Some r) = elim (same_or_apart q r) [
-    | inl same ↦
-        let at : (v : Point) → Type 0 = λ v. mark (holds (put b s q) s v) ≡ mark (holds b s v) + mark (is_same_point q v) in
-        let now : mark (holds (put b s q) s q) ≡ 1 = ap mark (holds-put_same b s q ok (is_empty-on b q empty)) in
-        let then : mark (holds b s q) ≡ 0 = ap mark (empty_holds b s q empty) in
-        let here : mark (is_same_point q q) ≡ 1 = ap mark (is_same_point-itself q) in
-        subst at same (omega (arith, now, then, here))
-    | inr apart ↦
-        let kept : mark (holds (put b s q) s r) ≡ mark (holds b s r) = ap mark
-        (holds-put_other b s s q r (is_empty-on b q empty) apart) in
-        let there : mark (is_same_point q r) ≡ 0 = ap mark (apart-is_same_point q r apart) in
-        omega (arith, kept, there)
-  ]
+  stone_here o =
+      search (rules, same_or_apart, holds-put_same, is_empty-on, empty_holds, is_same_point-itself, holds-put_other, apart-is_same_point)
 
   -- a stone of the side is one more where its point is in the window
   pub stones_in-put : (d : Axis) (p : Point) → stones_in (put b s q) s d p ≡ stones_in b s d p + visits q d p
@@ -106,8 +87,7 @@ module _ (b : Grid) (s : Side) (q : Point) (ok : IsBoard b) (empty : is_empty b 
   -- and changes nothing of the other side's
   pub stones_in-other : (d : Axis) (p : Point) → stones_in (put b s q) (other s) d p ≡ stones_in b (other s) d p
   unfolding stones_in
-  stones_in-other d p = ap (λ (f : ℕ → Bool). count_by f (range_with_len 0 5))
-      (λ i k. stone_at-other b s (other s) q ok empty (stone_of-other s) (along d p k 0) i)
+  stones_in-other d p = search (rules, stone_at-other, stone_of-other)
 
 -- ---- a run of five or more
 

@@ -2,15 +2,14 @@
 -- defender that the zone bears. The attack of the answer in turn is a point of its zone, so it is empty there, and no move before it
 -- fills the board.
 use Rattle.std.proofs.Common.{◌≡◌, inl, inr, ℕ, zero, suc, true, false, List, Option, Some, None, slice_get, nat_eq, refl, sym, ap}
-use Rattle.std.proofs.Common.{subst, ◌∙◌, arith, IsSomeAnd}
+use Rattle.std.proofs.Common.{subst, ◌∙◌, arith, IsSomeAnd, rules}
 use Rattle.std.specs.Option.{option_or}
 use Rattle.std.proofs.lemmas.Bool.{cases_Bool}
 use Rattle.std.proofs.lemmas.Bool.Decides.{nat_tests}
-use Rattle.game_rules.proofs.Common.{Grid, IsBoard, IsPosition, is_empty, put, empties_of, five, outcome, outcome_by, has_fouls, mover}
+use Rattle.game_rules.proofs.Common.{Grid, IsBoard, IsPosition, is_empty, put, empties_of, five, outcome, has_fouls, mover}
 use Rattle.game_rules.proofs.Common.{after, other, WinsOr, LosesOr}
 use Rattle.game_rules.specs.declared.RuleKind.{RuleKind}
 use Rattle.game_rules.specs.declared.Side.{Side}
-use Rattle.game_rules.specs.declared.Foul.{Foul}
 use Rattle.game_rules.specs.declared.Outcome.{Outcome}
 use Rattle.game_rules.specs.declared.Outcome.TheVariants.{Refused, Wins as WinsNow, Fouls, GoesOn}
 use Rattle.game_rules.specs.declared.Point.{Point}
@@ -39,12 +38,7 @@ not_last b s p q ok first second =
 goes_on_by : (rule : RuleKind) (b : Grid) (p : Point) → has_fouls rule (mover b) ≡ false → is_empty b p ≡ true
     → five rule b (mover b) p ≡ false → nat_eq (empties_of b) 1 ≡ false → outcome rule b p ≡ GoesOn
 unfolding outcome
-goes_on_by rule b p calm empty quiet more =
-    ap (λ (o : Option Foul). outcome_by (is_empty b p) (five rule b (mover b) p) o (nat_eq (empties_of b) 1))
-    (no_foul rule b (mover b) p calm)
-    ∙ ap (λ e. outcome_by e (five rule b (mover b) p) None (nat_eq (empties_of b) 1)) empty
-    ∙ ap (λ f. outcome_by true f None (nat_eq (empties_of b) 1)) quiet
-    ∙ ap (λ l. outcome_by true false None l) more
+goes_on_by rule b p calm empty quiet more = search (rules, no_foul)
 
 module _ (rule : RuleKind) (s : Side) (Has : ℕ → Grid → Zone → Type 0) (Next : ℕ → Grid → Type 0)
     (held : (j : ℕ) (b c : Grid) (z : Zone) → Has j b z → Bears s z b c → IsPosition rule c → mover c ≡ s → Next j c)
@@ -113,9 +107,7 @@ module _ (rule : RuleKind) (s : Side) (Has : ℕ → Grid → Zone → Type 0) (
     by_outcome : (u : Outcome) → outcome rule c n.attack ≡ u
         → WinsOr u ((is_winning n.rest ≡ false) × ((q : Point) → Meets rule (answers_of n) Next (after c n.attack) q))
         → AcceptedNode rule (Some n) Next c
-    by_outcome u e h =
-        subst (λ (u : Outcome). WinsOr u
-        ((is_winning n.rest ≡ false) × ((q : Point) → Meets rule (answers_of n) Next (after c n.attack) q))) (sym e) h
+    by_outcome u e h = search rules
 
     by_five : five rule c s n.attack ≡ true → AcceptedNode rule (Some n) Next c
     by_five wins = by_outcome WinsNow (five-outcome rule c n.attack (ap (λ (t : Side). five rule c t n.attack) turn ∙ wins)) tt
