@@ -1,28 +1,19 @@
 -- A step that gives a leaf of the attacker a child for each move to be tried, or settles it where there is none.
-use Rattle.std.proofs.Common.{◌≡◌, ◌∙◌, refl, ℕ, zero, suc, ◌+◌, ◌-◌, ◌<◌, ◌≤◌, false, cond, ◌&&◌, not, sym, ap, subst, arith, append-nil}
-use Rattle.std.proofs.Common.{List, [], ◌∷◌, ◌++◌, length, map, replicate, inl, inr, All, Contains}
+use Rattle.std.proofs.Common.{◌≡◌, ◌∙◌, refl, ℕ, zero, suc, ◌+◌, ◌-◌, ◌<◌, ◌≤◌, false, cond, ◌&&◌, not}
+use Rattle.std.proofs.Common.{sym, ap, arith, append-nil, List, [], ◌∷◌, ◌++◌, length, map, replicate, inl, inr, All, subst}
+use Rattle.std.proofs.Common.{rules}
 use Rattle.std.proofs.lemmas.Bool.{eq-eqb}
 use Rattle.std.proofs.lemmas.List.{get_or-map, get_or-replicate, length-map, length-replicate}
 use Rattle.std.proofs.lemmas.List.Elements.{All-contains, All-from_get_or, All-replicate}
-use Rattle.game_rules.proofs.Common.{Grid, IsPosition, mover, after, has_five, behind_replies}
-use Rattle.game_rules.specs.declared.RuleKind.{RuleKind}
-use Rattle.game_rules.specs.declared.Point.{Point}
+use Rattle.proof_number.proofs.Common.{Grid, IsPosition, mover, after, has_five, behind_replies, RuleKind, Point, Node, is_settled}
+use Rattle.proof_number.proofs.Common.{other_kind, Tree, link_at, numbers_at, Kind, Attack, Defend, Numbers, threat_tree, move_at, nowhere}
+use Rattle.proof_number.proofs.Common.{tried_moves, one_if, Note, Search, known_grown, no_note, note_at, AreTried, GameTree, HasTried}
+use Rattle.proof_number.proofs.Common.{board_at, left_at, Grows, HasSpent, IsAtLeaf, IsExpandedAt, IsSettledAt, StandsAt, attacks_behind}
+use Rattle.proof_number.proofs.Common.{behind_at, defences_behind, game_of, is_attack, sum_below, threat_wins, wins_behind, wins_by_threats}
 use Rattle.game_rules.proofs.Positions.{mover-then}
-use Rattle.strategy_graph.specs.declared.Node.{Node}
-use Rattle.strategy_compiler.specs.Nodes.{IsCompiled}
-use Rattle.proof_tree.proofs.Common.{is_settled, other_kind, Tree, link_at, numbers_at}
-use Rattle.proof_tree.specs.declared.Kind.{Kind}
-use Rattle.proof_tree.specs.declared.Kind.TheVariants.{Attack, Defend}
-use Rattle.proof_tree.specs.declared.Numbers.{Numbers}
 use Rattle.proof_tree.proofs.SumLaws.{IsFresh, fresh-sum}
-use Rattle.threat_game.proofs.Common.{threat_tree, move_at, nowhere, OthersFail, tried_moves, one_if}
-use Rattle.proof_number.specs.declared.notes.Note.{Note}
-use Rattle.proof_number.specs.declared.search.Search.{Search}
-use Rattle.proof_number.specs.Searches.Grows.{known_grown}
+use Rattle.threat_game.proofs.Common.{OthersFail}
 use Rattle.proof_number.proofs.Opening.{leaf-facts}
-use Rattle.proof_number.proofs.Common.{no_note, note_at, AreTried, GameTree, HasTried, board_at, left_at, IsTrueMemo, Grows, HasGrown}
-use Rattle.proof_number.proofs.Common.{HasSpent, IsAtLeaf, IsExpandedAt, IsSettledAt, StandsAt, attacks_behind, behind_at, defences_behind}
-use Rattle.proof_number.proofs.Common.{game_of, is_attack, sum_below, threat_wins, wins_behind}
 use Rattle.threat_game.proofs.TreeLaws.{IsTriedMove, replies-positive, tried-at, tried-behind}
 use Rattle.proof_number.proofs.ExpandedCounts.{Expansion, IsNewNote, expanded-grown, new_behind, unwritten_child, sum-nothing, sum-under}
 use Rattle.proof_number.proofs.ExpandedCounts.{unproved_child, unwritten_win}
@@ -33,7 +24,6 @@ use Rattle.proof_number.proofs.WinLaws.{tried-wins}
 use Rattle.proof_number.proofs.Steps.{attack-moves, attack-no_five, leaf-compiled, leaf-lawful, leaf-noted, lost-step}
 use Rattle.proof_number.proofs.Sums.{sum-le, sum-list, sum-one}
 use Rattle.threat_game.proofs.AttackLaws.{none-tried, tried-enough, tried-or-saved}
-use Rattle.game_rules.specs.Games.{wins_by_threats}
 
 -- the note of a node of which nothing is known
 abbrev pub open_note : ℕ → Point → Note
@@ -94,8 +84,7 @@ module _ (rule : RuleKind) (b : Grid) (lawful : IsPosition rule b) (none : has_f
   behind-all : (m : ℕ) → 1 ≤ m → 1 + sum_below (length (tried_moves rule b)) (λ j. behind m (move_at (tried_moves rule b) j)) ≤ threat_tree
       rule (suc m) b
   behind-all zero l = absurd (omega arith)
-  behind-all (suc n) l =
-      omega (arith, tried-behind rule n b none, sum-list (behind (suc n)) nowhere (tried_moves rule b))
+  behind-all (suc n) l = omega (arith, tried-behind rule n b none, sum-list (behind (suc n)) nowhere (tried_moves rule b))
 
   -- one position of the defender stands behind each
   behind-each : (m : ℕ) → sum_below (length (tried_moves rule b)) (λ j. behind m (move_at (tried_moves rule b) j) - 1) + length
@@ -132,7 +121,7 @@ module _ {rule : RuleKind} {s : Search} {t : Tree} {c : List Node} {leaf : ℕ} 
         no_five = no-five;
         refuted = λ p threat. elim (tried-or-saved rule s.board others p threat) [
           | inl listed ↦
-              let nothing : Contains [] p = subst (λ (ps : List Point). Contains ps p) empty listed in
+              let nothing = rw empty at listed in
               absurd (omega (arith, nothing.1))
           | inr saved ↦ inl saved
         ];
@@ -156,8 +145,7 @@ module _ {rule : RuleKind} {s : Search} {t : Tree} {c : List Node} {leaf : ℕ} 
       ap (λ (n : ℕ). threat_tree rule n s.board) (sym left-noted) ∙ ap (threat_tree rule (left_at g.left leaf)) here.view_is in
       let first : left_at g.left 0 ≡ s.depth = get_or-map (λ (n : Note). n.left) s.notes.items 0 no_note 0
       (let l = leaf-noted stands in omega (arith, l)) ∙ here.searching.depth in
-      let root_is : threat_tree rule (left_at g.left 0) s.root ≡ threat_tree rule s.depth s.root =
-      ap (λ (n : ℕ). threat_tree rule n s.root) first in
+      let root_is = ap (λ (n : ℕ). threat_tree rule n s.root) first in
       omega (arith, own, low, tree_is, root_is, here.searching.counted.defences)
 
   module _ (m : ℕ) (left_is : (note_at s.notes.items leaf).left ≡ suc m) where
@@ -180,16 +168,10 @@ module _ {rule : RuleKind} {s : Search} {t : Tree} {c : List Node} {leaf : ℕ} 
       keeps = keeps-all s;
     }
 
-    left-suc : left_at (game_of rule s t).left leaf ≡ suc m
-    left-suc = left-noted ∙ left_is
-
     -- what is known of the kind, the moves and the board of the leaf
     at-leaf-is : (P : Kind → ℕ → Grid → Type 0) → P Attack (suc m) s.board
         → P (link_at t.links leaf).kind (left_at (game_of rule s t).left leaf) (board_at (game_of rule s t) leaf)
-    at-leaf-is P h =
-        subst (λ (k : Kind). P k (left_at (game_of rule s t).left leaf) (board_at (game_of rule s t) leaf)) (sym attack)
-        (subst (λ (n : ℕ). P Attack n (board_at (game_of rule s t) leaf)) (sym left-suc)
-        (subst (P Attack (suc m)) here.view_is h))
+    at-leaf-is P h = search (rules, left-noted)
 
     module _ (some : 0 < length (tried_moves rule s.board)) (u : Tree) (more : List Numbers)
         (are : more ≡ replicate (length (tried_moves rule s.board)) open_one) (e : IsExpandedAt t u leaf more)
@@ -208,14 +190,14 @@ module _ {rule : RuleKind} {s : Search} {t : Tree} {c : List Node} {leaf : ℕ} 
           ∙ get_or-replicate (length (tried_moves rule s.board)) j open_one (record { proof = 0; disproof = 0 }) (omega (arith, low, long))
 
       fresh : All IsFresh more
-      fresh = subst (All IsFresh) (sym are) (All-replicate IsFresh (length (tried_moves rule s.board)) open_one (inl refl))
+      fresh = rw are (All-replicate IsFresh (length (tried_moves rule s.board)) open_one (inl refl))
 
       child-at : (j : ℕ) → j < length more → IsNewChild rule (link_at t.links leaf).kind (left_at (game_of rule s t).left leaf)
           (board_at (game_of rule s t) leaf) (note_at ms j).at (note_at ms j).left (numbers_at more j)
       child-at j low =
           at-leaf-is (λ k n b. IsNewChild rule k n b (note_at ms j).at (note_at ms j).left (numbers_at more j))
-          (subst (IsNewChild rule Attack (suc m) s.board (note_at ms j).at (note_at ms j).left) (sym (number-at j low))
-          (subst (λ (n : Note). IsNewChild rule Attack (suc m) s.board n.at n.left open_one) (sym (note-at j low))
+          (rw (number-at j low)
+          (rw (note-at j low)
           (child-tried rule s.board lawful-here no-five others m (move_at (tried_moves rule s.board) j) one-move
           (tried-at rule s.board j (omega (arith, low, long))))))
 
@@ -223,15 +205,15 @@ module _ {rule : RuleKind} {s : Search} {t : Tree} {c : List Node} {leaf : ℕ} 
           (note_at ms j) (numbers_at more j)
       noted-at j low =
           at-leaf-is (λ k n b. IsNewNote rule k b (c ++ []) (note_at ms j) (numbers_at more j))
-          (subst (IsNewNote rule Attack s.board (c ++ []) (note_at ms j)) (sym (number-at j low))
-          (subst (λ (n : Note). IsNewNote rule Attack s.board (c ++ []) n open_one) (sym (note-at j low))
+          (rw (number-at j low)
+          (rw (note-at j low)
           (note-tried rule s.board lawful-here no-five others m (move_at (tried_moves rule s.board) j) (c ++ []))))
 
       tried-here : HasTried (link_at t.links leaf).kind rule (left_at (game_of rule s t).left leaf) (board_at (game_of rule s t) leaf)
           (map (λ (n : Note). n.at) ms)
       tried-here =
           at-leaf-is (λ k n b. HasTried k rule n b (map (λ (n : Note). n.at) ms))
-          (subst (AreTried rule m s.board) (sym (ap (map (λ (n : Note). n.at)) noted ∙ notes-moves m (tried_moves rule s.board)))
+          (rw (ap (map (λ (n : Note). n.at)) noted ∙ notes-moves m (tried_moves rule s.board))
           (moves-tried rule s.board lawful-here no-five others m))
 
       -- what is counted behind a child
@@ -260,22 +242,17 @@ module _ {rule : RuleKind} {s : Search} {t : Tree} {c : List Node} {leaf : ℕ} 
       defended-is = ap (λ (w : Search). w.defended) rest
 
       written-none : sum_below (length more) (λ j. unwritten_child (link_at t.links leaf).kind (note_at ms j)) ≡ 0
-      written-none = sum-nothing (length more) (λ j. unwritten_child (link_at t.links leaf).kind (note_at ms j))
-          (λ j low. ap (λ (k : Kind). unwritten_child k (note_at ms j)) attack)
+      written-none = search (rules, sum-nothing, unwritten_child)
 
       unproved-none : sum_below (length more) (λ j. unproved_child (link_at t.links leaf).kind (numbers_at more j)) ≡ 0
-      unproved-none = sum-nothing (length more) (λ j. unproved_child (link_at t.links leaf).kind (numbers_at more j))
-          (λ j low. ap (λ (k : Kind). unproved_child k (numbers_at more j)) attack)
+      unproved-none = search (rules, sum-nothing, unproved_child)
 
       wins-none : sum_below (length more)
           (λ j. unwritten_win rule (link_at t.links leaf).kind (board_at (game_of rule s t) leaf) (note_at ms j)) ≡ 0
-      wins-none = sum-nothing (length more)
-          (λ j. unwritten_win rule (link_at t.links leaf).kind (board_at (game_of rule s t) leaf) (note_at ms j))
-          (λ j low. ap (λ (k : Kind). unwritten_win rule k (board_at (game_of rule s t) leaf) (note_at ms j)) attack)
+      wins-none = search (rules, sum-nothing, unwritten_win)
 
       attackers-none : sum_below (length more) (λ j. cond (is_attack (other_kind (link_at t.links leaf).kind)) 1 0) ≡ 0
-      attackers-none = sum-nothing (length more) (λ j. cond (is_attack (other_kind (link_at t.links leaf).kind)) 1 0)
-          (λ j low. ap (λ (k : Kind). cond (is_attack (other_kind k)) 1 0) attack)
+      attackers-none = search (rules, sum-nothing)
 
       pub moves-grow : Grows rule s v t u c leaf
       moves-grow = known_grown (
@@ -283,19 +260,13 @@ module _ {rule : RuleKind} {s : Search} {t : Tree} {c : List Node} {leaf : ℕ} 
           let defences = same-sum defences_behind in
           let all = behind-all rule s.board lawful-here no-five others m one-move in
           let each = behind-each rule s.board lawful-here no-five others m in
-          let attacks_left : attacks_behind (link_at t.links leaf).kind rule (left_at (game_of rule s t).left leaf)
-          (board_at (game_of rule s t) leaf) ≡ threat_tree rule (suc m) s.board - 1 =
-          at-leaf-is (λ k n b. attacks_behind k rule n b ≡ threat_tree rule (suc m) s.board - 1) refl in
-          let defences_left : defences_behind (link_at t.links leaf).kind rule (left_at (game_of rule s t).left leaf)
-          (board_at (game_of rule s t) leaf) ≡ threat_tree rule (suc m) s.board - 1 =
-          at-leaf-is (λ k n b. defences_behind k rule n b ≡ threat_tree rule (suc m) s.board - 1) refl in
+          let attacks_left = at-leaf-is (λ k n b. attacks_behind k rule n b ≡ threat_tree rule (suc m) s.board - 1) refl in
+          let defences_left = at-leaf-is (λ k n b. defences_behind k rule n b ≡ threat_tree rule (suc m) s.board - 1) refl in
           let wins = same-sum wins_behind in
           let tried = tried-wins rule m s.board no-five in
           let all_wins = sum-list (λ p. behind_replies rule (threat_wins rule m) (after s.board p)) nowhere (tried_moves rule s.board) in
-          let wins_left : wins_behind (link_at t.links leaf).kind rule (left_at (game_of rule s t).left leaf)
-          (board_at (game_of rule s t) leaf) ≡ threat_wins rule (suc m) s.board - one_if (wins_by_threats rule (suc m) s.board) =
-          at-leaf-is (λ k n b. wins_behind k rule n b ≡ threat_wins rule (suc m) s.board - one_if (wins_by_threats rule (suc m) s.board))
-          refl in
+          let wins_left = at-leaf-is
+          (λ k n b. wins_behind k rule n b ≡ threat_wins rule (suc m) s.board - one_if (wins_by_threats rule (suc m) s.board)) refl in
           let budget = here.searching.counted.attacked_fits in
           let count = count-is in
           let defended = defended-is in
@@ -308,9 +279,8 @@ module _ {rule : RuleKind} {s : Search} {t : Tree} {c : List Node} {leaf : ℕ} 
             rest = rest ∙ ap (λ (w : Search). record s
                 { board = w.board; notes = v.notes; settled = w.settled; attacked = w.attacked; defended = w.defended }) (sym rest);
             same_board = ap (λ (w : Search). w.board) rest;
-            compiled = subst IsCompiled (sym (append-nil c)) (leaf-compiled stands);
-            table = subst (λ (d : List Node). IsTrueMemo rule d (game_of rule s t) v.settled) (sym (append-nil c))
-                (subst (IsTrueMemo rule c (game_of rule s t)) (sym same_table) here.searching.remembered);
+            compiled = rw (append-nil c) (leaf-compiled stands);
+            table = rw (append-nil c) (rw same_table here.searching.remembered);
             items = items;
             many = ap length noted ∙ length-map (tried_moves rule s.board) (open_note m) ∙ sym long;
             some = omega (arith, some, size);
@@ -331,5 +301,4 @@ module _ {rule : RuleKind} {s : Search} {t : Tree} {c : List Node} {leaf : ℕ} 
             defences_counted = omega (arith, defended, defences, all, each, defences_left);
             wins_counted = omega (arith, wins-none, wins, tried, all_wins, wins_left);
           } in
-          subst (λ (d : List Node). HasGrown rule s v t u d leaf) (append-nil c)
-          (expanded-grown x))
+          rw (append-nil c) at (expanded-grown x))

@@ -1,34 +1,21 @@
 -- A search whose tree has one node: the root is open, or it is settled as won or lost.
 use Rattle.std.proofs.Common.{◌≡◌, ◌∙◌, ℕ, ◌+◌, ◌-◌, ◌<◌, ◌≤◌, Bool, true, false, cond, ◌&&◌, not, refl}
-use Rattle.std.proofs.Common.{sym, ap, subst, arith, List, [], length, nat_eq, Result, Ok, OnOk, min, inl}
+use Rattle.std.proofs.Common.{sym, ap, subst, arith, List, [], length, nat_eq, Result, Ok, OnOk, min, inl, rules}
 use Rattle.std.proofs.lemmas.Bool.{eq-eqb, ne_eqb}
 use Rattle.std.proofs.lemmas.List.{get_or-set_same, length-map, length-set}
-use Rattle.game_rules.proofs.Common.{Grid, IsPosition, mover, WinsByThreats, has_five}
-use Rattle.game_rules.specs.declared.RuleKind.{RuleKind}
+use Rattle.proof_number.proofs.Common.{Grid, IsPosition, mover, WinsByThreats, has_five, RuleKind, Node, IsCompiled, Writes, SearchError}
+use Rattle.proof_number.proofs.Common.{WrittenWin, is_settled, settled_numbers, IsTree, Tree, link_at, numbers_at, Kind, Attack, Defend}
+use Rattle.proof_number.proofs.Common.{Numbers, IsThreatWin, one_if, Note, Search, note_at, win_of, CanGrow, GameTree, IsGameTree}
+use Rattle.proof_number.proofs.Common.{TellsTruly, WinsAt, board_at, left_at, IsLostAt, AreWritten, CanBegin, HasBegun, IsSameAim}
+use Rattle.proof_number.proofs.Common.{IsCounted, IsNotedWin, IsSettledAt, Searches, behind_leaves, game_of, is_attack, noted_won}
+use Rattle.proof_number.proofs.Common.{sum_below, unwritten, IsBare, threat_wins, wins_behind, won_at, wins_by_threats}
 use Rattle.position_table.proofs.Remembering.{true-none}
-use Rattle.strategy_graph.specs.declared.Node.{Node}
-use Rattle.strategy_compiler.proofs.Common.{IsCompiled, Writes}
-use Rattle.strategy_compiler.specs.declared.error.SearchError.{SearchError}
-use Rattle.strategy_compiler.specs.declared.wins.WrittenWin.{WrittenWin}
-use Rattle.proof_tree.proofs.Common.{is_settled, settled_numbers, IsTree, Tree, link_at, numbers_at}
-use Rattle.proof_tree.specs.declared.Kind.{Kind}
-use Rattle.proof_tree.specs.declared.Kind.TheVariants.{Attack, Defend}
-use Rattle.proof_tree.specs.declared.Numbers.{Numbers}
 use Rattle.proof_tree.proofs.SumLaws.{lone-childless}
-use Rattle.threat_game.proofs.Common.{threat_tree, IsThreatWin, one_if}
-use Rattle.proof_number.specs.declared.notes.Note.{Note}
-use Rattle.proof_number.specs.declared.search.Search.{Search}
-use Rattle.proof_number.proofs.Common.{no_note, note_at, win_of, CanGrow, GameTree, IsGameTree, TellsTruly, WinsAt, board_at, left_at}
-use Rattle.proof_number.proofs.Common.{IsLostAt, IsTrueOf, AreWritten, CanBegin, HasBegun, IsSameAim, IsCounted, IsNotedWin, IsSettledAt}
-use Rattle.proof_number.proofs.Common.{Searches, attacks_behind, behind_at, behind_leaves, defences_behind, game_of, is_attack, noted_won}
-use Rattle.proof_number.proofs.Common.{sum_below, unwritten, known_searching}
-use Rattle.proof_number.proofs.Common.{IsBare, attack_nodes, threat_wins, unproved, wins_behind, won_at}
 use Rattle.proof_number.proofs.GameTruths.{board-root, left-root}
 use Rattle.strategy_compiler.proofs.Growing.{grows-length, win-some, writes-nothing, writes-tells}
 use Rattle.proof_number.proofs.Sums.{sum-suc, sum-zero}
 use Rattle.threat_game.proofs.TreeLaws.{tree-positive, one_where}
 use Rattle.proof_number.proofs.WinLaws.{won-counts, won-one, wins-own}
-use Rattle.game_rules.specs.Games.{wins_by_threats}
 
 -- ---- five points that are listed
 
@@ -77,11 +64,7 @@ module _ {rule : RuleKind} {s : Search} {t : Tree} {c : List Node} (begun : IsBe
 
   -- what holds of the depth and the board of the search at the attacker's root holds of its node
   at-root : (P : Kind → ℕ → Grid → Type 0) → P Attack s.depth s.root → P (link_at t.links 0).kind (left_at Game.left 0) (board_at Game 0)
-  at-root P p =
-      subst (λ (k : Kind). P k (left_at Game.left 0) (board_at Game 0)) (sym attacks)
-      (subst (λ (n : ℕ). P Attack n (board_at Game 0))
-      (sym (left-root s.notes.items s.depth (let one = begun.one_note in omega (arith, one)) begun.depth_is))
-      (subst (λ (b : Grid). P Attack s.depth b) (sym own-board) p))
+  at-root P p = search (rules, left-root, own-board)
 
   unsettled-root : (i : ℕ) → i < length t.links → is_settled (numbers_at t.numbers i) ≡ false → is_settled (numbers_at t.numbers 0) ≡ false
   unsettled-root i low = subst (λ (k : ℕ). is_settled (numbers_at t.numbers k) ≡ false) (sym (only i low))
@@ -141,39 +124,22 @@ module _ {rule : RuleKind} {s : Search} {t : Tree} {c : List Node} (begun : IsBe
 
   -- a sum over the nodes is that of the root
   lone-sum : (f : ℕ → ℕ) → sum_below (length t.links) f ≡ f 0
-  lone-sum f =
-      let a = sum-suc 0 f in
-      let b = sum-zero f in
-      ap (λ (n : ℕ). sum_below n f) begun.one_node ∙ omega (arith, a, b)
+  lone-sum f = search (rules, sum-suc, sum-zero)
 
   counts-less : (r : Bool) (x : ℕ) → cond r x 0 ≤ x
-  counts-less true x = omega arith
-  counts-less false x = omega arith
+  counts-less r x = search rules
 
   lone-behind : (f : Kind → RuleKind → ℕ → Grid → ℕ)
       → behind_leaves f Game ≤ f (link_at t.links 0).kind rule (left_at Game.left 0) (board_at Game 0)
-  lone-behind f =
-      let b = counts-less (nat_eq (link_at t.links 0).count 0 && not (is_settled (numbers_at t.numbers 0)))
-      (f (link_at t.links 0).kind rule (left_at Game.left 0) (board_at Game 0)) in
-      omega (arith, lone-sum (behind_at f Game), b)
-
-  -- it is the attacker's
-  lone-attack : attack_nodes t.links ≡ 1
-  lone-attack =
-      let a = lone-sum (λ i. cond (is_attack (link_at t.links i).kind) 1 0) in
-      let b : ◌≡◌ {A = ℕ} (cond (is_attack (link_at t.links 0).kind) 1 0) 1 = ap (λ (k : Kind). cond (is_attack k) 1 0) attacks in
-      omega (arith, a, b)
+  lone-behind f = search (rules, counts-less, lone-sum)
 
   lone-wins : length c + sum_below (length t.links) (unwritten (won_at Game) t s.notes.items) + behind_leaves wins_behind Game
       ≤ s.before + threat_wins rule s.depth s.root
   lone-wins =
       let own : ℕ = one_if (wins_by_threats rule s.depth s.root) in
       let won : won_at Game 0 ≡ own = at-root (λ k n b. one_if (wins_by_threats rule n b) ≡ own) refl in
-      let behind : wins_behind (link_at t.links 0).kind rule (left_at Game.left 0) (board_at Game 0) ≡ threat_wins rule s.depth s.root
-      - own =
-      at-root (λ k n b. wins_behind k rule n b ≡ threat_wins rule s.depth s.root - own) refl in
-      let a : unwritten (won_at Game) t s.notes.items 0 ≡ cond (nat_eq (note_at s.notes.items 0).moves 0) own 0 =
-      ap (λ (k : Kind). cond (is_attack k && nat_eq (note_at s.notes.items 0).moves 0) (won_at Game 0) 0) attacks
+      let behind = at-root (λ k n b. wins_behind k rule n b ≡ threat_wins rule s.depth s.root - own) refl in
+      let a = ap (λ (k : Kind). cond (is_attack k && nat_eq (note_at s.notes.items 0).moves 0) (won_at Game 0) 0) attacks
       ∙ ap (λ (n : ℕ). cond (nat_eq (note_at s.notes.items 0).moves 0) n 0) won in
       omega (
         arith,
@@ -186,70 +152,22 @@ module _ {rule : RuleKind} {s : Search} {t : Tree} {c : List Node} (begun : IsBe
       )
 
   lone-counted : IsCounted Game s.budget s.attacked s.defended
-  lone-counted = record {
-    attacks = (
-        let b : attacks_behind (link_at t.links 0).kind rule (left_at Game.left 0) (board_at Game 0) ≡ threat_tree rule
-        (left_at Game.left 0) (board_at Game 0) - 1 = ap (λ (k : Kind). attacks_behind k rule (left_at Game.left 0) (board_at Game 0))
-        attacks in
-        let d : threat_tree rule (left_at Game.left 0) (board_at Game 0) ≡ threat_tree rule (left_at Game.left 0) s.root =
-        ap (threat_tree rule (left_at Game.left 0)) own-board in
-        omega (arith, lone-behind attacks_behind, b, d, tree-positive rule (left_at Game.left 0) s.root, begun.attacked_is)
-        );
-    defences = (
-        let b : defences_behind (link_at t.links 0).kind rule (left_at Game.left 0) (board_at Game 0) ≡ threat_tree rule
-        (left_at Game.left 0) (board_at Game 0) - 1 = ap (λ (k : Kind). defences_behind k rule (left_at Game.left 0) (board_at Game 0))
-        attacks in
-        let d : threat_tree rule (left_at Game.left 0) (board_at Game 0) ≡ threat_tree rule (left_at Game.left 0) s.root =
-        ap (threat_tree rule (left_at Game.left 0)) own-board in
-        omega (arith, lone-behind defences_behind, b, d, begun.defended_is)
-        );
-    attackers = omega (arith, lone-attack, begun.attacked_is);
-    few_attacks = (
-        let a = lone-sum (unproved t) in
-        let b = counts-less (is_attack (link_at t.links 0).kind && not (nat_eq (numbers_at t.numbers 0).proof 0)) 1 in
-        omega (arith, a, b, lone-attack, begun.attacked_is)
-        );
-    defenders = omega (arith, lone-attack, begun.one_node, begun.defended_is);
-    attacked_fits = (let a = begun.attacked_is in let b = begun.some_budget in omega (arith, a, b));
-    defended_fits = (let a = begun.defended_is in omega (arith, a));
-    leaves = λ kind some. let a = begun.one_node in absurd (omega (arith, a, some));
-  }
+  lone-counted = search (rules, own-board, lone-behind, tree-positive, lone-sum, counts-less)
 
   pub lone-searches : Searches rule s t c (λ i. ⊥)
-  lone-searches = known_searching (record {
-    tree = begun.tree;
-    game = lone-game;
-    depth = begun.depth_is;
-    depth_fits = begun.depth_fits;
-    budget_fits = begun.budget_fits;
-    written = lone-written;
-    remembered = true-none rule (IsTrueOf rule c Game) s.settled begun.none;
-    counted = lone-counted;
-    compiled = begun.compiled;
-    few = (
-        let b : unwritten (λ i. 1) t s.notes.items 0 ≡ one_where (nat_eq (note_at s.notes.items 0).moves 0) =
-        ap (λ (k : Kind). one_where (is_attack k && nat_eq (note_at s.notes.items 0).moves 0)) attacks in
-        omega (arith, lone-sum (unwritten (λ i. 1) t s.notes.items), b, root.few, begun.attacked_is)
-        );
-    wins = lone-wins;
-  })
+  lone-searches = search (rules, lone-game, lone-written, true-none, lone-counted, one_where, lone-sum, lone-wins)
 
 -- ---- the first look at the root
 
 begun-aim : (s v : Search) → v ≡ record s { board = v.board; notes = v.notes } → IsSameAim s v
-begun-aim s v rest = record {
-  depth = ap (λ (w : Search). w.depth) rest;
-  budget = ap (λ (w : Search). w.budget) rest;
-  before = ap (λ (w : Search). w.before) rest;
-  root = ap (λ (w : Search). w.root) rest;
-}
+begun-aim s v rest = search rules
 
 module _ {rule : RuleKind} {s : Search} {t : Tree} {c : List Node} {b : Grid} (can : CanBegin s t c b) (lawful : IsPosition rule b)
     (tree : IsTree t) where
   open can use {new as begins, one_node as one, depth_fits, some_budget, budget_fits, unsettled}
 
   first-lawful : IsPosition rule s.root
-  first-lawful = subst (IsPosition rule) (sym begins.root_is) lawful
+  first-lawful = rw begins.root_is lawful
 
   -- nothing is known of the root yet
   open-searches : IsCompiled c → 2 ≤ s.depth → has_five rule b (mover b) ≡ false → Searches rule s t c (λ i. ⊥)
@@ -274,8 +192,7 @@ module _ {rule : RuleKind} {s : Search} {t : Tree} {c : List Node} {b : Grid} (c
     noted = λ some. let e = begins.unwon in absurd (omega (arith, some, e));
     has_win = λ e. absurd (not-settled true e);
     few = (
-        let f : one_where (nat_eq (note_at s.notes.items 0).moves 0) ≡ 1 =
-        ap one_where (eq-eqb (note_at s.notes.items 0).moves 0 begins.unwon) in
+        let f = ap one_where (eq-eqb (note_at s.notes.items 0).moves 0 begins.unwon) in
         omega (arith, begins.before_is, f)
         );
     wins = (
@@ -293,35 +210,17 @@ module _ {rule : RuleKind} {s : Search} {t : Tree} {c : List Node} {b : Grid} (c
     not-settled p e = let bad : true ≡ false = sym (settled-test p) ∙ ap is_settled (sym e) ∙ unsettled in cc
 
   pub begun-open : IsCompiled c → 2 ≤ s.depth → has_five rule b (mover b) ≡ false → HasBegun rule s s t c c (Ok tt)
-  begun-open compiled deep none = record {
-    searching = open-searches compiled deep none;
-    aim = same-aim;
-    board = refl;
-    tree = tree;
-    one_node = one;
-    writes = writes-nothing c c _ tt compiled refl;
-  } where
-    same-aim : IsSameAim s s
-    same-aim = record { depth = refl; budget = refl; before = refl; root = refl }
+  begun-open compiled deep none = search (rules, open-searches, writes-nothing)
 
   -- a win has a node at least
   pub some-won : WinsByThreats rule s.depth b → 1 ≤ min 1 (threat_wins rule s.depth s.root)
-  some-won wins =
-      let one = won-counts rule s.depth s.root (subst (WinsByThreats rule s.depth) (sym begins.root_is) wins) in
-      omega (arith, one)
+  some-won wins = search (rules, won-counts)
 
   -- a call that failed wrote no more than a win needs
   pub begun-refused : {v : Search} {d : List Node} {r : Result (Unit {0}) SearchError} → v ≡ record s { board = v.board; notes = v.notes }
       → v.board ≡ s.board → OnOk r (Searches rule v t d (λ i. ⊥)) → Writes c d (min 1 (threat_wins rule s.depth s.root)) r
       → HasBegun rule s v t c d r
-  begun-refused {v = v} rest board none writes = record {
-    searching = none;
-    aim = begun-aim s v rest;
-    board = board;
-    tree = tree;
-    one_node = one;
-    writes = writes;
-  }
+  begun-refused {v = v} rest board none writes = search (rules, begun-aim)
 
   -- the search changes but in what it notes
   module _ (v : Search) (u : Tree) (d : List Node) (rest : v ≡ record s { board = v.board; notes = v.notes }) (links : u.links ≡ t.links)
@@ -332,11 +231,11 @@ module _ {rule : RuleKind} {s : Search} {t : Tree} {c : List Node} {b : Grid} (c
       tree = tree_now;
       one_node = ap length links ∙ one;
       one_note = long;
-      lawful = subst (λ (w : Search). IsPosition rule w.root) (sym rest) first-lawful;
+      lawful = rw rest first-lawful;
       depth_is = left ∙ sym (ap (λ (w : Search). w.depth) rest);
-      depth_fits = subst (λ (w : Search). w.depth ≤ 60) (sym rest) depth_fits;
-      some_budget = subst (λ (w : Search). 1 ≤ w.budget) (sym rest) some_budget;
-      budget_fits = subst (λ (w : Search). w.budget ≤ 10000000) (sym rest) budget_fits;
+      depth_fits = rw rest depth_fits;
+      some_budget = rw rest some_budget;
+      budget_fits = rw rest budget_fits;
       none = ap (λ (w : Search). w.settled.entries) rest ∙ begins.none;
       attacked_is = ap (λ (w : Search). w.attacked) rest ∙ begins.attacked_is;
       defended_is = ap (λ (w : Search). w.defended) rest ∙ begins.defended_is;
@@ -348,10 +247,7 @@ module _ {rule : RuleKind} {s : Search} {t : Tree} {c : List Node} {b : Grid} (c
       (board : v.board ≡ s.board) (items : v.notes.items ≡ noted_won s.notes.items 0 win)
       (st : IsSettledAt t u 0 true) (writes : Writes c d 1 (Ok win)) (is : IsThreatWin rule s.depth b d win) where
     own-note : note_at v.notes.items 0 ≡ record (note_at s.notes.items 0) { moves = win.moves; node = win.node }
-    own-note =
-        let some : 0 < length s.notes.items = let one = begins.one in omega (arith, one) in
-        ap (λ (ns : List Note). note_at ns 0) items ∙ get_or-set_same s.notes.items 0
-        (record (note_at s.notes.items 0) { moves = win.moves; node = win.node }) no_note some
+    own-note = search (rules, get_or-set_same)
 
     won-moves : (note_at v.notes.items 0).moves ≡ win.moves
     won-moves = ap (λ (n : Note). n.moves) own-note
@@ -367,10 +263,8 @@ module _ {rule : RuleKind} {s : Search} {t : Tree} {c : List Node} {b : Grid} (c
 
     won-noted : IsNotedWin rule v.depth v.root d (win_of (note_at v.notes.items 0))
     won-noted =
-        subst (λ (n : Note). IsNotedWin rule v.depth v.root d (win_of n)) (sym own-note)
-        (subst (λ (n : ℕ). IsNotedWin rule n v.root d win) (sym (ap (λ (w : Search). w.depth) rest))
-        (subst (λ (w : Grid). IsNotedWin rule s.depth w d win) (sym (ap (λ (w : Search). w.root) rest ∙ begins.root_is))
-        (is.written, is.by_threats)))
+        rw own-note (rw (ap (λ (w : Search). w.depth) rest)
+        (rw (ap (λ (w : Search). w.root) rest ∙ begins.root_is) (is.written, is.by_threats)))
 
     won-searches : Searches rule v u d (λ i. ⊥)
     won-searches = lone-searches won-begun (record {

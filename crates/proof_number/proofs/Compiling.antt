@@ -1,40 +1,27 @@
 -- A proved node of the attacker is compiled: the nodes behind its proved move have wins, and the search goes on with one more. A proved
 -- node of the attacker is compiled, in the words of the contracts.
-use Rattle.std.proofs.Common.{◌≡◌, ◌≢◌, ◌⊎◌, inl, inr, ℕ, suc, ◌+◌, ◌<◌, ◌≤◌, true, false, ◌&&◌}
-use Rattle.std.proofs.Common.{refl, sym, ap, subst, ◌∙◌, arith, List, [], ◌∷◌, ◌++◌, map, length, take, drop, nat_eq, All}
-use Rattle.std.proofs.Common.{Ok, cond}
+use Rattle.std.proofs.Common.{◌≡◌, ◌≢◌, ◌⊎◌, inl, inr, ℕ, ◌+◌, ◌<◌, ◌≤◌, true, false, ◌&&◌, sym, ap}
+use Rattle.std.proofs.Common.{subst, ◌∙◌, arith, List, [], ◌∷◌, ◌++◌, map, length, take, drop, All, Ok, rules}
 use Rattle.std.proofs.lemmas.Bool.{cases_eq, eq-eqb}
 use Rattle.std.proofs.lemmas.List.{get_or-map, get_or-take, get_or-drop, get_or-set_same, get_or-set_other, length-map, length-take}
 use Rattle.std.proofs.lemmas.List.{length-drop, length-append, take-map, drop-map}
 use Rattle.std.specs.List.{AllByRecursion}
 use Rattle.std.proofs.lemmas.List.Elements.{All-from_get_or}
 use Rattle.std.proofs.Math.Seq.{map-set_same}
-use Rattle.game_rules.specs.declared.RuleKind.{RuleKind}
-use Rattle.game_rules.specs.declared.Point.{Point}
-use Rattle.game_rules.specs.declared.Outcome.TheVariants.{GoesOn}
-use Rattle.game_rules.proofs.Common.{Grid, is_on, points_of, outcome, after, LosesOr}
+use Rattle.proof_number.proofs.Common.{RuleKind, Point, GoesOn, Grid, points_of, outcome, after, Kind, Attack, Defend, Numbers, combined}
+use Rattle.proof_number.proofs.Common.{is_settled, other_kind, settled_numbers, total, IsOnWayUp, Tree, children_of, link_at, numbers_at}
+use Rattle.proof_number.proofs.Common.{Node, NamesLower, depth, greatest, WrittenWin, IsCompiled, IsWrittenWin, WinsByAnswers, Writes}
+use Rattle.proof_number.proofs.Common.{move_at, nowhere, Note, Search, known_searching, room_in, all_notes, answer_of, no_note, note_at}
+use Rattle.proof_number.proofs.Common.{noted_for, win_of, AreMet, GameTree, among, board_at, left_at, left_before, moves_of, noted_tree}
+use Rattle.proof_number.proofs.Common.{AreWritten, IsAbove, IsNotedWin, IsSearching, KeepsTree, game_of, noted_won, sum_below, unwritten}
+use Rattle.proof_number.proofs.Common.{Searches, behind_leaves, nodes_so_far, threat_wins, wins_behind, won_at}
+use Rattle.game_rules.proofs.Common.{is_on}
 use Rattle.game_rules.proofs.ReadingOrder.{points-on}
-use Rattle.proof_tree.specs.declared.Kind.{Kind}
-use Rattle.proof_tree.specs.declared.Kind.TheVariants.{Attack, Defend}
-use Rattle.proof_tree.specs.declared.Numbers.{Numbers}
-use Rattle.proof_tree.proofs.Common.{combined, is_settled, other_kind, settled_numbers, total, IsChild, IsOnWayUp, Tree, children_of}
-use Rattle.proof_tree.proofs.Common.{link_at, numbers_at}
+use Rattle.proof_tree.proofs.Common.{IsChild}
 use Rattle.proof_tree.proofs.Settled.{settled-proved, above-low}
-use Rattle.strategy_graph.specs.declared.Node.{Node}
 use Rattle.strategy_graph.proofs.Filling.{IsTable-lower}
-use Rattle.strategy_graph.proofs.Common.{NamesLower, depth, greatest}
-use Rattle.strategy_compiler.specs.declared.wins.WrittenWin.{WrittenWin}
-use Rattle.strategy_compiler.proofs.Common.{IsCompiled, IsWrittenWin, StaysOnBoard, WinsByAnswers, Writes}
 use Rattle.strategy_compiler.proofs.Forks.{IsAnswer, answer-by-win}
 use Rattle.strategy_compiler.proofs.Growing.{win-some}
-use Rattle.threat_game.proofs.Common.{move_at, nowhere}
-use Rattle.proof_number.specs.declared.notes.Note.{Note}
-use Rattle.proof_number.specs.declared.search.Search.{Search}
-use Rattle.proof_number.proofs.Common.{known_searching, room_in, all_notes, answer_of, no_note, note_at, noted_for, win_of, AreMet}
-use Rattle.proof_number.proofs.Common.{GameTree, HasTried, IsGameTree, among, board_at, left_at, left_before, moves_of, noted_tree}
-use Rattle.proof_number.proofs.Common.{AreWritten, IsAbove, IsCounted, IsNotedWin, IsSearching, IsTrueMemo, KeepsTree, game_of, is_attack}
-use Rattle.proof_number.proofs.Common.{noted_won, sum_below, unwritten, Searches}
-use Rattle.proof_number.proofs.Common.{behind_leaves, nodes_so_far, threat_wins, wins_behind, won_at}
 use Rattle.proof_number.proofs.Opening.{searching-facts}
 use Rattle.proof_number.proofs.GameTruths.{IsChildOf, child-of, each-zero, left-low, points-same}
 use Rattle.proof_number.proofs.Recording.{all-points, note-for, written-node, won-node}
@@ -48,14 +35,7 @@ use Rattle.proof_number.proofs.WinLaws.{won-one}
 -- the note of node i with a win has the move and the moves left that it had
 pub won-places : (rule : RuleKind) (s : Search) (t : Tree) (items : List Note) (i : ℕ) (win : WrittenWin)
     → items ≡ noted_won s.notes.items i win → noted_tree rule s.root t items ≡ game_of rule s t
-won-places rule s t items i win is =
-    let moves : map (λ (n : Note). n.at) items ≡ map (λ (n : Note). n.at) s.notes.items =
-    ap (map (λ (n : Note). n.at)) is ∙ map-set_same (λ (n : Note). n.at) s.notes.items i
-    (record (note_at s.notes.items i) { moves = win.moves; node = win.node }) no_note refl in
-    let left : map (λ (n : Note). n.left) items ≡ map (λ (n : Note). n.left) s.notes.items =
-    ap (map (λ (n : Note). n.left)) is ∙ map-set_same (λ (n : Note). n.left) s.notes.items i
-    (record (note_at s.notes.items i) { moves = win.moves; node = win.node }) no_note refl in
-    λ r. record { rule = rule; start = s.root; tree = t; moves = moves r; left = left r }
+won-places rule s t items i win is = search (rules, map-set_same)
 
 module _ {rule : RuleKind} {s : Search} {t : Tree} {c : List Node} {node : ℕ} (h : IsSearching rule s t c (IsOnWayUp t.links node))
     (inside : node < length t.links)
@@ -87,9 +67,6 @@ module _ {rule : RuleKind} {s : Search} {t : Tree} {c : List Node} {node : ℕ} 
       by_count (inl none) = absurd (h.written.defends j facts.inside none defends child-proved)
       by_count (inr more) = omega (arith, more)
 
-    pub child-inside : j < length t.links
-    child-inside = facts.inside
-
     pub notes-long : length s.notes.items ≡ length t.links
     notes-long = sym (length-map s.notes.items (λ (n : Note). n.at)) ∙ h.game.moves
 
@@ -104,18 +81,15 @@ module _ {rule : RuleKind} {s : Search} {t : Tree} {c : List Node} {node : ℕ} 
     kid-note : (k : ℕ) → k < (link_at t.links j).count
         → note_at (take (link_at t.links j).count (drop (link_at t.links j).first s.notes.items)) k ≡ note_at s.notes.items
         ((link_at t.links j).first + k)
-    kid-note k low = get_or-take (link_at t.links j).count (drop (link_at t.links j).first s.notes.items) k no_note low
-        ∙ get_or-drop (link_at t.links j).first s.notes.items k no_note
+    kid-note k low = search (rules, get_or-take, get_or-drop)
 
     met : AreMet rule (left_at (game_of rule s t).left j) (board_at (game_of rule s t) j)
         (moves_of (link_at t.links j) (map (λ n. n.at) s.notes.items))
-    met = subst (λ (k : Kind). HasTried k rule (left_at (game_of rule s t).left j) (board_at (game_of rule s t) j)
-        (moves_of (link_at t.links j) (map (λ n. n.at) s.notes.items))) defends (h.game.inner j facts.inside child-some)
+    met = rw defends at (h.game.inner j facts.inside child-some)
 
     kids-moves : map (λ n. n.at) (take (link_at t.links j).count (drop (link_at t.links j).first s.notes.items)) ≡ moves_of
         (link_at t.links j) (map (λ n. n.at) s.notes.items)
-    kids-moves = sym (ap (take (link_at t.links j).count) (drop-map (λ (n : Note). n.at) (link_at t.links j).first s.notes.items)
-        ∙ take-map (λ (n : Note). n.at) (link_at t.links j).count (drop (link_at t.links j).first s.notes.items))
+    kids-moves = search (rules, drop-map, take-map)
 
     pub kids-some : 0 < length (take (link_at t.links j).count (drop (link_at t.links j).first s.notes.items))
     kids-some = let e = kids-length in let some = child-some in omega (arith, e, some)
@@ -123,8 +97,7 @@ module _ {rule : RuleKind} {s : Search} {t : Tree} {c : List Node} {node : ℕ} 
     -- the board and the moves left of each child, and its win
     own-total : total (map (λ n. n.proof) (children_of (link_at t.links j) t.numbers)) ≡ 0
     own-total =
-        let own : numbers_at t.numbers j ≡ combined Defend (children_of (link_at t.links j) t.numbers) =
-        h.tree.numbered.combined_at j facts.inside child-some
+        let own = h.tree.numbered.combined_at j facts.inside child-some
         ∙ ap (λ (k : Kind). combined k (children_of (link_at t.links j) t.numbers)) defends in
         ap (λ (n : Numbers). n.proof) (sym own ∙ child-proved)
 
@@ -140,20 +113,16 @@ module _ {rule : RuleKind} {s : Search} {t : Tree} {c : List Node} {node : ℕ} 
         let numbers : numbers_at t.numbers m ≡ settled_numbers true =
         settled-proved (numbers_at t.numbers m) (h.tree.numbered.each m f.inside)
         (each-zero h.tree h.game j facts.inside (λ n. n.proof) own-total m kid) in
-        let beside : IsOnWayUp t.links node m → ⊥ = λ way.
-        omega (arith, above-low t.links h.tree.linked way.0 node inside, way.1, facts.later, f.later) in
+        let beside : IsOnWayUp t.links node m → ⊥ = λ way. omega
+        (arith, above-low t.links h.tree.linked way.0 node inside, way.1, facts.later, f.later) in
         let some = h.written.all m f.inside attacks numbers beside in
         let win = (h.written.true_wins m f.inside some).0 in
         let moved : move_at (map (λ n. n.at) s.notes.items) m ≡ (note_at s.notes.items m).at =
         get_or-map (λ (n : Note). n.at) s.notes.items m no_note nowhere
         (let long = notes-long in let i = f.inside in omega (arith, long, i)) in
-        let left : left_at (game_of rule s t).left m ≡ left_at (game_of rule s t).left j =
-        ap (λ (q : Kind). left_before q (left_at (game_of rule s t).left m)) (sym attacks) ∙ f.fewer in
-        let board : board_at (game_of rule s t) m ≡ after (board_at (game_of rule s t) j) (note_at s.notes.items m).at =
-        f.board ∙ ap (after (board_at (game_of rule s t) j)) moved in
-        subst (λ (n : ℕ). IsWrittenWin rule n (after (board_at (game_of rule s t) j) (note_at s.notes.items m).at) c
-        (win_of (note_at s.notes.items m))) left
-        (subst (λ (b : Grid). IsWrittenWin rule (left_at (game_of rule s t).left m) b c (win_of (note_at s.notes.items m))) board win)
+        let left = ap (λ (q : Kind). left_before q (left_at (game_of rule s t).left m)) (sym attacks) ∙ f.fewer in
+        let board = f.board ∙ ap (after (board_at (game_of rule s t) j)) moved in
+        rw (← left) (rw board at win)
 
     kids-win : (k : ℕ) → k < length (take (link_at t.links j).count (drop (link_at t.links j).first s.notes.items))
         → IsWrittenWin rule (left_at (game_of rule s t).left j)
@@ -162,8 +131,7 @@ module _ {rule : RuleKind} {s : Search} {t : Tree} {c : List Node} {node : ℕ} 
         (win_of (note_at (take (link_at t.links j).count (drop (link_at t.links j).first s.notes.items)) k))
     kids-win k low =
         let below : k < (link_at t.links j).count = let e = kids-length in omega (arith, e, low) in
-        subst (λ (n : Note). IsWrittenWin rule (left_at (game_of rule s t).left j) (after (board_at (game_of rule s t) j) n.at) c
-        (win_of n)) (sym (kid-note k below)) (kid-win k below)
+        rw (kid-note k below) (kid-win k below)
 
     kids-on : (k : ℕ) → k < length (take (link_at t.links j).count (drop (link_at t.links j).first s.notes.items))
         → outcome rule (board_at (game_of rule s t) j)
@@ -224,8 +192,8 @@ module _ {rule : RuleKind} {s : Search} {t : Tree} {c : List Node} {node : ℕ} 
           record {
             on_board = on.0;
             accepted = λ go. (point-win q go).accepted;
-            within = subst (λ (n : Note). depth c n.node ≤ left_at (game_of rule s t).left j) (sym found.1.is) own.within;
-            stays = subst (λ (n : Note). StaysOnBoard (board_at (game_of rule s t) j) c n.node) (sym found.1.is) own.stays;
+            within = rw found.1.is own.within;
+            stays = rw found.1.is own.stays;
           },
           points-answer ps on.1,
         )
@@ -236,7 +204,7 @@ module _ {rule : RuleKind} {s : Search} {t : Tree} {c : List Node} {node : ℕ} 
     points-deep (q ∷ ps) =
         let K : List Note = take (link_at t.links j).count (drop (link_at t.links j).first s.notes.items) in
         let found = note-for K q kids-some in (
-          subst (λ (n : Note). depth c n.node ≡ n.moves) (sym found.1.is) (kids-win found.0 found.1.inside).deep,
+          rw found.1.is (kids-win found.0 found.1.inside).deep,
           points-deep ps,
         )
 
@@ -256,27 +224,17 @@ module _ {rule : RuleKind} {s : Search} {t : Tree} {c : List Node} {node : ℕ} 
         node-win =
             let b : Grid = board_at (game_of rule s t) node in
             let K : List Note = take (link_at t.links j).count (drop (link_at t.links j).first s.notes.items) in
-            let moved : move_at (map (λ n. n.at) s.notes.items) j ≡ p =
-            get_or-map (λ (n : Note). n.at) s.notes.items j no_note nowhere
+            let moved : move_at (map (λ n. n.at) s.notes.items) j ≡ p = get_or-map (λ (n : Note). n.at) s.notes.items j no_note nowhere
             (let long = notes-long in let f = facts.inside in omega (arith, long, f)) ∙ move in
             let on : outcome rule b p ≡ GoesOn = ap (outcome rule b) (sym moved) ∙ facts.on in
             let there : board_at (game_of rule s t) j ≡ after b p = facts.board ∙ ap (after b) moved in
-            let left : suc (left_at (game_of rule s t).left j) ≡ left_at (game_of rule s t).left node =
-            ap (λ (q : Kind). left_before q (left_at (game_of rule s t).left j)) (sym defends) ∙ facts.fewer in
+            let left = ap (λ (q : Kind). left_before q (left_at (game_of rule s t).left j)) (sym defends) ∙ facts.fewer in
             let points : points_of (board_at (game_of rule s t) j) ≡ points_of s.root = points-same (game_of rule s t) j in
-            let answered = subst (λ (ps : List Point). AllByRecursion
-            (λ m. IsAnswer rule (left_at (game_of rule s t).left j) (board_at (game_of rule s t) j) c (answer_of m)) (all_notes K ps))
-            points
+            let answered = rw points at
             (points-answer (points_of (board_at (game_of rule s t) j)) (points-on (board_at (game_of rule s t) j))) in
-            subst (λ (n : ℕ). IsWrittenWin rule n b d
-            (record { node = i; moves = greatest (map (λ m. m.moves) (all_notes K (points_of s.root))) + 1 })) left
-            (written-node rule b p on c d (all_notes K (points_of s.root)) (left_at (game_of rule s t).left j)
-            (all-points K (points_of s.root) ∙ sym points ∙ ap points_of there)
-            (λ q. subst (λ (e : Grid). LosesOr (outcome rule e q) (Unit {0})) there (met.none_saves q))
-            (subst (λ (e : Grid). AllByRecursion (λ m. IsAnswer rule (left_at (game_of rule s t).left j) e c (answer_of m))
-            (all_notes K (points_of s.root))) there answered)
-            (points-deep (points_of s.root))
-            i wins)
+            rw left at (written-node rule b p on c d (all_notes K (points_of s.root)) (left_at (game_of rule s t).left j)
+            (all-points K (points_of s.root) ∙ sym points ∙ ap points_of there) (λ q. rw there at (met.none_saves q))
+            (rw there at answered) (points-deep (points_of s.root)) i wins)
 
   -- ---- the search with one win more
 
@@ -289,8 +247,7 @@ module _ {rule : RuleKind} {s : Search} {t : Tree} {c : List Node} {node : ℕ} 
         (let long = length-map s.notes.items (λ (n : Note). n.at) in let e = h.game.moves in omega (arith, long, e, inside))
 
     other-note : (i : ℕ) → i ≢ node → note_at u.notes.items i ≡ note_at s.notes.items i
-    other-note i other = ap (λ (l : List Note). note_at l i) items
-        ∙ get_or-set_other s.notes.items node i (record (note_at s.notes.items node) { moves = win.moves; node = win.node }) no_note other
+    other-note i other = search (rules, get_or-set_other)
 
     same_left : (i : ℕ) → (note_at u.notes.items i).left ≡ (note_at s.notes.items i).left
     same_left i = elim (cases_eq i node) [
@@ -308,7 +265,7 @@ module _ {rule : RuleKind} {s : Search} {t : Tree} {c : List Node} {node : ℕ} 
       again = ap (λ (w : Search). record s { notes = u.notes; settled = w.settled }) (sym rest)
 
     now-some : 0 < (note_at u.notes.items node).moves
-    now-some = subst (λ (n : Note). 0 < n.moves) (sym here) some
+    now-some = rw here some
 
     settled-here : is_settled (numbers_at t.numbers node) ≡ true
     settled-here = ap is_settled proved
@@ -321,12 +278,11 @@ module _ {rule : RuleKind} {s : Search} {t : Tree} {c : List Node} {node : ℕ} 
             | inl e ↦
                 subst (λ (k : ℕ). IsNotedWin rule (left_at (game_of rule s t).left k) (board_at (game_of rule s t) k) (c ++ more)
                 (win_of (note_at u.notes.items k))) (sym e)
-                (subst (λ (n : Note). IsNotedWin rule (left_at (game_of rule s t).left node) (board_at (game_of rule s t) node) (c ++ more)
-                (win_of n)) (sym here) true_win)
+                (rw here true_win)
             | inr other ↦
                 subst (λ (n : Note). IsNotedWin rule (left_at (game_of rule s t).left i) (board_at (game_of rule s t) i) (c ++ more)
                 (win_of n)) (sym (other-note i other))
-                (grown.true_wins i low (subst (λ (n : Note). 0 < n.moves) (other-note i other) positive))
+                (grown.true_wins i low (rw (other-note i other) at positive))
           ];
           fresh = λ i low none unsettled. elim (cases_eq i node) [
             | inl e ↦ let is : is_settled (numbers_at t.numbers i) ≡ true =
@@ -349,9 +305,8 @@ module _ {rule : RuleKind} {s : Search} {t : Tree} {c : List Node} {node : ℕ} 
               let other : first ≢ node = λ e. let nothing : (note_at s.notes.items first).moves ≡ 0 =
               ap (λ (k : ℕ). (note_at s.notes.items k).moves) e ∙ unwon in let positive = is.some in omega (arith, nothing, positive) in
               record {
-                some = subst (λ (n : Note). 0 < n.moves) (sym (other-note first other)) is.some;
-                win = subst (λ (n : Note). IsNotedWin rule (left_at (game_of rule s t).left i) (after (board_at (game_of rule s t) i) q)
-                    (c ++ more) (win_of n)) (sym (other-note first other)) is.win;
+                some = rw (other-note first other) is.some;
+                win = rw (other-note first other) is.win;
               };
         }
 
@@ -371,24 +326,20 @@ module _ {rule : RuleKind} {s : Search} {t : Tree} {c : List Node} {node : ℕ} 
     pub won-searching : IsSearching rule u t (c ++ more) (IsAbove t.links node)
     won-searching =
         let same : game_of rule u t ≡ game_of rule s t = won-keeps.places rule t in
-        subst (λ (w : Search). IsSearching rule w t (c ++ more) (IsAbove t.links node)) (sym rest) (record {
+        rw rest (record {
           tree = h.tree;
-          game = subst IsGameTree (sym (won-places rule s t u.notes.items node win items)) h.game;
+          game = rw (won-places rule s t u.notes.items node win items) h.game;
           depth = same_left 0 ∙ h.depth;
           depth_fits = h.depth_fits;
           budget_fits = h.budget_fits;
-          written = subst (λ (g : GameTree). AreWritten g u.notes.items (c ++ more) (IsAbove t.links node))
-              (sym (won-places rule s t u.notes.items node win items)) won-written;
-          remembered = subst (λ (g : GameTree). IsTrueMemo rule (c ++ more) g s.settled)
-              (sym (won-places rule s t u.notes.items node win items))
+          written = rw (won-places rule s t u.notes.items node win items) won-written;
+          remembered =
+              rw (won-places rule s t u.notes.items node win items)
               (memo-grown rule (game_of rule s t) c more s.settled lower h.remembered);
-          counted = subst (λ (g : GameTree). IsCounted g s.budget s.attacked s.defended)
-              (sym (won-places rule s t u.notes.items node win items)) h.counted;
+          counted = rw (won-places rule s t u.notes.items node win items) h.counted;
           compiled = compiled;
           few = won-few;
-          wins = subst (λ (g : GameTree). length (c ++ more) + sum_below (length t.links) (unwritten (won_at g) t u.notes.items)
-              + behind_leaves wins_behind g ≤ s.before + threat_wins rule s.depth s.root)
-              (sym (won-places rule s t u.notes.items node win items)) won-wins;
+          wins = rw (won-places rule s t u.notes.items node win items) won-wins;
         })
 
 module _ {rule : RuleKind} {s : Search} {t : Tree} {c : List Node} {node : ℕ} (searches : Searches rule s t c (IsOnWayUp t.links node))
@@ -415,7 +366,7 @@ module _ {rule : RuleKind} {s : Search} {t : Tree} {c : List Node} {node : ℕ} 
 
   module _ (j : ℕ) (child : IsChild (link_at t.links node) j) (nothing : (numbers_at t.numbers j).proof ≡ 0) where
     pub compile-inside : j < length t.links
-    compile-inside = child-inside h inside attack proved unwon j child nothing
+    compile-inside = search rules
 
     pub compile-noted : j < length s.notes.items
     compile-noted = let e = noted-length in let l = compile-inside in omega (arith, e, l)
@@ -425,12 +376,10 @@ module _ {rule : RuleKind} {s : Search} {t : Tree} {c : List Node} {node : ℕ} 
 
     module _ (kids : List Note) (are : kids ≡ take (link_at t.links j).count (drop (link_at t.links j).first s.notes.items)) where
       pub compile-kids : 0 < length kids
-      compile-kids = subst (λ (ns : List Note). 0 < length ns) (sym are)
-          (kids-some h inside attack proved unwon j child nothing)
+      compile-kids = search (rules, kids-some)
 
       pub compile-below : All (λ n. n.node < length c) kids
-      compile-below = subst (λ (ns : List Note). All (λ n. n.node < length c) ns) (sym are)
-          (kids-below h inside attack proved unwon j child nothing)
+      compile-below = rw are (kids-below h inside attack proved unwon j child nothing)
 
       module _ (d : List Node) (p : Point) (move : (note_at s.notes.items j).at ≡ p) (win : WrittenWin) (writes : Writes c d 1 (Ok win))
           (wins : WinsByAnswers c p (map answer_of (all_notes kids (points_of s.root))) d win.node)
@@ -451,9 +400,7 @@ module _ {rule : RuleKind} {s : Search} {t : Tree} {c : List Node} {node : ℕ} 
                   (ap (λ (ns : List Note). greatest (map (λ (n : Note). n.moves) (all_notes ns (points_of s.root))) + 1) (sym are)
                   ∙ sym moves) i;
             } in
-            subst (λ (w : WrittenWin). IsWrittenWin rule (left_at (game_of rule s t).left node) (board_at (game_of rule s t) node) d w) same
-            (node-win h inside attack proved unwon j child nothing d win.node p move
-            (subst (λ (ns : List Note). WinsByAnswers c p (map answer_of (all_notes ns (points_of s.root))) d win.node) are wins))
+            rw same at (node-win h inside attack proved unwon j child nothing d win.node p move (rw are at wins))
 
         pub compile-few : win.moves < 256
         compile-few = let within = compile-won.within in let left = own-left in omega (arith, within, left)
@@ -465,24 +412,19 @@ module _ {rule : RuleKind} {s : Search} {t : Tree} {c : List Node} {node : ℕ} 
           pub compile-keeps : KeepsTree s u
           compile-keeps =
               let a = added in
-              won-keeps h inside attack proved unwon a.0 a.2 (subst IsCompiled a.1 compiled) win
+              won-keeps h inside attack proved unwon a.0 a.2 (rw a.1 at compiled) win
               (win-some rule (left_at (game_of rule s t).left node) (board_at (game_of rule s t) node) d win compile-won)
-              (subst (λ (x : List Node). IsNotedWin rule (left_at (game_of rule s t).left node) (board_at (game_of rule s t) node) x win)
-              a.1 noted) u rest items
+              (rw a.1 at noted) u rest items
 
           pub compile-searches : Searches rule u t d (IsAbove t.links node)
           compile-searches = known_searching (
               let a = added in
-              subst (λ (x : List Node). IsSearching rule u t x (IsAbove t.links node)) (sym a.1)
-              (won-searching h inside attack proved unwon a.0 a.2 (subst IsCompiled a.1 compiled) win
+              rw a.1 (won-searching h inside attack proved unwon a.0 a.2 (rw a.1 at compiled) win
               (win-some rule (left_at (game_of rule s t).left node) (board_at (game_of rule s t) node) d win compile-won)
-              (subst (λ (x : List Node). IsNotedWin rule (left_at (game_of rule s t).left node) (board_at (game_of rule s t) node) x win)
-              a.1 noted) u rest items))
+              (rw a.1 at noted) u rest items))
 
   own-unwritten : (f : ℕ → ℕ) → unwritten f t s.notes.items node ≡ f node
-  own-unwritten f =
-      ap (λ (k : Kind). cond (is_attack k && nat_eq (note_at s.notes.items node).moves 0) (f node) 0) attack
-      ∙ ap (λ r. cond r (f node) 0) (eq-eqb (note_at s.notes.items node).moves 0 unwon)
+  own-unwritten f = search (rules, eq-eqb)
 
   -- there is room for the node
   pub compile-room : 1 ≤ room_in (nodes_so_far rule s) c

@@ -1,63 +1,48 @@
 -- The numbers and notes of the children of a node of the defender, one after another. A leaf of the defender is settled where a reply
 -- leaves no win, or else gets a child for each reply.
-use Rattle.std.proofs.Common.{◌≡◌, ◌⊎◌, inl, inr, ℕ, ◌+◌, ◌<◌, ◌≤◌, refl, sym, ap, subst, ◌∙◌, arith}
-use Rattle.std.proofs.Common.{List, [], ◌∷◌, ◌++◌, length, take, Option, Some, None, IfSome, is_none, sum_by, suc}
-use Rattle.std.proofs.Common.{◌-◌, Bool, true, false, cond, ◌&&◌, not, map, All, ◌*◌, get_or}
+use Rattle.std.proofs.Common.{◌≡◌, ◌⊎◌, inl, inr, ℕ, ◌+◌, ◌<◌, ◌≤◌, refl, sym, ap, ◌∙◌, arith}
+use Rattle.std.proofs.Common.{List, [], ◌∷◌, ◌++◌, length, take, Option, Some, None, IfSome, is_none, sum_by, suc, rules, ◌-◌}
+use Rattle.std.proofs.Common.{Bool, true, false, cond, ◌&&◌, not, map, All, ◌*◌, get_or}
 use Rattle.std.proofs.lemmas.Bool.{cases_lt, eq-eqb, ne_eqb}
 use Rattle.std.proofs.lemmas.List.{get_or_append_left, get_or_push, length_push, get_or-map}
 use Rattle.std.proofs.lemmas.List.Sums.{sum_by_more, sum_by_more_le, sum_by-cons, sum_by-le}
 use Rattle.std.proofs.lemmas.List.Elements.{All-from_get_or}
-use Rattle.game_rules.specs.declared.RuleKind.{RuleKind}
-use Rattle.game_rules.specs.declared.Outcome.{Outcome}
-use Rattle.game_rules.specs.declared.Outcome.TheVariants.{GoesOn}
-use Rattle.game_rules.specs.declared.Point.{Point}
-use Rattle.game_rules.proofs.Common.{Grid, after, is_empty, points_of, five, IsPosition, foul_of, mover, outcome, goes_on, LosesOr}
-use Rattle.game_rules.proofs.Common.{WinsByThreats, has_five, if_goes_on, behind_replies}
+use Rattle.proof_number.proofs.Common.{RuleKind, GoesOn, Point, Grid, after, is_empty, points_of, IsPosition, mover, outcome}
+use Rattle.proof_number.proofs.Common.{goes_on, LosesOr, WinsByThreats, has_five, if_goes_on, behind_replies, Numbers, Kind, Attack, Defend}
+use Rattle.proof_number.proofs.Common.{no_numbers, numbers_at, is_settled, other_kind, settled_numbers, Tree, link_at, Node, NamesLower}
+use Rattle.proof_number.proofs.Common.{WrittenWin, GrowsBy, IsCompiled, Child, Children, Judged, Five, Last, Open, IsThreatWin}
+use Rattle.proof_number.proofs.Common.{LosesToThreats, is_open, moves_for, nodes_for, threat_tree, Note, Search, known_grown}
+use Rattle.proof_number.proofs.Common.{most_nodes, room_in, AreSettled, IsSettledChild, child_at, child_note, child_numbers, no_child}
+use Rattle.proof_number.proofs.Common.{no_note, note_at, win_of, open_numbers, AreMet, CanGrow, GameTree, HasTried, TellsTruly, WinsAt}
+use Rattle.proof_number.proofs.Common.{among, board_at, left_at, Grows, HasSpent, IsAtLeaf, IsExpandedAt, IsNotedWin}
+use Rattle.proof_number.proofs.Common.{IsSettledAt, StandsAt, attacks_behind, behind_at, defences_behind, game_of, is_attack, sum_below}
+use Rattle.proof_number.proofs.Common.{IsLostAt, WinsByFewFours, IsBare, threat_wins, wins_behind}
+use Rattle.game_rules.proofs.Common.{five, foul_of}
 use Rattle.game_rules.proofs.Points.{any_witness}
 use Rattle.game_rules.proofs.Positions.{IsPosition-after}
 use Rattle.game_rules.proofs.Outcomes.{goes_on-is, not-last, none-draws}
 use Rattle.game_rules.proofs.Games.{win-has_five}
-use Rattle.proof_tree.specs.declared.Numbers.{Numbers}
-use Rattle.proof_tree.specs.declared.Kind.{Kind}
-use Rattle.proof_tree.specs.declared.Kind.TheVariants.{Attack, Defend}
-use Rattle.proof_tree.proofs.Common.{no_numbers, numbers_at, is_settled, other_kind, settled_numbers, Tree, link_at}
 use Rattle.proof_tree.proofs.SumLaws.{IsFresh, fresh-sum}
 use Rattle.proof_tree.proofs.Settled.{proved-apart}
-use Rattle.strategy_graph.specs.declared.Node.{Node}
-use Rattle.strategy_graph.proofs.Common.{NamesLower}
 use Rattle.strategy_graph.proofs.Filling.{IsTable-lower}
-use Rattle.strategy_compiler.specs.declared.wins.WrittenWin.{WrittenWin}
 use Rattle.strategy_compiler.proofs.Growing.{growth_keeps-wins, win-some, grows-length, grows-then}
-use Rattle.strategy_compiler.proofs.Common.{GrowsBy, IsCompiled}
-use Rattle.threat_game.specs.declared.replies.Child.{Child}
-use Rattle.threat_game.specs.declared.replies.Children.{Children}
-use Rattle.threat_game.specs.declared.replies.Judged.{Judged}
-use Rattle.threat_game.specs.declared.replies.Judged.TheVariants.{Five, DoublePoint as DoubleWins, Last, Open}
-use Rattle.threat_game.proofs.Common.{IsThreatWin, LosesToThreats, is_open, moves_for, nodes_for, threat_tree, has_reply, AreChildren}
-use Rattle.threat_game.proofs.Common.{HasEscape, IsChild, IsJudged, counted_for, is_standing, kept_children, stands_for, one_if}
+use Rattle.threat_game.specs.declared.replies.Judged.TheVariants.{DoublePoint as DoubleWins}
+use Rattle.threat_game.proofs.Common.{has_reply, AreChildren, HasEscape, IsChild, counted_for, is_standing, kept_children, stands_for}
 use Rattle.threat_game.proofs.ReplyLaws.{judged-short, judged-three, counted-three}
 use Rattle.threat_game.proofs.Kept.{kept-covers, kept-each, kept-sum, stands-standing}
 use Rattle.threat_game.proofs.TreeLaws.{children-within, counted-few, one_where, counted-one, open_one, counted-parts, open_behind}
 use Rattle.threat_game.proofs.TreeLaws.{whole-by}
 use Rattle.threat_game.proofs.AttackLaws.{escape-saves}
-use Rattle.proof_number.specs.declared.notes.Note.{Note}
-use Rattle.proof_number.specs.declared.search.Search.{Search}
-use Rattle.proof_number.proofs.Common.{known_grown, most_nodes, room_in, AreSettled, IsSettledChild, child_at, child_note, child_numbers}
-use Rattle.proof_number.proofs.Common.{no_child, no_note, note_at, win_of, open_numbers, AreMet, CanGrow, GameTree, HasTried, TellsTruly}
-use Rattle.proof_number.proofs.Common.{WinsAt, among, board_at, left_at, IsTrueMemo, Grows, HasGrown, HasSpent, IsAtLeaf}
-use Rattle.proof_number.proofs.Common.{IsExpandedAt, IsNotedWin, IsSettledAt, StandsAt, attacks_behind, behind_at, defences_behind, game_of}
-use Rattle.proof_number.proofs.Common.{is_attack, sum_below, IsLostAt, WinsByFewFours, IsBare, threat_wins, wins_behind}
 use Rattle.proof_number.proofs.Opening.{leaf-facts}
 use Rattle.proof_number.proofs.RunningOut.{runs-out}
 use Rattle.proof_number.proofs.WinLaws.{replies-within, wins-own}
-use Rattle.proof_number.proofs.ExpandedCounts.{Expansion, IsNewNote, expanded-grown, new_behind, unwritten_child}
-use Rattle.proof_number.proofs.ExpandedCounts.{unproved_child, unwritten_win}
+use Rattle.proof_number.proofs.ExpandedCounts.{Expansion, IsNewNote, expanded-grown, new_behind, unwritten_child, unproved_child}
+use Rattle.proof_number.proofs.ExpandedCounts.{unwritten_win}
 use Rattle.proof_number.proofs.Expanding.{IsNewChild}
 use Rattle.proof_number.proofs.Growing.{lost-grown}
 use Rattle.proof_number.proofs.Remembering.{memo-grown}
 use Rattle.proof_number.proofs.Steps.{leaf-lawful, leaf-noted}
 use Rattle.proof_number.proofs.Sums.{sum-le, sum-list, sum-one, sum-ones, sum-split}
-use Rattle.game_rules.specs.Games.{wins_by_threats}
 
 -- what is noted first of a child
 abbrev pub first_note : Child → ℕ → Note
@@ -65,10 +50,7 @@ first_note child left = record { at = child.at; left = left; moves = 0; node = 0
 
 -- what may stand after other replies is not open
 standing-shut : (judged : Judged) → is_open judged ≡ true → is_standing judged ≡ true → ⊥
-standing-shut (Five w) h e = cc
-standing-shut (DoubleWins d nodes) h e = cc
-standing-shut (Last p) h e = cc
-standing-shut Open h e = cc
+standing-shut judged h e = search rules
 
 module _ (rule : RuleKind) (left : ℕ) (c : Grid) where
   -- a child stays settled where the compiler grows
@@ -152,15 +134,10 @@ module _ (rule : RuleKind) (left : ℕ) (c : Grid) where
         → AreSettled rule left c u children (k + 1) new_numbers new_notes
     more-settled t u k count numbers new_numbers notes new_notes child win lower old is open_is enough wins stands grows numbers_are
         notes_are =
-        let new : IsSettledChild rule left c (t ++ grows.added) child (child_numbers win) (child_note (first_note child left) win) =
-        subst (λ (d : List Node). IsSettledChild rule left c d child (child_numbers win) (child_note (first_note child left) win)) grows.is
-        (child-settled u child win open_is enough wins stands) in
+        let new = rw grows.is at (child-settled u child win open_is enough wins stands) in
         let all = one-settled t grows.added k numbers notes child (child_numbers win) (child_note (first_note child left) win) lower old is
         new in
-        subst (λ (d : List Node). AreSettled rule left c d children (k + 1) new_numbers new_notes) (sym grows.is)
-        (subst (λ (ns : List Numbers). AreSettled rule left c (t ++ grows.added) children (k + 1) ns new_notes) (sym numbers_are)
-        (subst (λ (ms : List Note). AreSettled rule left c (t ++ grows.added) children (k + 1) (numbers ++ child_numbers win ∷ []) ms)
-        (sym notes_are) all))
+        rw grows.is (rw numbers_are (rw notes_are all))
 
 -- ---- the nodes that are compiled
 
@@ -170,18 +147,10 @@ module _ (children : List Child) (a b d : List Node) (k : ℕ) (low : k < length
   nodes-at = ap (λ (x : Child). nodes_for x.judged) is
 
   pub nodes-more : GrowsBy b d (nodes_for child.judged) → GrowsBy a d (sum_by (λ (x : Child). nodes_for x.judged) (take (k + 1) children))
-  nodes-more next =
-      let e = sum_by_more (λ (x : Child). nodes_for x.judged) children k no_child low in
-      let n = nodes-at in
-      grows-then a b d (sum_by (λ (x : Child). nodes_for x.judged) (take k children)) (nodes_for child.judged)
-      (sum_by (λ (x : Child). nodes_for x.judged) (take (k + 1) children)) first next (omega (arith, e, n))
+  nodes-more next = search (rules, sum_by_more, nodes-at, grows-then)
 
   pub nodes-within : GrowsBy b d (nodes_for child.judged) → GrowsBy a d (sum_by (λ (x : Child). nodes_for x.judged) children)
-  nodes-within next =
-      let e = sum_by_more_le (λ (x : Child). nodes_for x.judged) children k no_child low in
-      let n = nodes-at in
-      grows-then a b d (sum_by (λ (x : Child). nodes_for x.judged) (take k children)) (nodes_for child.judged)
-      (sum_by (λ (x : Child). nodes_for x.judged) children) first next (omega (arith, e, n))
+  nodes-within next = search (rules, sum_by_more_le, nodes-at, grows-then)
 
   -- where there is no room for the nodes of one child, there is none for those of all
   pub no-room : (most : ℕ) → most < length b + nodes_for child.judged
@@ -208,23 +177,23 @@ none-saves rule b none reply q =
 
 sum-parts : (f g h : Child → ℕ) → ((x : Child) → f x + g x ≤ h x) → (xs : List Child) → sum_by f xs + sum_by g xs ≤ sum_by h xs
 sum-parts f g h low [] = omega arith
-sum-parts f g h low (x ∷ xs) =
-    omega (arith, sum-parts f g h low xs, low x, sum_by-cons f x xs, sum_by-cons g x xs, sum_by-cons h x xs)
+sum-parts f g h low (x ∷ xs) = search (rules, sum_by-cons, sum-parts f g h low xs)
 
 sum-many : (h : Child → ℕ) → ((x : Child) → 1 ≤ h x) → (xs : List Child) → length xs ≤ sum_by h xs
 sum-many h one [] = omega arith
 sum-many h one (x ∷ xs) = let rest = sum-many h one xs in let here = one x in let d = sum_by-cons h x xs in omega (arith, rest, here, d)
 
 -- children settled at what is the same
-pub settled-same : (rule : RuleKind) (l k : ℕ) (b c : Grid) (d : List Node) (xs ys : List Child) (ns more : List Numbers)
-    (ps ms : List Note) → l ≡ k → b ≡ c → xs ≡ ys → more ≡ ns → ms ≡ ps
+pub settled-same : {rule : RuleKind} {l k : ℕ} {b c : Grid} {d : List Node} {xs ys : List Child} {ns more : List Numbers}
+    {ps ms : List Note}
+    → l ≡ k → b ≡ c → xs ≡ ys → more ≡ ns → ms ≡ ps
     → AreSettled rule l b d xs (length xs) ns ps → AreSettled rule k c d ys (length ys) more ms
-settled-same rule l k b c d xs ys ns more ps ms el eb ex en em h = rw (← el, ← eb, ← ex, en, em) h
+settled-same el eb ex en em h = rw (← el, ← eb, ← ex, en, em) h
 
 -- children at what is the same
-pub each-same : (rule : RuleKind) (l k : ℕ) (b c : Grid) (xs ys : List Child) → l ≡ k → b ≡ c → xs ≡ ys → All (IsChild rule k c) ys
+pub each-same : {rule : RuleKind} {l k : ℕ} {b c : Grid} {xs ys : List Child} → l ≡ k → b ≡ c → xs ≡ ys → All (IsChild rule k c) ys
     → All (IsChild rule l b) xs
-each-same rule l k b c xs ys el eb ex h = rw (el, eb, ex) h
+each-same el eb ex h = rw (el, eb, ex) h
 
 -- the points of notes
 same-points : (ms : List Note) (items : List Child) → length ms ≡ length items
@@ -239,8 +208,7 @@ same-points (m ∷ ms) (x ∷ items) e h =
 
 -- open and settled numbers are apart
 open-apart : (r : Bool) → open_numbers ≡ settled_numbers r → ⊥
-open-apart true e = let bad : 1 ≡ 0 = ap (λ (n : Numbers). n.proof) e in omega (arith, bad)
-open-apart false e = let bad : 1 ≡ 0 = ap (λ (n : Numbers). n.disproof) e in omega (arith, bad)
+open-apart r e = search rules
 
 -- ---- one child
 
@@ -265,7 +233,7 @@ module _ (rule : RuleKind) (left : ℕ) (b : Grid) (d : List Node) (child : Chil
   grows-by Open e open_is =
       let enough = is.enough in
       let two = ap moves_for e in
-      (subst (λ (judged : Judged). IsJudged rule (after b child.at) judged) e is.judged, omega (arith, enough, two))
+      (rw e at is.judged, omega (arith, enough, two))
 
   tells-by : (r : Bool) → is_open child.judged ≡ r → TellsTruly numbers (WinsByThreats rule left (after b child.at))
   tells-by true e = record {
@@ -291,8 +259,7 @@ module _ (rule : RuleKind) (left : ℕ) (b : Grid) (d : List Node) (child : Chil
   }
 
   pub child-new : IsNewChild rule Defend left b note.at note.left numbers
-  child-new = subst (λ (p : Point). IsNewChild rule Defend left b p note.left numbers) (sym settled.at)
-      (subst (λ (n : ℕ). IsNewChild rule Defend left b child.at n numbers) (sym settled.left_is) new-child)
+  child-new = search (rules, new-child)
 
   wins-by : (r : Bool) → is_open child.judged ≡ r → 0 < note.moves → IsNotedWin rule left (after b child.at) d (win_of note)
   wins-by true e some = absurd (let none = (settled.unproved e).1 in omega (arith, none, some))
@@ -308,18 +275,14 @@ module _ (rule : RuleKind) (left : ℕ) (b : Grid) (d : List Node) (child : Chil
 
   pub child-noted : IsNewNote rule Defend b d note numbers
   child-noted = record {
-    true_win = λ some.
-        subst (λ (n : ℕ). IsNotedWin rule n (after b note.at) d (win_of note)) (sym settled.left_is)
-        (subst (λ (p : Point). IsNotedWin rule left (after b p) d (win_of note)) (sym settled.at)
-        (wins-by (is_open child.judged) refl some));
+    true_win = λ some. rw settled.left_is (rw settled.at (wins-by (is_open child.judged) refl some));
     fresh = fresh-note (is_open child.judged) refl;
     proved = λ proved. (refl, proved-note (is_open child.judged) refl proved);
   }
 
   -- a child without a win is open
   unwritten-by : (r : Bool) → is_open child.judged ≡ r → unwritten_child Defend note ≡ one_where r
-  unwritten-by true e = ap one_where (eq-eqb note.moves 0 (settled.unproved e).1)
-  unwritten-by false e = ap one_where (ne_eqb note.moves 0 (λ none. let some = (settled.proved e).1 in omega (arith, none, some)))
+  unwritten-by r e = search (rules, one_where, eq-eqb, ne_eqb)
 
   pub child-unwritten : unwritten_child Defend note ≡ one_where (is_open child.judged)
   child-unwritten = unwritten-by (is_open child.judged) refl
@@ -328,18 +291,11 @@ module _ (rule : RuleKind) (left : ℕ) (b : Grid) (d : List Node) (child : Chil
   behind-by : (f : Kind → RuleKind → ℕ → Grid → ℕ) → ((n : ℕ) (c : Grid) → f Attack rule n c ≡ threat_tree rule n c - 1) → (r : Bool)
       → is_open child.judged ≡ r
       → new_behind f rule Defend b note numbers ≡ cond r (threat_tree rule left (after b child.at) - 1) 0
-  behind-by f trees true e =
-      ap (λ (n : Numbers). cond (not (is_settled n)) (f Attack rule note.left (after b note.at)) 0) (settled.unproved e).0
-      ∙ trees note.left (after b note.at)
-      ∙ ap (λ (n : ℕ). threat_tree rule n (after b note.at) - 1) settled.left_is
-      ∙ ap (λ (p : Point). threat_tree rule left (after b p) - 1) settled.at
-  behind-by f trees false e = ap (λ (n : Numbers). cond (not (is_settled n)) (f Attack rule note.left (after b note.at)) 0)
-      (settled.proved e).0
+  behind-by f trees r e = search rules
 
   -- a child that is not proved is open
   unproved-by : (r : Bool) → is_open child.judged ≡ r → unproved_child Defend numbers ≡ one_where r
-  unproved-by true e = ap (λ (n : Numbers). unproved_child Defend n) (settled.unproved e).0
-  unproved-by false e = ap (λ (n : Numbers). unproved_child Defend n) (settled.proved e).0
+  unproved-by r e = search (rules, unproved_child)
 
   pub child-unproved : unproved_child Defend numbers ≡ one_where (is_open child.judged)
   child-unproved = unproved-by (is_open child.judged) refl
@@ -348,20 +304,7 @@ module _ (rule : RuleKind) (left : ℕ) (b : Grid) (d : List Node) (child : Chil
   wins-left-by : (r : Bool) → is_open child.judged ≡ r
       → unwritten_win rule Defend b note + new_behind wins_behind rule Defend b note numbers
       ≤ cond r (threat_wins rule left (after b child.at)) 0
-  wins-left-by true e =
-      let own : ℕ = one_if (wins_by_threats rule note.left (after b note.at)) in
-      let one = ap (λ r. cond r own 0) (eq-eqb note.moves 0 (settled.unproved e).1) in
-      let behind = ap (λ (n : Numbers). new_behind wins_behind rule Defend b note n) (settled.unproved e).0 in
-      let all : threat_wins rule note.left (after b note.at) ≡ threat_wins rule left (after b child.at) =
-      ap (λ (n : ℕ). threat_wins rule n (after b note.at)) settled.left_is
-      ∙ ap (λ (p : Point). threat_wins rule left (after b p)) settled.at
-      in
-      omega (arith, one, behind, all, wins-own rule note.left (after b note.at))
-  wins-left-by false e =
-      let own : ℕ = one_if (wins_by_threats rule note.left (after b note.at)) in
-      let one = ap (λ r. cond r own 0) (ne_eqb note.moves 0 (λ none. let some = (settled.proved e).1 in omega (arith, none, some))) in
-      let behind = ap (λ (n : Numbers). new_behind wins_behind rule Defend b note n) (settled.proved e).0 in
-      omega (arith, one, behind)
+  wins-left-by r e = search (rules, eq-eqb, new_behind, wins-own, ne_eqb)
 
   pub child-wins : unwritten_win rule Defend b note + new_behind wins_behind rule Defend b note numbers
       ≤ cond (is_open child.judged) (threat_wins rule left (after b child.at)) 0
@@ -374,18 +317,14 @@ module _ (rule : RuleKind) (left : ℕ) (b : Grid) (d : List Node) (child : Chil
 -- no more than three are counted for a child that is not proved, with two more for it, and for one that is
 counted-open : (rule : RuleKind) (left : ℕ) (b : Grid) (child : Child) → IsChild rule left b child
     → counted_for child.judged + 2 * open_one child ≤ 3
-counted-open rule left b child is = by_judged child.judged (counted-three rule (after b child.at) child.judged is.judged) where
-  by_judged : (judged : Judged) → counted_for judged ≤ 3 → counted_for judged + 2 * one_where (is_open judged) ≤ 3
-  by_judged Open few = omega arith
-  by_judged _ few = omega (arith, few)
+counted-open rule left b child is = search (rules, counted-three, one_where)
 
 child-whole : (rule : RuleKind) (left : ℕ) (b : Grid) → IsPosition rule b → (child : Child) → IsChild rule left b child
     → counted_for child.judged + open_behind rule left b child ≤ if_goes_on (outcome rule b child.at)
     (threat_tree rule left (after b child.at))
 child-whole rule left b lawful child is =
     let few = counted-few rule left (after b child.at) child.judged (IsPosition-after rule b child.at lawful is.on) is.judged is.enough in
-    subst (λ (o : Outcome). counted_for child.judged + open_behind rule left b child ≤ if_goes_on o
-    (threat_tree rule left (after b child.at))) (sym is.on) (whole-by rule left (after b child.at) child.judged few)
+    rw is.on (whole-by rule left (after b child.at) child.judged few)
 
 -- ---- at a leaf of the defender
 
@@ -398,31 +337,25 @@ module _ {rule : RuleKind} {s : Search} {t : Tree} {c : List Node} {leaf : ℕ} 
   left-noted = get_or-map (λ (n : Note). n.left) s.notes.items leaf no_note 0 (leaf-noted stands)
 
   can-grow : CanGrow Defend rule (left_at (game_of rule s t).left leaf) (board_at (game_of rule s t) leaf)
-  can-grow = subst (λ (q : Kind). CanGrow q rule (left_at (game_of rule s t).left leaf) (board_at (game_of rule s t) leaf)) defend
-      (here.searching.game.open_leaf leaf here.in_tree here.childless here.leaf_open)
+  can-grow = search rules
 
   pub defend-no_five : has_five rule view (mover view) ≡ false
-  defend-no_five = subst (λ (b : Grid). has_five rule b (mover b) ≡ false) (sym here.view_is) can-grow.0
+  defend-no_five = rw here.view_is can-grow.0
 
   pub defend-moves : 1 ≤ (note_at s.notes.items leaf).left
-  defend-moves = subst (λ (n : ℕ). 1 ≤ n) left-noted can-grow.1
+  defend-moves = rw left-noted at can-grow.1
 
   pub defend-reply : has_reply rule view ≡ true
-  defend-reply = subst (λ (b : Grid). has_reply rule b ≡ true) (sym here.view_is) can-grow.2
+  defend-reply = rw here.view_is can-grow.2
 
   -- what is known of the kind, the moves and the board of the leaf
   at-leaf-is : (P : Kind → ℕ → Grid → Type 0) → P Defend (note_at s.notes.items leaf).left view
       → P (link_at t.links leaf).kind (left_at (game_of rule s t).left leaf) (board_at (game_of rule s t) leaf)
-  at-leaf-is P h =
-      subst (λ (k : Kind). P k (left_at (game_of rule s t).left leaf) (board_at (game_of rule s t) leaf)) (sym defend)
-      (subst (λ (n : ℕ). P Defend n (board_at (game_of rule s t) leaf)) (sym left-noted)
-      (subst (P Defend (note_at s.notes.items leaf).left) here.view_is h))
+  at-leaf-is P h = search (rules, left-noted)
 
   -- it is not the root
   no-root : leaf ≡ 0 → IsBare rule (left_at (game_of rule s t).left 0) s.root
-  no-root root = absurd (
-      let bad : Attack ≡ Defend = sym here.searching.tree.linked.root_attacks
-      ∙ ap (λ (k : ℕ). (link_at t.links k).kind) (sym root) ∙ defend in cc)
+  no-root root = search rules
 
   -- where a reply leaves no win the leaf is settled
   pub escape-grows : HasEscape rule (note_at s.notes.items leaf).left view → (note_at s.notes.items leaf).left ≤ 2 → (u : Tree)
@@ -457,8 +390,7 @@ module _ {rule : RuleKind} {s : Search} {t : Tree} {c : List Node} {leaf : ℕ} 
       let low = sum-one (length t.links) (behind_at attacks_behind g) leaf here.in_tree in
       let first : left_at g.left 0 ≡ s.depth = get_or-map (λ (n : Note). n.left) s.notes.items 0 no_note 0
       (let l = leaf-noted stands in omega (arith, l)) ∙ here.searching.depth in
-      let root_is : threat_tree rule (left_at g.left 0) s.root ≡ threat_tree rule s.depth s.root =
-      ap (λ (n : ℕ). threat_tree rule n s.root) first in
+      let root_is = ap (λ (n : ℕ). threat_tree rule n s.root) first in
       omega (arith, low, own-behind attacks_behind, root_is, here.searching.counted.attacks)
 
   -- and no more nodes are there than positions are won, with those behind the leaf
@@ -488,14 +420,10 @@ module _ {rule : RuleKind} {s : Search} {t : Tree} {c : List Node} {leaf : ℕ} 
         omega (arith, parts, are.count_is)
 
     pub children-many : length children.all.items ≤ children.count
-    children-many =
-        let many = sum-many (λ (x : Child). counted_for x.judged) (λ x. counted-one x.judged) children.all.items in
-        omega (arith, many, are.count_is)
+    children-many = search (rules, sum-many, counted-one)
 
     pub each-is : All (IsChild rule (note_at s.notes.items leaf).left view) children.all.items
-    each-is =
-        subst (λ (items : List Child). All (IsChild rule (note_at s.notes.items leaf).left view) items) (sym are.kept)
-        (kept-each (IsChild rule (note_at s.notes.items leaf).left view) are.judged are.are.each)
+    each-is = rw are.kept (kept-each (IsChild rule (note_at s.notes.items leaf).left view) are.judged are.are.each)
 
     -- no more than over all that is judged
     all-sum : (f : Child → ℕ) → sum_by f children.all.items ≤ sum_by f are.judged
@@ -576,8 +504,7 @@ module _ {rule : RuleKind} {s : Search} {t : Tree} {c : List Node} {leaf : ℕ} 
       few-new fits = let e = settled.numbers_count in let many = children-many in omega (arith, e, many, fits)
 
       points-are : map (λ (n : Note). n.at) ms ≡ map (λ (x : Child). x.at) (kept_children are.judged)
-      points-are = same-points ms children.all.items settled.notes_count (λ j low. (settled.each j low).at)
-          ∙ ap (map (λ (x : Child). x.at)) are.kept
+      points-are = search (rules, same-points)
 
       -- a reply without a node is met by the win of the first that has one
       reply-met : (q : Point) → outcome rule view q ≡ GoesOn → among (map (λ (n : Note). n.at) ms) q ≡ false
@@ -589,8 +516,7 @@ module _ {rule : RuleKind} {s : Search} {t : Tree} {c : List Node} {leaf : ℕ} 
           let won = (settled.each 0 are.some).stands is.met (ap (λ (x : Child). stands_for x.judged is.met.judged) first ∙ is.stands)
           is.is in (
             won.0,
-            subst (λ (p : Point). IsNotedWin rule (note_at s.notes.items leaf).left (after view p) d (win_of (note_at ms 0))) is.at
-                won.1,
+            rw is.at at won.1,
           )
 
       pub met-here : (link_at t.links leaf).kind ≡ Defend → (q : Point) → outcome rule (board_at (game_of rule s t) leaf) q ≡ GoesOn
@@ -694,8 +620,7 @@ module _ {rule : RuleKind} {s : Search} {t : Tree} {c : List Node} {leaf : ℕ} 
 
       settled-now : AreSettled rule (note_at s.notes.items leaf).left view (c ++ grown.added) children.all.items (length children.all.items)
           more ms
-      settled-now = subst (λ (x : List Node). AreSettled rule (note_at s.notes.items leaf).left view x children.all.items
-          (length children.all.items) more ms) grown.is settled
+      settled-now = rw grown.is at settled
 
       pub replies-grow : Grows rule s v t u d leaf
       replies-grow = known_grown (
@@ -705,12 +630,9 @@ module _ {rule : RuleKind} {s : Search} {t : Tree} {c : List Node} {leaf : ℕ} 
           let whole = counted-whole in
           let attacks = behind-new (c ++ grown.added) more ms settled-now attacks_behind (λ n b. refl) in
           let defences = behind-new (c ++ grown.added) more ms settled-now defences_behind (λ n b. refl) in
-          let attacks_left : attacks_behind (link_at t.links leaf).kind rule (left_at (game_of rule s t).left leaf)
-          (board_at (game_of rule s t) leaf) ≡ behind_replies rule (threat_tree rule left) view =
-          at-leaf-is (λ k n b. attacks_behind k rule n b ≡ behind_replies rule (threat_tree rule left) view) refl in
-          let defences_left : defences_behind (link_at t.links leaf).kind rule (left_at (game_of rule s t).left leaf)
-          (board_at (game_of rule s t) leaf) ≡ behind_replies rule (threat_tree rule left) view - 1 =
-          at-leaf-is (λ k n b. defences_behind k rule n b ≡ behind_replies rule (threat_tree rule left) view - 1) refl in
+          let attacks_left = at-leaf-is (λ k n b. attacks_behind k rule n b ≡ behind_replies rule (threat_tree rule left) view) refl in
+          let defences_left = at-leaf-is (λ k n b. defences_behind k rule n b ≡ behind_replies rule (threat_tree rule left) view - 1)
+          refl in
           let unwritten = unwritten-new (c ++ grown.added) more ms settled-now in
           let attackers = sum-ones (length more) (λ j. cond (is_attack (other_kind (link_at t.links leaf).kind)) 1 0)
           (λ j. ap (λ (k : Kind). cond (is_attack (other_kind k)) 1 0) defend) in
@@ -722,9 +644,7 @@ module _ {rule : RuleKind} {s : Search} {t : Tree} {c : List Node} {leaf : ℕ} 
           (λ j. new_behind wins_behind rule (link_at t.links leaf).kind (board_at (game_of rule s t) leaf) (note_at ms j)
           (numbers_at more j)) in
           let all_wins = wins-whole in
-          let wins_left : wins_behind (link_at t.links leaf).kind rule (left_at (game_of rule s t).left leaf)
-          (board_at (game_of rule s t) leaf) ≡ behind_replies rule (threat_wins rule left) view =
-          at-leaf-is (λ k n b. wins_behind k rule n b ≡ behind_replies rule (threat_wins rule left) view) refl in
+          let wins_left = at-leaf-is (λ k n b. wins_behind k rule n b ≡ behind_replies rule (threat_wins rule left) view) refl in
           let nodes = nodes-few in
           let added = grown.few in
           let many = children-many in
@@ -738,9 +658,9 @@ module _ {rule : RuleKind} {s : Search} {t : Tree} {c : List Node} {leaf : ℕ} 
             rest = rest ∙ ap (λ (w : Search). record s
                 { board = v.board; notes = v.notes; settled = w.settled; attacked = w.attacked; defended = w.defended }) (sym rest);
             same_board = same_board;
-            compiled = subst IsCompiled grown.is compiled;
+            compiled = rw grown.is at compiled;
             table = memo-grown rule (game_of rule s t) c grown.added v.settled (IsTable-lower c here.searching.compiled.table)
-                (subst (IsTrueMemo rule c (game_of rule s t)) (sym same_table) here.searching.remembered);
+                (rw same_table here.searching.remembered);
             items = items;
             many = settled.notes_count ∙ sym settled.numbers_count;
             some = some-new d more ms settled;
@@ -761,5 +681,4 @@ module _ {rule : RuleKind} {s : Search} {t : Tree} {c : List Node} {leaf : ℕ} 
             defences_counted = omega (arith, defended, defences, whole, many, some, defences_left);
             wins_counted = omega (arith, added, wins, both, all_wins, wins_left);
           } in
-          subst (λ (x : List Node). HasGrown rule s v t u x leaf) (sym grown.is)
-          (expanded-grown x))
+          rw grown.is (expanded-grown x))

@@ -1,27 +1,22 @@
 -- Denials: what is lost by some positions is lost by more, and where there is a denial there is no win by threats.
-use Rattle.std.proofs.Common.{◌≡◌, ◌∙◌, inl, inr, ℕ, zero, suc, ◌-◌, true, false, IsTrue, refl, sym, subst, arith, Contains}
-use Rattle.game_rules.specs.declared.RuleKind.{RuleKind}
-use Rattle.game_rules.specs.declared.Outcome.{Outcome}
-use Rattle.game_rules.specs.declared.Outcome.TheVariants.{Wins, GoesOn}
-use Rattle.game_rules.proofs.Common.{Grid, outcome, mover, after, has_five, has_threat, LosesOr, WinsOr, WinsByThreats}
+use Rattle.std.proofs.Common.{rules, ◌≡◌, ◌∙◌, inl, inr, ℕ, zero, suc, ◌-◌, true, false, IsTrue, refl, sym, subst, arith}
+use Rattle.std.proofs.Common.{Contains}
+use Rattle.proof_number.proofs.Common.{RuleKind, Outcome, GoesOn, Grid, outcome, mover, after, has_five, has_threat, WinsByThreats}
+use Rattle.proof_number.proofs.Common.{LosesToThreats, HasDenial, IsDenied, IsLost, IsRefuted}
+use Rattle.game_rules.specs.declared.Outcome.TheVariants.{Wins}
+use Rattle.game_rules.proofs.Common.{WinsOr}
 use Rattle.game_rules.proofs.Games.{one-winner, win-has_five}
-use Rattle.threat_game.proofs.Common.{LosesToThreats}
 use Rattle.threat_game.proofs.AttackLaws.{saving-saves, threat-by}
 use Rattle.proof_number.specs.declared.denials.TheConstants.{FOUR_MOVES}
-use Rattle.proof_number.specs.Denials.{HasDenial, IsDenied, IsLost, IsRefuted}
 
 -- ---- more positions
 
 module _ (rule : RuleKind) (some more : ℕ → Grid → Type 0) (all : (n : ℕ) (b : Grid) → some n b → more n b) where
   pub denied-more : (n : ℕ) (b : Grid) → IsDenied rule some n b → IsDenied rule more n b
-  denied-more n b (inl listed) = inl (all n b listed)
-  denied-more n b (inr few) = inr few
+  denied-more n b h = search rules
 
   pub refuted-more : (n : ℕ) (c : Grid) → IsRefuted rule some n c → IsRefuted rule more n c
-  refuted-more n c (inl saved) = inl saved
-  refuted-more n c (inr (inl fours)) = inr (inl fours)
-  refuted-more n c (inr (inr has)) =
-      inr (inr (record { reply = has.reply; on = has.on; denied = denied-more n (after c has.reply) has.denied }))
+  refuted-more n c h = search (rules, denied-more)
 
   pub lost-more : (n : ℕ) (b : Grid) → IsLost rule some n b → IsLost rule more n b
   lost-more n b lost = record {
@@ -38,7 +33,7 @@ refuted-loses rule listed n c later (inl saved) loses = saving-saves rule n c sa
 refuted-loses rule listed n c later (inr (inl fours)) loses =
     one-winner (has_five rule) (has_threat rule) rule FOUR_MOVES n c fours.wins loses
 refuted-loses rule listed n c later (inr (inr has)) loses = later (after c has.reply) has.denied
-    (subst (λ (o : Outcome). LosesOr o (WinsByThreats rule n (after c has.reply))) has.on (loses has.reply))
+    (rw has.on at (loses has.reply))
 
 lost-loses : (rule : RuleKind) (listed : ℕ → Grid → Type 0) (n : ℕ) (b : Grid)
     → ((d : Grid) → IsDenied rule listed n d → WinsByThreats rule n d → ⊥) → IsLost rule listed (suc n) b → WinsByThreats rule (suc n) b → ⊥

@@ -1,19 +1,15 @@
 -- In a tree that stands for a game each disproved node of the attacker is lost by disproved nodes. So they are a denial, where the root is
 -- one of them.
 use Rattle.std.proofs.Common.{◌≡◌, ◌∙◌, ◌⊎◌, inl, inr, ℕ, zero, suc, ◌-◌, ◌<◌, ◌≤◌, false, cond, refl}
-use Rattle.std.proofs.Common.{sym, ap, subst, arith, List, [], ◌∷◌, ◌++◌, length, map, Contains}
+use Rattle.std.proofs.Common.{sym, ap, subst, arith, List, [], ◌∷◌, ◌++◌, length, Contains, rules}
 use Rattle.std.proofs.lemmas.Bool.{cases_eq, cases_lt}
 use Rattle.std.proofs.lemmas.List.{length_push}
 use Rattle.std.proofs.lemmas.List.Elements.{Contains-append_left, Contains-push, Contains-push_cases}
-use Rattle.game_rules.proofs.Common.{Grid, after, WinsByThreats}
-use Rattle.proof_tree.specs.declared.Kind.{Kind}
-use Rattle.proof_tree.specs.declared.Kind.TheVariants.{Attack, Defend}
-use Rattle.proof_tree.specs.declared.Numbers.{Numbers}
-use Rattle.proof_tree.proofs.Common.{IsTree, children_of, combined, least, link_at, numbers_at, other_kind, settled_numbers, total}
+use Rattle.proof_number.proofs.Common.{Grid, after, Kind, Attack, Defend, Numbers, IsTree, children_of, combined}
+use Rattle.proof_number.proofs.Common.{link_at, numbers_at, other_kind, settled_numbers, move_at, HasDenial, IsDenied, IsLost}
+use Rattle.proof_number.proofs.Common.{IsRefuted, GameTree, HasTried, IsDisproved, IsGameTree, IsLostAt, attack_nodes, board_at}
+use Rattle.proof_number.proofs.Common.{is_attack, left_at, left_before, moves_of, sum_below}
 use Rattle.proof_tree.proofs.Settled.{settled-disproved}
-use Rattle.threat_game.proofs.Common.{move_at}
-use Rattle.proof_number.proofs.Common.{HasDenial, IsDenied, IsLost, IsRefuted, GameTree, HasTried, IsDisproved, IsGameTree, IsLostAt}
-use Rattle.proof_number.proofs.Common.{WinsAt, attack_nodes, board_at, is_attack, left_at, left_before, moves_of, sum_below}
 use Rattle.proof_number.proofs.DenialLaws.{denied-more, lost-more}
 use Rattle.proof_number.proofs.GameTruths.{all-tell, child-of, each-zero, fits, move-child, some-zero, tried-attack}
 use Rattle.proof_number.proofs.Sums.{sum-suc}
@@ -36,9 +32,7 @@ module _ {g : GameTree} (ok : IsTree g.tree) (game : IsGameTree g) where
     | inr few ↦ inr (
       few,
       λ win. (all-tell ok game j inside).disproved lost
-          (subst (λ (k : Kind). WinsAt k g.rule (left_at g.left j) (board_at g j)) (sym attack)
-          (subst (λ (m : ℕ). WinsByThreats g.rule m (board_at g j)) (sym left)
-          (subst (WinsByThreats g.rule n) (sym board) win))),
+          (rw attack (rw left (rw board win))),
     )
   ]
 
@@ -49,22 +43,17 @@ module _ {g : GameTree} (ok : IsTree g.tree) (game : IsGameTree g) where
   refuted-at i inside defend lost = by_count (cases_eq (link_at g.tree.links i).count 0) where
     by_count : ((link_at g.tree.links i).count ≡ 0) ⊎ ((link_at g.tree.links i).count ≡ 0 → ⊥)
         → IsRefuted g.rule (IsDisproved g) (left_at g.left i) (board_at g i)
-    by_count (inl none) =
-        subst (λ (k : Kind). IsLostAt k g (left_at g.left i) (board_at g i)) defend (game.lost i inside none lost)
+    by_count (inl none) = subst (λ (k : Kind). IsLostAt k g (left_at g.left i) (board_at g i)) defend (game.lost i inside none lost)
     by_count (inr more) =
         let some : 0 < (link_at g.tree.links i).count = omega (arith, more) in
-        let own : numbers_at g.tree.numbers i ≡ combined Defend (children_of (link_at g.tree.links i) g.tree.numbers) =
-        ok.numbered.combined_at i inside some
-        ∙ ap (λ (k : Kind). combined k (children_of (link_at g.tree.links i) g.tree.numbers)) defend in
-        let nothing : least (map (λ n. n.disproof) (children_of (link_at g.tree.links i) g.tree.numbers)) ≡ 0 =
-        ap (λ (n : Numbers). n.disproof) (sym own ∙ lost) in
+        let own = ok.numbered.combined_at i inside some ∙ ap
+        (λ (k : Kind). combined k (children_of (link_at g.tree.links i) g.tree.numbers)) defend in
+        let nothing = ap (λ (n : Numbers). n.disproof) (sym own ∙ lost) in
         let child = some-zero ok game i inside (λ n. n.disproof) nothing in
         let c = child-of ok game i child.0 inside child.1 in
         let attack : (link_at g.tree.links child.0).kind ≡ Attack = c.kind ∙ ap other_kind defend in
-        let same : left_at g.left child.0 ≡ left_at g.left i =
-        ap (λ (k : Kind). left_before k (left_at g.left child.0)) (sym attack) ∙ c.fewer in
-        let gone : numbers_at g.tree.numbers child.0 ≡ settled_numbers false =
-        settled-disproved (numbers_at g.tree.numbers child.0) (ok.numbered.each child.0 c.inside) child.2 in
+        let same = ap (λ (k : Kind). left_before k (left_at g.left child.0)) (sym attack) ∙ c.fewer in
+        let gone = settled-disproved (numbers_at g.tree.numbers child.0) (ok.numbered.each child.0 c.inside) child.2 in
         inr (inr (record {
           reply = move_at g.moves child.0;
           on = c.on;
@@ -78,15 +67,12 @@ module _ {g : GameTree} (ok : IsTree g.tree) (game : IsGameTree g) where
   lost-at i inside attack lost several = by_count (cases_eq (link_at g.tree.links i).count 0) where
     by_count : ((link_at g.tree.links i).count ≡ 0) ⊎ ((link_at g.tree.links i).count ≡ 0 → ⊥)
         → IsLost g.rule (IsDisproved g) (left_at g.left i) (board_at g i)
-    by_count (inl none) =
-        subst (λ (k : Kind). IsLostAt k g (left_at g.left i) (board_at g i)) attack (game.lost i inside none lost) several
+    by_count (inl none) = subst (λ (k : Kind). IsLostAt k g (left_at g.left i) (board_at g i)) attack (game.lost i inside none lost) several
     by_count (inr more) =
         let some : 0 < (link_at g.tree.links i).count = omega (arith, more) in
-        let own : numbers_at g.tree.numbers i ≡ combined Attack (children_of (link_at g.tree.links i) g.tree.numbers) =
-        ok.numbered.combined_at i inside some
-        ∙ ap (λ (k : Kind). combined k (children_of (link_at g.tree.links i) g.tree.numbers)) attack in
-        let nothing : total (map (λ n. n.disproof) (children_of (link_at g.tree.links i) g.tree.numbers)) ≡ 0 =
-        ap (λ (n : Numbers). n.disproof) (sym own ∙ lost) in
+        let own = ok.numbered.combined_at i inside some ∙ ap
+        (λ (k : Kind). combined k (children_of (link_at g.tree.links i) g.tree.numbers)) attack in
+        let nothing = ap (λ (n : Numbers). n.disproof) (sym own ∙ lost) in
         let tried = tried-attack g.rule (left_at g.left i) (board_at g i) (moves_of (link_at g.tree.links i) g.moves)
         (subst (λ (k : Kind). HasTried k g.rule (left_at g.left i) (board_at g i) (moves_of (link_at g.tree.links i) g.moves)) attack
         (game.inner i inside some)) in
@@ -97,8 +83,7 @@ module _ {g : GameTree} (ok : IsTree g.tree) (game : IsGameTree g) where
                 let child = move-child (link_at g.tree.links i) g.moves p (fits ok game i inside) listed in
                 let c = child-of ok game i child.0 inside child.1 in
                 let defend : (link_at g.tree.links child.0).kind ≡ Defend = c.kind ∙ ap other_kind attack in
-                let less : suc (left_at g.left child.0) ≡ left_at g.left i =
-                ap (λ (k : Kind). left_before k (left_at g.left child.0)) (sym defend) ∙ c.fewer in
+                let less = ap (λ (k : Kind). left_before k (left_at g.left child.0)) (sym defend) ∙ c.fewer in
                 let same : left_at g.left child.0 ≡ left_at g.left i - 1 = omega (arith, less) in
                 let there : board_at g child.0 ≡ after (board_at g i) p = c.board ∙ ap (after (board_at g i)) child.2 in
                 let gone : numbers_at g.tree.numbers child.0 ≡ settled_numbers false =
@@ -130,8 +115,7 @@ module _ (g : GameTree) (ok : IsTree g.tree) where
   by_kind : (i : ℕ) (k : Kind) → (link_at g.tree.links i).kind ≡ k → i < length g.tree.links
       → numbers_at g.tree.numbers i ≡ settled_numbers false → 3 ≤ left_at g.left i
       → IsListedNode g i ⊎ (IsListedNode g i → ⊥)
-  by_kind i Attack e inside lost several = inl (record { inside = inside; attack = e; disproved = lost; several = several })
-  by_kind i Defend e inside lost several = inr (λ is. let bad : Attack ≡ Defend = sym is.attack ∙ e in cc)
+  by_kind i k e inside lost several = search rules
 
   decided : (i : ℕ) → IsListedNode g i ⊎ (IsListedNode g i → ⊥)
   decided i = elim (cases_lt i (length g.tree.links)) [
@@ -192,14 +176,7 @@ module _ (g : GameTree) (ok : IsTree g.tree) where
   )
 
   listed-below : (m : ℕ) → (listed : List (ℕ × Grid)) × AreListed g m listed
-  listed-below zero = (
-    [],
-    record {
-      true_of = λ n b has. absurd (omega (arith, has.1));
-      all = λ i low node. absurd (omega (arith, low));
-      few = omega arith;
-    },
-  )
+  listed-below zero = search rules
   listed-below (suc m) = let before = listed-below m in one-more m before.0 before.1 (decided m)
 
 -- where the root is disproved there is a denial, with no more positions than the tree has nodes of the attacker

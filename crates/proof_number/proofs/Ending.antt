@@ -1,31 +1,22 @@
 -- The end of the search: what the note and the numbers of the root tell.
-use Rattle.std.proofs.Common.{◌≡◌, ◌⊎◌, ◌∙◌, inl, inr, ℕ, zero, suc, ◌*◌, ◌<◌, ◌≤◌, Bool, true, false}
-use Rattle.std.proofs.Common.{cond, sym, ap, subst, arith, List, length, get_or, min, Some, None, Result, Ok, Err, IfOk, OnOk, refl, []}
+use Rattle.std.proofs.Common.{rules, ◌≡◌, ◌⊎◌, ◌∙◌, inl, inr, ℕ, zero, suc, ◌*◌, ◌<◌, ◌≤◌, Bool, true}
+use Rattle.std.proofs.Common.{false, cond, sym, ap, subst, arith, List, length, get_or, min, Some, None, Result, Ok, Err, IfOk, OnOk, []}
 use Rattle.std.proofs.lemmas.List.{get_or_default, length-map}
-use Rattle.game_rules.proofs.Common.{Grid, WinsByThreats, WinsWithin}
-use Rattle.game_rules.specs.declared.RuleKind.{RuleKind}
+use Rattle.proof_number.proofs.Common.{Grid, WinsByThreats, RuleKind, Node, SearchError, Writes, WrittenWin, is_settled, settled_numbers}
+use Rattle.proof_number.proofs.Common.{IsTree, Tree, numbers_at, link_at, Note, Search, Leaves, OnWin, IsTold, IsTrueAnswer, CanBegin}
+use Rattle.proof_number.proofs.Common.{IsNew, IsSameAim, most_nodes, room_in, HasDenial, HasNoThreatWin, HasRunOut, IsSearchTree, no_note}
+use Rattle.proof_number.proofs.Common.{note_at, noted_win, GameTree, TellsTruly, board_at, left_at, IsNotedWin, IsSearching}
+use Rattle.proof_number.proofs.Common.{Searches, closed_nodes, game_of, is_open_leaf, sum_below, HasDisproved, IsBare, threat_wins}
+use Rattle.proof_number.proofs.Common.{IsThreatWin, threat_tree, tried_moves}
 use Rattle.game_rules.proofs.Games.{WinsByFours-WinsByThreats}
-use Rattle.strategy_graph.specs.declared.Node.{Node}
-use Rattle.strategy_compiler.specs.declared.error.SearchError.{SearchError}
-use Rattle.strategy_compiler.proofs.Common.{Writes}
 use Rattle.strategy_graph.proofs.Soundness.{accepted-wins}
-use Rattle.strategy_compiler.specs.declared.wins.WrittenWin.{WrittenWin}
-use Rattle.proof_tree.proofs.Common.{is_settled, settled_numbers, IsTree, Tree, numbers_at, link_at}
-use Rattle.proof_tree.specs.declared.Kind.{Kind}
 use Rattle.proof_tree.proofs.Settled.{settled-one}
-use Rattle.proof_number.specs.declared.notes.Note.{Note}
-use Rattle.proof_number.specs.declared.search.Search.{Search}
 use Rattle.proof_number.specs.declared.answer.ProofAnswer.{ProofAnswer}
 use Rattle.proof_number.specs.declared.answer.ProofAnswer.TheVariants.{Win, None as NoWin, Spent}
 use Rattle.proof_number.specs.declared.TheConstants.{MAX_BUDGET, MAX_DEPTH}
-use Rattle.proof_number.proofs.Common.{Leaves, OnWin, IsTold, IsTrueAnswer, CanBegin, IsNew, IsSameAim, most_nodes, room_in, HasDenial}
-use Rattle.proof_number.proofs.Common.{HasNoThreatWin, HasRunOut, IsSearchTree, no_note, note_at, noted_win, win_of, GameTree}
-use Rattle.proof_number.proofs.Common.{TellsTruly, WinsAt, board_at, left_at, IsNotedWin, IsSearching, Searches, closed_nodes, game_of}
-use Rattle.proof_number.proofs.Common.{is_open_leaf, sum_below, HasDisproved, IsBare, threat_wins}
 use Rattle.proof_number.proofs.Opening.{searching-facts}
 use Rattle.proof_number.proofs.Steps.{most-same}
 use Rattle.proof_number.proofs.StepLaws.{writes-on}
-use Rattle.threat_game.proofs.Common.{IsThreatWin, threat_tree, tried_moves}
 use Rattle.proof_number.proofs.DenialLaws.{denial-loses}
 use Rattle.proof_number.proofs.Disproved.{tree-denial}
 use Rattle.proof_number.proofs.GameTruths.{board-root, left-root, all-tell}
@@ -37,12 +28,7 @@ use Rattle.std.proofs.lemmas.Bool.{cases_eq}
 -- no more than all are counted
 sum-ones : (n : ℕ) (f : ℕ → Bool) → sum_below n (λ i. cond (f i) 0 1) ≤ n
 sum-ones zero f = let a = sum-zero (λ i. cond (f i) 0 1) in omega (arith, a)
-sum-ones (suc n) f =
-    let a = sum-suc n (λ i. cond (f i) 0 1) in
-    omega (arith, a, sum-ones n f, one-least (f n)) where
-      one-least : (r : Bool) → cond r 0 1 ≤ 1
-      one-least true = omega arith
-      one-least false = omega arith
+sum-ones (suc n) f = search (rules, sum-suc, sum-ones n f)
 
 module _ {rule : RuleKind} {s : Search} {t : Tree} {c : List Node} (searches : Searches rule s t c (λ i. ⊥)) where
   h : IsSearching rule s t c (λ i. ⊥)
@@ -67,79 +53,42 @@ module _ {rule : RuleKind} {s : Search} {t : Tree} {c : List Node} (searches : S
       )
 
   pub root-noted : 0 < length s.notes.items
-  root-noted = let a = root-inside in let b = length-map s.notes.items (λ (n : Note). n.at) in let e =
-      h.game.moves in omega (arith, a, b, e)
+  root-noted = search (rules, root-inside, length-map)
 
   root-left : left_at Game.left 0 ≡ s.depth
   root-left = left-root s.notes.items s.depth root-noted h.depth
 
-  -- the tree has no more nodes than positions of both sides are counted
-  tree-few : length t.links ≤ 2 * min s.budget (threat_tree rule s.depth s.root)
-  tree-few =
-      let first : threat_tree rule (left_at Game.left 0) s.root ≡ threat_tree rule s.depth s.root =
-      ap (λ (n : ℕ). threat_tree rule n s.root) root-left in
-      omega (
-        arith,
-        h.counted.attackers,
-        h.counted.defenders,
-        h.counted.attacked_fits,
-        h.counted.defended_fits,
-        h.counted.attacks,
-        h.counted.defences,
-        first,
-      )
-
   pub told-tree : (n budget : ℕ) (b : Grid) → s.depth ≡ n → s.budget ≡ budget → s.root ≡ b
       → length t.links ≤ 2 * min budget (threat_tree rule n b)
-  told-tree n budget b deep for_budget from =
-      let same : threat_tree rule s.depth s.root ≡ threat_tree rule n b =
-      ap (λ (m : ℕ). threat_tree rule m s.root) deep ∙ ap (threat_tree rule n) from in
-      omega (arith, tree-few, same, for_budget)
+  told-tree n budget b deep for_budget from = search (rules, root-left)
 
   root-board : board_at Game 0 ≡ s.root
   root-board = board-root Game.tree.links Game.moves Game.start h.tree.linked
 
   root-tells : TellsTruly (numbers_at t.numbers 0) (WinsByThreats rule s.depth s.root)
-  root-tells =
-      subst (λ (b : Grid). TellsTruly (numbers_at t.numbers 0) (WinsByThreats rule s.depth b)) root-board
-      (subst (λ (n : ℕ). TellsTruly (numbers_at t.numbers 0) (WinsByThreats rule n (board_at Game 0))) root-left
-      (subst (λ (k : Kind). TellsTruly (numbers_at t.numbers 0) (WinsAt k rule (left_at Game.left 0) (board_at Game 0)))
-      h.tree.linked.root_attacks
-      (all-tell h.tree h.game 0 root-inside)))
+  root-tells = rw (← root-board) (rw (← root-left) (rw h.tree.linked.root_attacks at (all-tell h.tree h.game 0 root-inside)))
 
   -- where a win is noted
   module _ (w : WrittenWin) (e : noted_win (note_at s.notes.items 0) ≡ Some w) where
     noted-there : IsNotedWin rule s.depth s.root c w
     noted-there =
         let noted = noted-some (note_at s.notes.items 0) w e in
-        subst (IsNotedWin rule s.depth s.root c) noted.1
-        (subst (λ (b : Grid). IsNotedWin rule s.depth b c (win_of (note_at s.notes.items 0))) root-board
-        (subst (λ (n : ℕ). IsNotedWin rule n (board_at Game 0) c (win_of (note_at s.notes.items 0))) root-left
-        (h.written.true_wins 0 root-inside noted.0)))
+        rw (← noted.1) (rw (← root-board) (rw root-left at (h.written.true_wins 0 root-inside noted.0)))
 
     pub root-win : IsThreatWin rule s.depth s.root c w
     root-win = record {
       written = noted-there.0;
       by_threats = noted-there.1;
-      within = subst (λ (k : ℕ). WinsWithin rule k s.root) noted-there.0.deep (accepted-wins rule c w.node s.root noted-there.0.accepted);
+      within = rw noted-there.0.deep at (accepted-wins rule c w.node s.root noted-there.0.accepted);
     }
 
     pub root-proved : is_settled (numbers_at t.numbers 0) ≡ true → numbers_at t.numbers 0 ≡ settled_numbers true
-    root-proved settled = elim (settled-one (numbers_at t.numbers 0) settled) [
-      | inl proved ↦ proved
-      | inr lost ↦ absurd (root-tells.disproved lost noted-there.1)
-    ]
+    root-proved settled = search (rules, settled-one, root-tells, noted-there)
 
   -- where none is
   module _ (e : noted_win (note_at s.notes.items 0) ≡ None) (settled : is_settled (numbers_at t.numbers 0) ≡ true) where
     pub root-lost : numbers_at t.numbers 0 ≡ settled_numbers false
-    root-lost = elim (settled-one (numbers_at t.numbers 0) settled) [
-      | inl proved ↦
-          let some = h.written.all 0 root-inside h.tree.linked.root_attacks proved (λ bad. bad) in
-          let none = noted-none (note_at s.notes.items 0) e in
-          absurd (omega (arith, some, none))
-      | inr lost ↦ lost
-    ]
+    root-lost = search (rules, settled-one, root-inside, noted-none)
 
     -- its children are listed, if there is more than one move and some is to be tried
     pub root-disproved : 1 ≤ s.depth → HasDisproved rule s.depth s.budget s.root t
@@ -160,18 +109,9 @@ module _ {rule : RuleKind} {s : Search} {t : Tree} {c : List Node} (searches : S
     -- there is a denial of no more positions than were counted, and so no win
     pub root-denial : HasDenial rule s.depth s.root (min s.budget (threat_tree rule s.depth s.root))
     root-denial =
-        let first : threat_tree rule (left_at Game.left 0) s.root ≡ threat_tree rule s.depth s.root =
-        ap (λ (n : ℕ). threat_tree rule n s.root) root-left in
+        let first = ap (λ (n : ℕ). threat_tree rule n s.root) root-left in
         tree-denial Game h.tree h.game s.depth s.root root-left root-board root-lost (min s.budget (threat_tree rule s.depth s.root))
         (omega (arith, h.counted.attackers, h.counted.attacked_fits, h.counted.attacks, first))
-
-    pub root-none : HasNoThreatWin rule s.depth s.root
-    root-none =
-        let most : ℕ = min s.budget (threat_tree rule s.depth s.root) in
-        record {
-          no_threats = denial-loses rule s.depth s.root most root-denial;
-          no_fours = λ wins. denial-loses rule s.depth s.root most root-denial (WinsByFours-WinsByThreats rule s.depth s.root wins);
-        }
 
   -- the same of the note as it was read, and of the depth and the board that the search was begun for
   module _ (n : ℕ) (b : Grid) (deep : s.depth ≡ n) (from : s.root ≡ b) (note : Note) (read : note ≡ get_or s.notes.items 0 note) where
@@ -179,34 +119,23 @@ module _ {rule : RuleKind} {s : Search} {t : Tree} {c : List Node} (searches : S
     root-note = get_or_default s.notes.items 0 no_note note root-noted ∙ sym read
 
     pub told-win : (w : WrittenWin) → Some w ≡ noted_win note → IsThreatWin rule n b c w
-    told-win w e =
-        subst (λ (d : Grid). IsThreatWin rule n d c w) from
-        (subst (λ (m : ℕ). IsThreatWin rule m s.root c w) deep (root-win w (ap noted_win root-note ∙ sym e)))
+    told-win w e = rw (← from) (rw deep at (root-win w (ap noted_win root-note ∙ sym e)))
 
     pub told-proved : (w : WrittenWin) → Some w ≡ noted_win note → is_settled (numbers_at t.numbers 0) ≡ true
         → numbers_at t.numbers 0 ≡ settled_numbers true
     told-proved w e = root-proved w (ap noted_win root-note ∙ sym e)
 
     pub told-none : None ≡ noted_win note → is_settled (numbers_at t.numbers 0) ≡ true → HasNoThreatWin rule n b
-    told-none e settled =
-        subst (HasNoThreatWin rule n) from
-        (subst (λ (m : ℕ). HasNoThreatWin rule m s.root) deep (root-none (ap noted_win root-note ∙ sym e) settled))
+    told-none e settled = search (rules, denial-loses, root-denial, WinsByFours-WinsByThreats, root-note)
 
     pub told-denial : (budget : ℕ) → s.budget ≡ budget → None ≡ noted_win note → is_settled (numbers_at t.numbers 0) ≡ true
         → HasDenial rule n b (min budget (threat_tree rule n b))
-    told-denial budget for_budget e settled =
-        subst (λ (k : ℕ). HasDenial rule n b (min k (threat_tree rule n b))) for_budget
-        (subst (λ (d : Grid). HasDenial rule n d (min s.budget (threat_tree rule n d))) from
-        (subst (λ (m : ℕ). HasDenial rule m s.root (min s.budget (threat_tree rule m s.root))) deep
-        (root-denial (ap noted_win root-note ∙ sym e) settled)))
+    told-denial budget for_budget e settled = search (rules, root-denial, root-note)
 
     pub told-disproved : (budget : ℕ) → s.budget ≡ budget → 1 ≤ n → None ≡ noted_win note → is_settled (numbers_at t.numbers 0) ≡ true
         → HasDisproved rule n budget b t
     told-disproved budget for_budget some e settled =
-        subst (λ (k : ℕ). HasDisproved rule n k b t) for_budget
-        (subst (λ (d : Grid). HasDisproved rule n s.budget d t) from
-        (subst (λ (m : ℕ). HasDisproved rule m s.budget s.root t) deep
-        (root-disproved (ap noted_win root-note ∙ sym e) settled (omega (arith, deep, some)))))
+        rw (← for_budget) (rw (← from) (rw deep at (root-disproved (ap noted_win root-note ∙ sym e) settled (omega (arith, deep, some)))))
 
     pub told-lost : None ≡ noted_win note → is_settled (numbers_at t.numbers 0) ≡ true → numbers_at t.numbers 0 ≡ settled_numbers false
     told-lost e = root-lost (ap noted_win root-note ∙ sym e)
@@ -221,10 +150,7 @@ room-new rule s c before = omega (arith, before)
 
 pub begun-room : (rule : RuleKind) {s : Search} {t : Tree} {c : List Node} {b : Grid} → CanBegin s t c b
     → min 1 (threat_wins rule s.depth s.root) ≤ room_in (most_nodes rule s) c
-begun-room rule {s = s} {c = c} can =
-    let more = can.some_budget in
-    let room = room-new rule s c can.new.before_is in
-    omega (arith, more, room)
+begun-room rule {s = s} {c = c} can = search (rules, room-new)
 
 pub leaves-told : {A : Type 0} (rule : RuleKind) (s : Search) {t u : Tree} {c d : List Node} {r : Result A SearchError}
     → s.before ≡ length c → IsTree u → length t.links ≤ length u.links
@@ -234,7 +160,7 @@ leaves-told rule s {c = c} {d = d} {r = r} before tree longer few writes = recor
   tree = tree;
   longer = longer;
   tree_few = few;
-  writes = subst (λ (k : ℕ). Writes c d k r) (room-new rule s c before) writes;
+  writes = rw (room-new rule s c before) at writes;
 }
 
 -- a step and those before it
@@ -248,54 +174,18 @@ steps-write rule aim first second = let same = most-same rule aim in writes-on f
 pub can-begin : {depth budget before : ℕ} {a b : Grid} {s : Search} {t : Tree} {c : List Node} → IsNew depth budget before a s
     → 1 ≤ depth → depth ≤ MAX_DEPTH → 1 ≤ budget → budget ≤ MAX_BUDGET → length t.links ≡ 1 → is_settled (numbers_at t.numbers 0) ≡ false
     → before ≡ length c → a ≡ b → CanBegin s t c b
-can-begin new some_depth depth_fits some_budget budget_fits one unsettled before board =
-    let depth_is = new.depth_is in
-    let budget_is = new.budget_is in
-    record {
-      new = record {
-        depth_is = refl;
-        budget_is = refl;
-        before_is = new.before_is ∙ before;
-        root_is = new.root_is ∙ board;
-        board_is = new.board_is ∙ board;
-        one = new.one;
-        left = new.left ∙ sym new.depth_is;
-        unwon = new.unwon;
-        none = new.none;
-        attacked_is = new.attacked_is;
-        defended_is = new.defended_is;
-      };
-      some_depth = omega (arith, depth_is, some_depth);
-      depth_fits = omega (arith, depth_is, depth_fits);
-      some_budget = omega (arith, budget_is, some_budget);
-      budget_fits = omega (arith, budget_is, budget_fits);
-      one_node = one;
-      unsettled = unsettled;
-    }
+can-begin new some_depth depth_fits some_budget budget_fits one unsettled before board = search rules
 
 module _ {rule : RuleKind} {depth budget before : ℕ} {a b : Grid} {s : Search} {t u : Tree} {c d : List Node}
     {r : Result ProofAnswer SearchError} (new : IsNew depth budget before a s) (board : a ≡ b) (told : IsTold rule s t u c d r) where
   told-true : IfOk r (IsTrueAnswer rule depth budget b d u)
-  told-true =
-      subst (λ (n : ℕ). IfOk r (IsTrueAnswer rule n budget b d u)) new.depth_is
-      (subst (λ (k : ℕ). IfOk r (IsTrueAnswer rule s.depth k b d u)) new.budget_is
-      (subst (λ (g : Grid). IfOk r (IsTrueAnswer rule s.depth s.budget g d u)) (new.root_is ∙ board) told.true_answer))
+  told-true = rw (← new.depth_is) (rw (← new.budget_is) (rw (new.root_is ∙ board) at told.true_answer))
 
   pub told-leaves : Leaves (min budget (threat_tree rule depth b)) (min budget (threat_wins rule depth b)) t u c d r
-  told-leaves =
-      subst (λ (n : ℕ). Leaves (min budget (threat_tree rule n b)) (min budget (threat_wins rule n b)) t u c d r) new.depth_is
-      (subst (λ (k : ℕ). Leaves (min k (threat_tree rule s.depth b)) (min k (threat_wins rule s.depth b)) t u c d r) new.budget_is
-      (subst (λ (g : Grid). Leaves (min s.budget (threat_tree rule s.depth g)) (min s.budget (threat_wins rule s.depth g)) t u c d r)
-      (new.root_is ∙ board) told.leaves))
+  told-leaves = rw (← new.depth_is) (rw (← new.budget_is) (rw (new.root_is ∙ board) at told.leaves))
 
   pub tells-win : IfOk r (λ x. OnWin x (IsThreatWin rule depth b d))
-  tells-win = by_answer r told-true where
-    by_answer : (q : Result ProofAnswer SearchError) → IfOk q (IsTrueAnswer rule depth budget b d u)
-        → IfOk q (λ x. OnWin x (IsThreatWin rule depth b d))
-    by_answer (Err e) h = tt
-    by_answer (Ok (Win w)) h = h
-    by_answer (Ok NoWin) h = tt
-    by_answer (Ok Spent) h = tt
+  tells-win = search (rules, told-true)
 
   pub tells-none : IfOk r (λ x. x ≡ NoWin → HasNoThreatWin rule depth b)
   tells-none = by_answer r told-true where
@@ -325,13 +215,7 @@ module _ {rule : RuleKind} {depth budget before : ℕ} {a b : Grid} {s : Search}
     by_answer (Ok Spent) h = λ is. cc
 
   pub tells-spent : IfOk r (λ x. x ≡ Spent → budget < threat_tree rule depth b)
-  tells-spent = by_answer r told-true where
-    by_answer : (q : Result ProofAnswer SearchError) → IfOk q (IsTrueAnswer rule depth budget b d u)
-        → IfOk q (λ x. x ≡ Spent → budget < threat_tree rule depth b)
-    by_answer (Err e) h = tt
-    by_answer (Ok (Win w)) h = λ is. cc
-    by_answer (Ok NoWin) h = λ is. cc
-    by_answer (Ok Spent) h = λ is. h.0
+  tells-spent = search (rules, told-true)
 
   pub tells-out : IfOk r (λ x. x ≡ Spent → HasRunOut rule depth budget b u)
   tells-out = by_answer r told-true where
@@ -343,7 +227,4 @@ module _ {rule : RuleKind} {depth budget before : ℕ} {a b : Grid} {s : Search}
     by_answer (Ok Spent) h = λ is. h.1
 
   pub told-searched : OnOk r (IsSearchTree rule depth budget b u)
-  told-searched =
-      subst (λ (n : ℕ). OnOk r (IsSearchTree rule n budget b u)) new.depth_is
-      (subst (λ (k : ℕ). OnOk r (IsSearchTree rule s.depth k b u)) new.budget_is
-      (subst (λ (g : Grid). OnOk r (IsSearchTree rule s.depth s.budget g u)) (new.root_is ∙ board) told.searched))
+  told-searched = search rules

@@ -1,34 +1,23 @@
 -- What is noted, written and counted where a leaf is given children: all holds again but on the way up from it; and bounds of a step that
 -- gives the leaf children of which nothing is known, or that are proved.
 use Rattle.std.proofs.Common.{◌≡◌, ◌≢◌, ◌⊎◌, inl, inr, ℕ, ◌+◌, ◌<◌, ◌≤◌, true, false, cond, not, ◌&&◌}
-use Rattle.std.proofs.Common.{refl, sym, ap, subst, ◌∙◌, arith, List, ◌++◌, length, nat_eq, map, zero, suc, All, ◌*◌}
+use Rattle.std.proofs.Common.{refl, sym, ap, subst, ◌∙◌, arith, List, ◌++◌, length, nat_eq, map, zero, suc, All, ◌*◌, rules}
 use Rattle.std.proofs.lemmas.Bool.{cases_eq, cases_lt, eq-eqb}
 use Rattle.std.proofs.lemmas.List.{get_or-append-add, get_or_append_left, length-append, get_or-map, length-map, map-append}
-use Rattle.game_rules.specs.declared.Outcome.TheVariants.{GoesOn}
-use Rattle.game_rules.specs.declared.RuleKind.{RuleKind}
-use Rattle.game_rules.specs.declared.Point.{Point}
-use Rattle.game_rules.proofs.Common.{Grid, outcome, after}
-use Rattle.proof_tree.specs.declared.Kind.{Kind}
-use Rattle.proof_tree.specs.declared.Link.{Link}
-use Rattle.proof_tree.specs.declared.Numbers.{Numbers}
-use Rattle.proof_tree.specs.declared.Kind.TheVariants.{Attack, Defend}
+use Rattle.proof_number.proofs.Common.{GoesOn, RuleKind, Point, Grid, outcome, after, Kind, Link, Numbers, Attack, Defend, is_settled}
+use Rattle.proof_number.proofs.Common.{other_kind, Tree, link_at, numbers_at, settled_numbers, IsOnWayUp, leaf_sum, Node, IsCompiled}
+use Rattle.proof_number.proofs.Common.{move_at, nowhere, threat_tree, one_if, Note, Search, GameTree, HasTried, among, board_at}
+use Rattle.proof_number.proofs.Common.{left_at, moves_of, behind_at, sum_below, no_note, note_at, win_of, noted_tree, IsTrueMemo}
+use Rattle.proof_number.proofs.Common.{AreWritten, HasGrown, IsAtLeaf, IsCounted, IsExpandedAt, IsMet, IsNotedWin, IsSearching}
+use Rattle.proof_number.proofs.Common.{attacks_behind, defences_behind, game_of, is_attack, unwritten, StandsAt, attack_nodes}
+use Rattle.proof_number.proofs.Common.{unproved, wins_behind, won_at, wins_by_threats}
 use Rattle.proof_tree.specs.declared.TheConstants.{INFINITE}
-use Rattle.proof_tree.proofs.Common.{is_settled, other_kind, Tree, link_at, numbers_at, finite, finite_sum, settled_numbers, sought}
-use Rattle.proof_tree.proofs.Common.{IsOnWayUp, grown_links, leaf_sum}
+use Rattle.proof_tree.proofs.Common.{finite, finite_sum, sought, grown_links}
 use Rattle.proof_tree.proofs.Changed.{IsGrown, grown}
 use Rattle.proof_tree.proofs.SumLaws.{leaf_sum-grown, one-leaf, IsFresh, fresh-sum}
-use Rattle.strategy_graph.specs.declared.Node.{Node}
 use Rattle.strategy_graph.proofs.Filling.{IsTable-lower}
-use Rattle.strategy_compiler.proofs.Common.{IsCompiled}
-use Rattle.threat_game.proofs.Common.{move_at, nowhere, threat_tree, one_if}
 use Rattle.threat_game.proofs.TreeLaws.{one_where}
-use Rattle.proof_number.specs.declared.notes.Note.{Note}
-use Rattle.proof_number.specs.declared.search.Search.{Search}
 use Rattle.proof_number.proofs.Opening.{leaf-facts}
-use Rattle.proof_number.proofs.Common.{GameTree, HasTried, IsGameTree, among, board_at, left_at, moves_of, behind_at, sum_below, no_note}
-use Rattle.proof_number.proofs.Common.{note_at, win_of, noted_tree, IsTrueMemo, AreWritten, HasGrown, IsAtLeaf, IsCounted, IsExpandedAt}
-use Rattle.proof_number.proofs.Common.{IsMet, IsNotedWin, IsSearching, attacks_behind, defences_behind, game_of, is_attack, unwritten}
-use Rattle.proof_number.proofs.Common.{StandsAt, attack_nodes, behind_leaves, threat_wins, unproved, wins_behind, won_at}
 use Rattle.proof_number.proofs.Remembering.{memo-kept}
 use Rattle.proof_number.proofs.Settling.{written-grown, unproved-less}
 use Rattle.proof_number.proofs.Sums.{sum-le, sum-more, sum-suc, sum-zero, sum-same}
@@ -36,7 +25,6 @@ use Rattle.proof_number.proofs.Expanding.{IsExpansion, IsNewChild, behind-grown,
 use Rattle.proof_number.proofs.Expanding.{game-grown, grown-moves, new-board, new-kind, new-left, old-board, old-kind, old-left}
 use Rattle.proof_number.proofs.Expanding.{old-moves_of, old-numbers, split, old-parent}
 use Rattle.proof_number.proofs.Staying.{expanded-proved}
-use Rattle.game_rules.specs.Games.{wins_by_threats}
 
 -- what is noted of a new child of this kind: a win that is written, where it is proved, and none where it is open
 pub record IsNewNote (rule : RuleKind) (kind : Kind) (b : Grid) (c : List Node) (note : Note) (numbers : Numbers) : Type 0 where
@@ -141,7 +129,7 @@ module _ {rule : RuleKind} {s v : Search} {t u : Tree} {c nodes : List Node} {le
   }
 
   pub long : IsGrown t.links leaf (length more) u.links
-  long = subst (IsGrown t.links leaf (length more)) (sym e.links) (grown t.links leaf (length more) h.in_tree)
+  long = rw e.links (grown t.links leaf (length more) h.in_tree)
 
   pub points : length (map (λ (n : Note). n.at) ms) ≡ length more
   points = length-map ms (λ (n : Note). n.at) ∙ many
@@ -158,11 +146,7 @@ module _ {rule : RuleKind} {s v : Search} {t u : Tree} {c nodes : List Node} {le
   pub each-child : (j : ℕ) → j < length more → IsNewChild rule (link_at t.links leaf).kind
       (left_at (map (λ (n : Note). n.left) s.notes.items) leaf) (board_at (game_of rule s t) leaf) (move_at (map (λ (n : Note). n.at) ms) j)
       (left_at (map (λ (n : Note). n.left) ms) j) (numbers_at more j)
-  each-child j l =
-      subst (λ (p : Point). IsNewChild rule (link_at t.links leaf).kind (left_at (game_of rule s t).left leaf)
-      (board_at (game_of rule s t) leaf) p (left_at (map (λ (n : Note). n.left) ms) j) (numbers_at more j)) (sym (at-move j l))
-      (subst (λ (n : ℕ). IsNewChild rule (link_at t.links leaf).kind (left_at (game_of rule s t).left leaf)
-      (board_at (game_of rule s t) leaf) (note_at ms j).at n (numbers_at more j)) (sym (at-left j l)) (each j l))
+  each-child j l = rw (at-move j l) (rw (at-left j l) (each j l))
 
   expansion : IsExpansion (game_of rule s t) leaf u.links u.numbers more (map (λ (n : Note). n.at) ms) (map (λ (n : Note). n.left) ms)
   expansion = record {
@@ -200,23 +184,16 @@ module _ {rule : RuleKind} {s v : Search} {t u : Tree} {c nodes : List Node} {le
         moves = map (λ (n : Note). n.at) s.notes.items ++ map (λ (n : Note). n.at) ms;
         left = map (λ (n : Note). n.left) s.notes.items ++ map (λ (n : Note). n.left) ms;
       }
-  places w =
-      let moves : map (λ (n : Note). n.at) v.notes.items ≡ map (λ (n : Note). n.at) s.notes.items ++ map (λ (n : Note). n.at) ms =
-      ap (map (λ (n : Note). n.at)) items ∙ map-append (λ (n : Note). n.at) s.notes.items ms in
-      let left : map (λ (n : Note). n.left) v.notes.items ≡ map (λ (n : Note). n.left) s.notes.items ++ map (λ (n : Note). n.left) ms =
-      ap (map (λ (n : Note). n.left)) items ∙ map-append (λ (n : Note). n.left) s.notes.items ms in
-      λ i. record { rule = rule; start = s.root; tree = w; moves = moves i; left = left i }
+  places w = search (rules, map-append)
 
   notes-long : length s.notes.items ≡ length t.links
   notes-long = sym (length-map s.notes.items (λ (n : Note). n.at)) ∙ h.searching.game.moves
 
   old-note : (i : ℕ) → i < length t.links → note_at v.notes.items i ≡ note_at s.notes.items i
-  old-note i l = ap (λ (xs : List Note). note_at xs i) items
-      ∙ get_or_append_left s.notes.items ms no_note i (let a = notes-long in omega (arith, a, l))
+  old-note i l = search (rules, get_or_append_left, notes-long)
 
   new-note : (j : ℕ) → note_at v.notes.items (length t.links + j) ≡ note_at ms j
-  new-note j = ap (λ (xs : List Note). note_at xs (length t.links + j)) items
-      ∙ ap (λ (m : ℕ). note_at (s.notes.items ++ ms) (m + j)) (sym notes-long) ∙ get_or-append-add s.notes.items ms j no_note
+  new-note j = search (rules, notes-long, get_or-append-add)
 
   count-open : (i : ℕ) → i ≡ leaf → (link_at u.links i).count ≡ 0 → ⊥
   count-open i same none =
@@ -240,27 +217,16 @@ module _ {rule : RuleKind} {s v : Search} {t u : Tree} {c nodes : List Node} {le
   old-win i l positive =
       let grown = written-grown (game_of rule s t) s.notes.items c nodes (λ j. ⊥) (IsTable-lower c h.searching.compiled.table)
       h.searching.written in
-      subst (λ (n : ℕ). IsNotedWin rule n
-      (board_at Now i) (c ++ nodes)
-      (win_of (note_at s.notes.items i)))
-      (sym (old-left expansion i l))
-      (subst (λ (b : Grid). IsNotedWin rule (left_at (game_of rule s t).left i) b (c ++ nodes) (win_of (note_at s.notes.items i)))
-      (sym (old-board expansion i l)) (grown.true_wins i l positive))
+      rw (old-left expansion i l) (rw (old-board expansion i l) (grown.true_wins i l positive))
 
   new-win : (j : ℕ) → j < length more → 0 < (note_at ms j).moves
       → IsNotedWin rule (left_at Now.left (length t.links + j))
       (board_at Now (length t.links + j)) (c ++ nodes)
       (win_of (note_at ms j))
   new-win j l positive =
-      let there : board_at Now (length t.links + j) ≡ after (board_at (game_of rule s t) leaf) (note_at ms j).at =
-      new-board expansion j l ∙ ap (after (board_at (game_of rule s t) leaf)) (at-move j l) in
-      let left : left_at Now.left (length t.links + j)
-      ≡ (note_at ms j).left = new-left expansion j ∙ at-left j l in
-      subst (λ (n : ℕ). IsNotedWin rule n
-      (board_at Now (length t.links + j))
-      (c ++ nodes) (win_of (note_at ms j))) (sym left)
-      (subst (λ (b : Grid). IsNotedWin rule (note_at ms j).left b (c ++ nodes) (win_of (note_at ms j))) (sym there)
-      ((noted j l).true_win positive))
+      let there = new-board expansion j l ∙ ap (after (board_at (game_of rule s t) leaf)) (at-move j l) in
+      let left : left_at Now.left (length t.links + j) ≡ (note_at ms j).left = new-left expansion j ∙ at-left j l in
+      rw left (rw there ((noted j l).true_win positive))
 
   old-value : (i : ℕ) → i < length t.links → (link_at u.links i).count ≡ 0 → i ≢ leaf → numbers_at u.numbers i ≡ numbers_at t.numbers i
   old-value i l none other = old-numbers expansion i l none other
@@ -286,13 +252,8 @@ module _ {rule : RuleKind} {s v : Search} {t u : Tree} {c nodes : List Node} {le
       let is = met kind q (ap (λ (b : Grid). outcome rule b q) (sym here-board) ∙ on)
       (ap (λ (ps : List Point). among ps q) (sym here-moves) ∙ none) in
       record {
-        some = subst (λ (n : Note). 0 < n.moves) (sym here-first) is.0;
-        win =
-            subst (λ (n : Note). IsNotedWin rule (left_at Now.left leaf) (after (board_at Now leaf) q) (c ++ nodes)
-            (win_of n)) (sym here-first)
-            (subst (λ (b : Grid). IsNotedWin rule (left_at Now.left leaf) (after b q) (c ++ nodes) (win_of (note_at ms 0))) (sym here-board)
-            (subst (λ (n : ℕ). IsNotedWin rule n (after (board_at (game_of rule s t) leaf) q) (c ++ nodes) (win_of (note_at ms 0)))
-            (sym here-left) is.1));
+        some = rw here-first is.0;
+        win = rw here-first (rw here-board (rw here-left is.1));
       }
 
   old-met : (i : ℕ) → i < length t.links → i ≢ leaf → (link_at u.links i).kind ≡ Defend → 0 < (link_at u.links i).count → (q : Point)
@@ -300,31 +261,21 @@ module _ {rule : RuleKind} {s v : Search} {t u : Tree} {c nodes : List Node} {le
       → among (moves_of (link_at u.links i) Now.moves) q ≡ false → IsMet Now v.notes.items (c ++ nodes) i q
   old-met i old other defend several q on none =
       let same = old-link i old other in
-      let count : 0 < (link_at t.links i).count = subst (λ (k : Link). 0 < k.count) same several in
+      let count = rw same at several in
       let first : ℕ = (link_at t.links i).first in
       let within = h.searching.tree.linked.within i old in
       let inside : first < length t.links = omega (arith, within, count) in
-      let board : board_at Now i ≡ board_at (game_of rule s t) i =
-      old-board expansion i old in
-      let left : left_at Now.left i ≡ left_at (game_of rule s t).left i =
-      old-left expansion i old in
-      let moves : moves_of (link_at u.links i) Now.moves ≡ moves_of (link_at t.links i) (game_of rule s t).moves =
-      ap (λ (k : Link). moves_of k Now.moves) same ∙ old-moves_of expansion i old in
+      let board : board_at Now i ≡ board_at (game_of rule s t) i = old-board expansion i old in
+      let left : left_at Now.left i ≡ left_at (game_of rule s t).left i = old-left expansion i old in
+      let moves = ap (λ (k : Link). moves_of k Now.moves) same ∙ old-moves_of expansion i old in
       let grown_written = written-grown (game_of rule s t) s.notes.items c nodes (λ j. ⊥) (IsTable-lower c h.searching.compiled.table)
       h.searching.written in
       let is = grown_written.met i old (ap (λ (k : Link). k.kind) (sym same) ∙ defend) count q
       (ap (λ (b : Grid). outcome rule b q) (sym board) ∙ on) (ap (λ (ps : List Point). among ps q) (sym moves) ∙ none) in
-      let note : note_at v.notes.items (link_at u.links i).first ≡ note_at s.notes.items first =
-      ap (λ (k : Link). note_at v.notes.items k.first) same ∙ old-note first inside in
+      let note = ap (λ (k : Link). note_at v.notes.items k.first) same ∙ old-note first inside in
       record {
-        some = subst (λ (n : Note). 0 < n.moves) (sym note) is.some;
-        win =
-            subst (λ (n : Note). IsNotedWin rule (left_at Now.left i) (after (board_at Now i) q) (c ++ nodes)
-            (win_of n)) (sym note)
-            (subst (λ (b : Grid). IsNotedWin rule (left_at Now.left i) (after b q) (c ++ nodes) (win_of (note_at s.notes.items first)))
-            (sym board)
-            (subst (λ (n : ℕ). IsNotedWin rule n (after (board_at (game_of rule s t) i) q) (c ++ nodes)
-            (win_of (note_at s.notes.items first))) (sym left) is.win));
+        some = rw note is.some;
+        win = rw note (rw board (rw left is.win));
       }
 
   written-now : AreWritten Now v.notes.items (c ++ nodes) (IsOnWayUp u.links leaf)
@@ -333,29 +284,26 @@ module _ {rule : RuleKind} {s v : Search} {t u : Tree} {c nodes : List Node} {le
       | inl old ↦
           subst (λ (n : Note). IsNotedWin rule (left_at Now.left i)
           (board_at Now i) (c ++ nodes) (win_of n))
-          (sym (old-note i old)) (old-win i old (subst (λ (n : Note). 0 < n.moves) (old-note i old) positive))
+          (sym (old-note i old)) (old-win i old (rw (old-note i old) at positive))
       | inr child ↦
           let here : note_at v.notes.items i ≡ note_at ms child.0 = ap (note_at v.notes.items) child.2 ∙ new-note child.0 in
           subst (λ (n : Note). IsNotedWin rule (left_at Now.left i)
           (board_at Now i) (c ++ nodes) (win_of n))
           (sym here)
-          (subst (λ (m : ℕ). IsNotedWin rule (left_at Now.left m)
-          (board_at Now m) (c ++ nodes)
-          (win_of (note_at ms child.0))) (sym child.2) (new-win child.0 child.1 (subst (λ (n : Note). 0 < n.moves) here positive)))
+          (rw child.2 (new-win child.0 child.1 (rw here at positive)))
     ];
     fresh = λ i l none unsettled. elim (split-node i l) [
       | inl old ↦ elim (cases_eq i leaf) [
         | inl same ↦ absurd (count-open i same none)
         | inr other ↦
-            ap (λ (n : Note). n.moves) (old-note i old)
-            ∙ h.searching.written.fresh i old (ap (λ (m : Link). m.count) (sym (old-link i old other)) ∙ none)
+            ap (λ (n : Note). n.moves) (old-note i old) ∙ h.searching.written.fresh i old
+            (ap (λ (m : Link). m.count) (sym (old-link i old other)) ∙ none)
             (ap is_settled (sym (old-value i old none other)) ∙ unsettled)
       ]
       | inr child ↦
           ap (λ (m : ℕ). (note_at v.notes.items m).moves) child.2 ∙ ap (λ (n : Note). n.moves) (new-note child.0)
           ∙ (noted child.0 child.1).fresh
-          (ap is_settled (sym (e.children child.0 child.1)) ∙ ap (λ (m : ℕ). is_settled (numbers_at u.numbers m)) (sym child.2)
-          ∙ unsettled)
+          (ap is_settled (sym (e.children child.0 child.1)) ∙ ap (λ (m : ℕ). is_settled (numbers_at u.numbers m)) (sym child.2) ∙ unsettled)
     ];
     leaves = λ i l none attack proved. elim (split-node i l) [
       | inl old ↦ elim (cases_eq i leaf) [
@@ -401,13 +349,13 @@ module _ {rule : RuleKind} {s v : Search} {t u : Tree} {c nodes : List Node} {le
         | inl same ↦
             subst (λ (k : ℕ). IsMet Now v.notes.items (c ++ nodes) k q) (sym same)
             (leaf-met (ap (λ (k : ℕ). (link_at u.links k).kind) (sym same) ∙ defend) q
-            (subst (λ (k : ℕ). outcome rule (board_at Now k) q ≡ GoesOn) same on)
-            (subst (λ (k : ℕ). among (moves_of (link_at u.links k) Now.moves) q ≡ false) same none))
+            (rw same at on)
+            (rw same at none))
         | inr other ↦ old-met i old other defend several q on none
       ]
       | inr child ↦ absurd (let zero_count : (link_at u.links i).count ≡ 0 =
-          ap (λ (m : ℕ). (link_at u.links m).count) child.2
-          ∙ ap (λ (l : Link). l.count) (long.leaves (length t.links + child.0) (omega arith) (let b = child.1 in omega (arith, b))) in
+          ap (λ (m : ℕ). (link_at u.links m).count) child.2 ∙ ap (λ (l : Link). l.count)
+          (long.leaves (length t.links + child.0) (omega arith) (let b = child.1 in omega (arith, b))) in
           omega (arith, zero_count, several))
     ];
   }
@@ -517,8 +465,7 @@ module _ {rule : RuleKind} {s v : Search} {t u : Tree} {c nodes : List Node} {le
             let root : leaf ≡ 0 = omega (arith, one, inside) in
             let alone = one-leaf kind t.links t.numbers single (h.searching.tree.numbered.count ∙ single)
             (ap (λ (m : ℕ). (link_at t.links m).count) (sym root) ∙ h.childless) in
-            let same : finite (sought kind (numbers_at t.numbers leaf)) ≡ finite (sought kind (numbers_at t.numbers 0)) =
-            ap (λ (m : ℕ). finite (sought kind (numbers_at t.numbers m))) root in
+            let same = ap (λ (m : ℕ). finite (sought kind (numbers_at t.numbers m))) root in
             omega (arith, bound, grown, less, size, alone, same)
 
   -- what is counted behind the new children, by their notes and numbers
@@ -580,35 +527,31 @@ module _ {rule : RuleKind} {s v : Search} {t u : Tree} {c nodes : List Node} {le
       let to : noted_tree rule s.root u v.notes.items ≡ Now = places u in
       record {
         tree = e.tree;
-        game = subst IsGameTree (sym to)
-            (game-grown expansion h.root_open h.leaf_is);
+        game = rw to (game-grown expansion h.root_open h.leaf_is);
         depth = ap (λ (n : Note). n.left) (old-note 0 h.searching.tree.linked.some) ∙ h.searching.depth;
         depth_fits = h.searching.depth_fits;
         budget_fits = h.searching.budget_fits;
-        written = subst (λ (w : GameTree). AreWritten w v.notes.items (c ++ nodes) (IsOnWayUp u.links leaf)) (sym to) written-now;
-        remembered = subst (λ (w : GameTree). IsTrueMemo rule (c ++ nodes) w v.settled) (sym to)
-            (memo-kept (game_of rule s t) Now refl
-            (disproved-grown expansion h.root_open h.leaf_is) rule (c ++ nodes) v.settled table);
-        counted = subst (λ (w : GameTree). IsCounted w s.budget v.attacked v.defended) (sym to) counted-now;
+        written = rw to written-now;
+        remembered = rw to (memo-kept (game_of rule s t) Now refl (disproved-grown expansion h.root_open h.leaf_is) rule (c ++ nodes)
+            v.settled table);
+        counted = rw to counted-now;
         compiled = compiled;
         few = few-now;
-        wins = subst (λ (w : GameTree). length (c ++ nodes) + sum_below (length u.links) (unwritten (won_at w) u v.notes.items)
-            + behind_leaves wins_behind w ≤ s.before + threat_wins rule s.depth s.root) (sym to)
-            (omega (
-              arith,
-              h.searching.wins,
-              length-append c nodes,
-              unwritten-wins,
-              behind-grown expansion wins_behind,
-              leaf-counts wins_behind,
-              children-count wins_behind,
-              wins_counted,
-            ));
+        wins = rw to (omega (
+          arith,
+          h.searching.wins,
+          length-append c nodes,
+          unwritten-wins,
+          behind-grown expansion wins_behind,
+          leaf-counts wins_behind,
+          children-count wins_behind,
+          wins_counted,
+        ));
       }
 
   pub expanded-grown : HasGrown rule s v t u (c ++ nodes) leaf
   expanded-grown = record {
-    searching = subst (λ (w : Search). IsSearching rule w u (c ++ nodes) (IsOnWayUp u.links leaf)) (sym rest) searching-now;
+    searching = rw rest searching-now;
     in_tree = let a = long.sized in let b = h.in_tree in omega (arith, a, b);
     aim = record {
       depth = ap (λ (w : Search). w.depth) rest;
@@ -618,8 +561,7 @@ module _ {rule : RuleKind} {s v : Search} {t u : Tree} {c nodes : List Node} {le
     };
     board = same_board;
     place =
-        ap (λ (w : Search). board_at (game_of rule w u) leaf) rest
-        ∙ ap (λ (w : GameTree). board_at w leaf) (places u)
+        ap (λ (w : Search). board_at (game_of rule w u) leaf) rest ∙ ap (λ (w : GameTree). board_at w leaf) (places u)
         ∙ old-board expansion leaf h.in_tree;
     progress = let a = closed-grown expansion in omega (arith, a);
     longer = let a = long.sized in omega (arith, a);
@@ -680,11 +622,9 @@ module _ {rule : RuleKind} {s : Search} {t : Tree} {c : List Node} {leaf : ℕ} 
               let root : leaf ≡ 0 = omega (arith, one, inside) in
               let alone = one-leaf kind t.links t.numbers single (here.searching.tree.numbered.count ∙ single)
               (ap (λ (m : ℕ). (link_at t.links m).count) (sym root) ∙ here.childless) in
-              let same : finite (sought kind (numbers_at t.numbers leaf)) ≡ finite (sought kind (numbers_at t.numbers 0)) =
-              ap (λ (m : ℕ). finite (sought kind (numbers_at t.numbers m))) root in
+              let same = ap (λ (m : ℕ). finite (sought kind (numbers_at t.numbers m))) root in
               omega (arith, grown, low, alone, same)
 
     pub sums-there : All IsFresh more → (kind : Kind) → leaf_sum kind (grown_links t.links leaf (length more)) (t.numbers ++ more)
         < INFINITE
-    sums-there fresh kind =
-        omega (arith, nodes-few, grown-sum kind (fresh-sum kind more fresh), few)
+    sums-there fresh kind = search (rules, nodes-few, grown-sum, fresh-sum)

@@ -1,25 +1,17 @@
 -- What becomes of a tree of the game where a leaf is given children: it is one again, and what is counted behind the leaf is what is
 -- counted behind its children.
-use Rattle.std.proofs.Common.{◌≡◌, ◌≢◌, ◌⊎◌, inl, inr, ℕ, ◌+◌, ◌-◌, ◌<◌, ◌≤◌, true, false, cond, not, ◌&&◌, refl, sym, ap, subst, ◌∙◌}
-use Rattle.std.proofs.Common.{arith, List, ◌++◌, length, take, drop, nat_eq}
+use Rattle.std.proofs.Common.{◌≡◌, ◌≢◌, ◌⊎◌, inl, inr, ℕ, ◌+◌, ◌-◌, ◌<◌, ◌≤◌, true, false, cond, not}
+use Rattle.std.proofs.Common.{◌&&◌, refl, sym, ap, subst, ◌∙◌, arith, List, ◌++◌, length, nat_eq, rules}
 use Rattle.std.proofs.lemmas.Bool.{cases_eq, cases_lt, eq-eqb, ne_eqb}
 use Rattle.std.proofs.lemmas.List.{drop-append-le, get_or-append-add, get_or_append_left, length-append, length-drop, take-append-le}
 use Rattle.std.proofs.Math.Seq.{drop-append_seam, take-length}
-use Rattle.game_rules.specs.declared.Outcome.TheVariants.{GoesOn}
-use Rattle.game_rules.specs.declared.RuleKind.{RuleKind}
-use Rattle.game_rules.specs.declared.Point.{Point}
-use Rattle.game_rules.proofs.Common.{Grid, outcome, after}
-use Rattle.proof_tree.specs.declared.Kind.{Kind}
-use Rattle.proof_tree.specs.declared.Link.{Link}
-use Rattle.proof_tree.specs.declared.Numbers.{Numbers}
-use Rattle.proof_tree.proofs.Common.{is_settled, no_numbers, other_kind, IsTree, OthersStay, Tree, link_at, most_proving, numbers_at}
-use Rattle.proof_tree.proofs.Common.{settled_numbers}
+use Rattle.proof_number.proofs.Common.{GoesOn, RuleKind, Point, Grid, outcome, after, Kind, Link, Numbers, is_settled, no_numbers}
+use Rattle.proof_number.proofs.Common.{other_kind, IsTree, OthersStay, Tree, link_at, most_proving, numbers_at, settled_numbers, move_at}
+use Rattle.proof_number.proofs.Common.{nowhere, CanGrow, GameTree, HasTried, IsGameTree, TellsTruly, WinsAt, board_at, board_of, left_at}
+use Rattle.proof_number.proofs.Common.{left_before, moves_of, behind_at, behind_leaves, closed_nodes, is_open_leaf, sum_below, IsDisproved}
+use Rattle.proof_number.proofs.Common.{IsLostAt}
 use Rattle.proof_tree.proofs.Changed.{IsGrown}
 use Rattle.proof_tree.proofs.Settled.{leaf-beside}
-use Rattle.threat_game.proofs.Common.{move_at, nowhere}
-use Rattle.proof_number.proofs.Common.{CanGrow, GameTree, HasTried, IsGameTree, TellsTruly, WinsAt, board_at, board_of, left_at}
-use Rattle.proof_number.proofs.Common.{left_before, moves_of, behind_at, behind_leaves, closed_nodes, is_open_leaf, sum_below}
-use Rattle.proof_number.proofs.Common.{IsDisproved, IsLostAt}
 use Rattle.proof_number.proofs.GameTruths.{board-kept, board-step}
 use Rattle.proof_number.proofs.Remembering.{lost-kept}
 use Rattle.proof_number.proofs.Settling.{one_unless}
@@ -97,9 +89,6 @@ module _ {g : GameTree} {leaf : ℕ} {links : List Link} {numbers more : List Nu
   pub old-board : (j : ℕ) → j < length g.tree.links → board_of links (g.moves ++ ps) g.start j ≡ board_at g j
   old-board j low = board-kept g.tree.links links g.moves (g.moves ++ ps) g.start ok.linked old-parent old-move j low
 
-  new-inside : (j : ℕ) → j < length more → length g.tree.links + j < length links
-  new-inside j low = let e = long.sized in omega (arith, e, low)
-
   new-parent : (j : ℕ) → j < length more → (link_at links (length g.tree.links + j)).parent ≡ leaf
   new-parent j low = ap (λ (l : Link). l.parent) (long.leaves (length g.tree.links + j) (omega arith) (omega (arith, low)))
 
@@ -108,12 +97,7 @@ module _ {g : GameTree} {leaf : ℕ} {links : List Link} {numbers more : List Nu
 
   pub new-board : (j : ℕ) → j < length more → board_of links (g.moves ++ ps) g.start (length g.tree.links + j) ≡ after (board_at g leaf)
       (move_at ps j)
-  new-board j low =
-      board-step links (g.moves ++ ps) g.start new.linked (length g.tree.links + j) (omega (arith, inside)) (new-inside j low)
-      ∙ ap (λ (k : ℕ). after (board_of links (g.moves ++ ps) g.start k) (move_at (g.moves ++ ps) (length g.tree.links + j)))
-      (new-parent j low)
-      ∙ ap (λ (c : Grid). after c (move_at (g.moves ++ ps) (length g.tree.links + j))) (old-board leaf inside)
-      ∙ ap (after (board_at g leaf)) (new-move j)
+  new-board j low = search (rules, board-step, new-parent, old-board, new-move)
 
   -- leaves that are old have the numbers that they had
   pub old-numbers : (j : ℕ) → j < length g.tree.links → (link_at links j).count ≡ 0 → j ≢ leaf
@@ -130,26 +114,15 @@ module _ {g : GameTree} {leaf : ℕ} {links : List Link} {numbers more : List Nu
   ]
 
   has-children : (i : ℕ) → i ≡ leaf → (link_at links i).count ≡ 0 → ⊥
-  has-children i e none = let c : (link_at links leaf).count ≡ length more = ap (λ (l : Link). l.count) long.here in let d =
-      ap (λ (k : ℕ). (link_at links k).count) e in omega (arith, c, d, none, some)
+  has-children i e none = search rules
 
   -- what a node has tried
   pub old-moves_of : (i : ℕ) → i < length g.tree.links
       → moves_of (link_at g.tree.links i) (g.moves ++ ps) ≡ moves_of (link_at g.tree.links i) g.moves
-  old-moves_of i low =
-      let l : Link = link_at g.tree.links i in
-      let within = ok.linked.within i low in
-      let e = game.moves in
-      let d = length-drop l.first g.moves in
-      ap (take l.count) (drop-append-le l.first g.moves ps (omega (arith, within, e)))
-      ∙ take-append-le l.count (drop l.first g.moves) ps (omega (arith, within, e, d))
+  old-moves_of i low = search (rules, length-drop, drop-append-le, take-append-le)
 
   pub grown-moves : moves_of (link_at links leaf) (g.moves ++ ps) ≡ ps
-  grown-moves =
-      ap (λ (l : Link). moves_of l (g.moves ++ ps)) long.here
-      ∙ ap (λ (m : ℕ). take m (drop (length g.tree.links) (g.moves ++ ps))) (sym points)
-      ∙ ap (λ (m : ℕ). take (length ps) (drop m (g.moves ++ ps))) (sym game.moves)
-      ∙ ap (take (length ps)) (drop-append_seam g.moves ps) ∙ take-length ps
+  grown-moves = search (rules, drop-append_seam, take-length)
 
   -- a node that is disproved stays so
   pub disproved-grown : is_settled (numbers_at g.tree.numbers 0) ≡ false → leaf ≡ most_proving g.tree → (n : ℕ) (b : Grid)
@@ -212,9 +185,7 @@ module _ {g : GameTree} {leaf : ℕ} {links : List Link} {numbers more : List Nu
             (moves_of (link_at links k) (g.moves ++ ps))) (sym e) leaf-tried
         | inr n ↦
             let same : link_at links i ≡ link_at g.tree.links i = long.others i old n in
-            let before : HasTried (link_at g.tree.links i).kind g.rule (left_at g.left i) (board_at g i)
-            (moves_of (link_at g.tree.links i) g.moves) =
-            game.inner i old (subst (λ (l : Link). 0 < l.count) same many) in
+            let before = game.inner i old (subst (λ (l : Link). 0 < l.count) same many) in
             tried-same (link_at links i).kind (link_at g.tree.links i).kind (left_at (g.left ++ ns) i) (left_at g.left i)
             (board_of links (g.moves ++ ps) g.start i) (board_at g i) (moves_of (link_at links i) (g.moves ++ ps))
             (moves_of (link_at g.tree.links i) g.moves)
@@ -352,8 +323,7 @@ module _ {g : GameTree} {leaf : ℕ} {links : List Link} {numbers more : List Nu
 
   behind-leaf : (f : Kind → RuleKind → ℕ → Grid → ℕ)
       → behind_at f Grown leaf ≡ 0
-  behind-leaf f = ap (λ r. cond (r && not (is_settled (numbers_at numbers leaf)))
-      (f (link_at links leaf).kind g.rule (left_at (g.left ++ ns) leaf) (board_of links (g.moves ++ ps) g.start leaf)) 0) leaf-inner
+  behind-leaf f = search (rules, leaf-inner)
 
   behind-new : (f : Kind → RuleKind → ℕ → Grid → ℕ) (j : ℕ) → j < length more
       → behind_at f Grown (length g.tree.links + j) ≡ child-behind f j
@@ -379,9 +349,8 @@ module _ {g : GameTree} {leaf : ℕ} {links : List Link} {numbers more : List Nu
       → behind_leaves f Grown + behind_at f g leaf ≤ behind_leaves f g + sum_below (length more) (child-behind f)
   behind-grown f =
       let after_it : GameTree = Grown in
-      let parts : behind_leaves f after_it ≡ sum_below (length g.tree.links) (behind_at f after_it) + sum_below (length more)
-      (λ j. behind_at f after_it (length g.tree.links + j)) =
-      ap (λ (n : ℕ). sum_below n (behind_at f after_it)) long.sized ∙ sum-more (length g.tree.links) (length more) (behind_at f after_it) in
+      let parts = ap (λ (n : ℕ). sum_below n (behind_at f after_it)) long.sized
+      ∙ sum-more (length g.tree.links) (length more) (behind_at f after_it) in
       let old = sum-less (length g.tree.links) (behind_at f after_it) (behind_at f g) leaf (behind_at f g leaf) inside
       (λ j low other. let e = behind-old f j low other in omega (arith, e)) (let e = behind-leaf f in omega (arith, e)) in
       let fresh = sum-le (length more) (λ j. behind_at f after_it (length g.tree.links + j)) (child-behind f)

@@ -1,36 +1,28 @@
 -- The boards of the nodes of a tree: each is its parent's after its move, and they stay where the tree grows. The moves that lead to a
 -- node, played and taken back. In a tree that stands for a game every node tells truly whether the attacker wins: from the last node to the
 -- first, since the children of a node come after it.
-use Rattle.std.proofs.Common.{◌≡◌, ℕ, zero, suc, ◌<◌, ◌≤◌, Bool, true, false, cond, ◌||◌, refl, ap, ◌∙◌, arith, List, [], ◌∷◌, length}
-use Rattle.std.proofs.Common.{nat_eq, sym, subst, map, get_or, ◌⊎◌, inl, inr, ◌+◌, ◌-◌, take, drop, Contains}
+use Rattle.std.proofs.Common.{◌≡◌, ℕ, zero, suc, ◌<◌, ◌≤◌, Bool, true, false, cond, ◌||◌, refl, ap, ◌∙◌, arith}
+use Rattle.std.proofs.Common.{List, [], ◌∷◌, length, nat_eq, sym, map, get_or, ◌⊎◌, inl, inr, ◌+◌, ◌-◌, take, subst}
+use Rattle.std.proofs.Common.{drop, Contains, rules}
 use Rattle.std.proofs.lemmas.Bool.{ne_eqb, cases_eq}
 use Rattle.std.proofs.lemmas.List.{get_or-map, get_or-take, get_or-drop, get_or_default, length-take, length-drop}
 use Rattle.std.proofs.lemmas.List.Elements.{Contains-get_or}
-use Rattle.game_rules.specs.declared.Point.{Point}
-use Rattle.game_rules.specs.declared.Outcome.TheVariants.{GoesOn}
-use Rattle.game_rules.specs.declared.RuleKind.{RuleKind}
-use Rattle.game_rules.specs.declared.Outcome.{Outcome}
-use Rattle.game_rules.proofs.Common.{Grid, IsPosition, after, holds, is_empty, points_of, lift, IsUnwon, is_same_point, outcome, mover}
-use Rattle.game_rules.proofs.Common.{other, LosesOr, WinsByThreats}
+use Rattle.proof_number.proofs.Common.{Point, GoesOn, RuleKind, Grid, IsPosition, after, is_empty, points_of, is_same_point, outcome, mover}
+use Rattle.proof_number.proofs.Common.{other, WinsByThreats, Kind, Attack, Defend, Link, Numbers, link_at, IsTree, combined, least}
+use Rattle.proof_number.proofs.Common.{other_kind, total, children_of, numbers_at, move_at, nowhere, LosesToThreats, Note, GameTree}
+use Rattle.proof_number.proofs.Common.{IsGameTree, board_at, board_of, board_within, left_at, left_before, HasTried, AreTried, TellsTruly}
+use Rattle.proof_number.proofs.Common.{WinsAt, among, moves_of, no_note, note_at}
+use Rattle.game_rules.proofs.Common.{holds, lift, IsUnwon}
 use Rattle.game_rules.proofs.Positions.{IsPosition-after, GoesOn-empty}
 use Rattle.game_rules.proofs.Undo.{stone_back, lift_back, unwon_back}
 use Rattle.game_rules.proofs.Outcomes.{LosesOr-on}
 use Rattle.game_rules.proofs.Points.{is_same_point-same}
-use Rattle.proof_tree.specs.declared.Kind.{Kind}
-use Rattle.proof_tree.specs.declared.Kind.TheVariants.{Attack, Defend}
-use Rattle.proof_tree.specs.declared.Link.{Link}
-use Rattle.proof_tree.specs.declared.Numbers.{Numbers}
-use Rattle.proof_tree.proofs.Common.{IsLinked, link_at, IsTree, AreNumbers, combined, least, other_kind, total, IsChild, children_of}
-use Rattle.proof_tree.proofs.Common.{numbers_at}
+use Rattle.proof_tree.proofs.Common.{IsLinked, AreNumbers, IsChild}
 use Rattle.proof_tree.proofs.Settled.{least-zero, total-zero, settled-proved, settled-disproved}
 use Rattle.proof_tree.proofs.Updated.{child-number}
 use Rattle.stone_board.specs.Steps.{holds_stone}
 use Rattle.stone_board.proofs.Stones.{put-holds_stone}
-use Rattle.threat_game.proofs.Common.{move_at, nowhere, LosesToThreats}
 use Rattle.threat_game.proofs.TreeLaws.{by_move}
-use Rattle.proof_number.specs.declared.notes.Note.{Note}
-use Rattle.proof_number.proofs.Common.{GameTree, IsGameTree, board_at, board_of, board_within, left_at, left_before, HasTried, AreTried}
-use Rattle.proof_number.proofs.Common.{TellsTruly, WinsAt, among, moves_of, no_note, note_at}
 
 -- the moves that are left at the root are those of the first note
 pub left-root : (notes : List Note) (depth : ℕ) → 0 < length notes → (note_at notes 0).left ≡ depth
@@ -38,8 +30,7 @@ pub left-root : (notes : List Note) (depth : ℕ) → 0 < length notes → (note
 left-root notes depth some is = get_or-map (λ (n : Note). n.left) notes 0 no_note 0 some ∙ is
 
 positive : (i : ℕ) → nat_eq i 0 ≡ false → 0 < i
-positive zero e = cc
-positive (suc i) e = omega arith
+positive i e = search rules
 
 module _ (links : List Link) (moves : List Point) (b : Grid) (w : IsLinked links) where
   -- the bound on the moves that lead to a node plays no part
@@ -105,11 +96,7 @@ points-within : (f : ℕ) (links : List Link) (moves : List Point) (b : Grid) (i
     → points_of (board_within f links moves b i) ≡ points_of b
 unfolding board_within
 points-within zero links moves b i = refl
-points-within (suc f) links moves b i = by_test (nat_eq i 0) (points-within f links moves b (link_at links i).parent) where
-  by_test : (r : Bool) → points_of (board_within f links moves b (link_at links i).parent) ≡ points_of b
-      → points_of (cond r b (after (board_within f links moves b (link_at links i).parent) (move_at moves i))) ≡ points_of b
-  by_test true before = refl
-  by_test false before = before
+points-within (suc f) links moves b i = search (rules, points-within f links moves b (link_at links i).parent)
 
 pub points-same : (g : GameTree) (i : ℕ) → points_of (board_at g i) ≡ points_of g.start
 points-same g i = points-within i g.tree.links g.moves g.start i
@@ -133,8 +120,7 @@ module _ {g : GameTree} (w : IsLinked g.tree.links) (game : IsGameTree g) where
 -- no node has more moves left than the root
 module _ {g : GameTree} (w : IsLinked g.tree.links) (game : IsGameTree g) where
   left-less : (k : Kind) (n m : ℕ) → left_before k n ≡ m → n ≤ m
-  left-less Attack n m e = omega (arith, e)
-  left-less Defend n m e = omega (arith, e)
+  left-less k n m e = search rules
 
   lefts-below : (n i : ℕ) → i < n → i < length g.tree.links → left_at g.left i ≤ left_at g.left 0
   lefts-below zero i low inside = absurd (omega arith)
@@ -171,11 +157,10 @@ module _ {g : GameTree} (ok : IsTree g.tree) (game : IsGameTree g) (node : ℕ) 
   before-lawful = position-at ok.linked game (link_at g.tree.links node).parent parent-inside
 
   pub move-on : outcome g.rule (board_at g (link_at g.tree.links node).parent) p ≡ GoesOn
-  move-on = subst (λ (q : Point). outcome g.rule (board_at g (link_at g.tree.links node).parent) q ≡ GoesOn) move (game.on node some inside)
+  move-on = rw move at (game.on node some inside)
 
   pub board-after : board_at g node ≡ after (board_at g (link_at g.tree.links node).parent) p
-  board-after = board-step g.tree.links g.moves g.start ok.linked node some inside
-      ∙ ap (after (board_at g (link_at g.tree.links node).parent)) move
+  board-after = search (rules, board-step)
 
   pub move-empty : is_empty (board_at g (link_at g.tree.links node).parent) p ≡ true
   move-empty = GoesOn-empty g.rule (board_at g (link_at g.tree.links node).parent) p move-on
@@ -192,10 +177,7 @@ module _ {g : GameTree} (ok : IsTree g.tree) (game : IsGameTree g) (node : ℕ) 
     move-lifted = lift_back g.rule (board_at g (link_at g.tree.links node).parent) c p before-lawful move-on (here ∙ board-after)
 
     pub move-holds : holds_stone c p ≡ true
-    move-holds =
-        ap (λ (b : Grid). holds_stone b p) (here ∙ board-after)
-        ∙ put-holds_stone (board_at g (link_at g.tree.links node).parent) (mover (board_at g (link_at g.tree.links node).parent)) p
-        before-lawful.board move-empty
+    move-holds = search (rules, board-after, put-holds_stone, before-lawful, move-empty)
 
 -- ---- numbers
 
@@ -212,7 +194,7 @@ child-move l moves j fits child =
     let at : get_or (take l.count (drop l.first moves)) k nowhere ≡ move_at moves j =
     get_or-take l.count (drop l.first moves) k nowhere (omega (arith, first, low)) ∙ get_or-drop l.first moves k nowhere
     ∙ ap (λ (m : ℕ). move_at moves m) (omega (arith, first)) in
-    subst (Contains (moves_of l moves)) at (Contains-get_or (moves_of l moves) k nowhere inside)
+    rw at at (Contains-get_or (moves_of l moves) k nowhere inside)
 
 pub move-child : (l : Link) (moves : List Point) (p : Point) → l.first + l.count ≤ length moves → Contains (moves_of l moves) p
     → (j : ℕ) × IsChild l j × (move_at moves j ≡ p)
@@ -247,28 +229,11 @@ pub record IsChildOf (g : GameTree) (i j : ℕ) : Type 0 where
 
 pub tried-attack : (rule : RuleKind) (l : ℕ) (b : Grid) (ms : List Point) → HasTried Attack rule l b ms
     → (n : ℕ) × (l ≡ suc n) × AreTried rule n b ms
-tried-attack rule zero b ms h = absurd h
-tried-attack rule (suc n) b ms h = (n, refl, h)
+tried-attack rule l b ms h = search rules
 
 module _ {g : GameTree} (ok : IsTree g.tree) (game : IsGameTree g) where
   pub child-of : (i j : ℕ) → i < length g.tree.links → IsChild (link_at g.tree.links i) j → IsChildOf g i j
-  child-of i j inside child =
-      let w = ok.linked in
-      let first = child.from_first in
-      let low = child.below_end in
-      let some : 0 < (link_at g.tree.links i).count = omega (arith, first, low) in
-      let after_i = w.later i inside some in
-      let here : j < length g.tree.links = omega (arith, low, w.within i inside) in
-      let positive : 0 < j = omega (arith, after_i, first) in
-      let parent : (link_at g.tree.links j).parent ≡ i = w.parents i j inside child in
-      record {
-        inside = here;
-        later = omega (arith, after_i, first);
-        kind = w.kinds i j inside child;
-        board = board-step g.tree.links g.moves g.start w j positive here ∙ ap (λ (p : ℕ). after (board_at g p) (move_at g.moves j)) parent;
-        on = subst (λ (p : ℕ). outcome g.rule (board_at g p) (move_at g.moves j) ≡ GoesOn) parent (game.on j positive here);
-        fewer = game.fewer j positive here ∙ ap (left_at g.left) parent;
-      }
+  child-of i j inside child = search (rules, board-step)
 
   -- node i tells truly whether the attacker wins
   abbrev pub Tells : ℕ → Type 0
@@ -279,22 +244,13 @@ module _ {g : GameTree} (ok : IsTree g.tree) (game : IsGameTree g) where
 
   fits_numbers : (i : ℕ) → i < length g.tree.links → length (children_of (link_at g.tree.links i) g.tree.numbers)
       ≡ (link_at g.tree.links i).count
-  fits_numbers i inside =
-      let a = length-take (link_at g.tree.links i).count (drop (link_at g.tree.links i).first g.tree.numbers) in
-      omega (arith, a, length-drop (link_at g.tree.links i).first g.tree.numbers, ok.linked.within i inside, ok.numbered.count)
-
-  kth : (i k : ℕ) → k < (link_at g.tree.links i).count → IsChild (link_at g.tree.links i) ((link_at g.tree.links i).first + k)
-  kth i k low = record { from_first = omega arith; below_end = omega (arith, low) }
+  fits_numbers i inside = search (rules, length-take, length-drop)
 
   -- where the least of the numbers of the children is 0, a child has it; where the sum is, each has it
   module _ (i : ℕ) (inside : i < length g.tree.links) (f : Numbers → ℕ) where
     pub some-zero : least (map f (children_of (link_at g.tree.links i) g.tree.numbers)) ≡ 0
         → (j : ℕ) × IsChild (link_at g.tree.links i) j × (f (numbers_at g.tree.numbers j) ≡ 0)
-    some-zero e =
-        let l = link_at g.tree.links i in
-        let found = least-zero f (children_of l g.tree.numbers) e in
-        let low : found.0 < l.count = let a = found.1 in let b = fits_numbers i inside in omega (arith, a, b) in
-        (l.first + found.0, kth i found.0 low, ap f (sym (child-number l g.tree.numbers found.0 low)) ∙ found.2)
+    some-zero e = search (rules, least-zero, fits_numbers, child-number)
 
     pub each-zero : total (map f (children_of (link_at g.tree.links i) g.tree.numbers)) ≡ 0 → (j : ℕ) → IsChild (link_at g.tree.links i) j
         → f (numbers_at g.tree.numbers j) ≡ 0
@@ -323,16 +279,11 @@ module _ {g : GameTree} (ok : IsTree g.tree) (game : IsGameTree g) where
         let tried = tried-attack g.rule (left_at g.left i) (board_at g i) (moves_of (link_at g.tree.links i) g.moves) own in
         let listed = child-move (link_at g.tree.links i) g.moves j (fits i inside) child in
         let defends : (link_at g.tree.links j).kind ≡ Defend = c.kind ∙ ap other_kind kind in
-        let less : suc (left_at g.left j) ≡ left_at g.left i =
-        ap (λ (k : Kind). left_before k (left_at g.left j)) (sym defends) ∙ c.fewer in
+        let less = ap (λ (k : Kind). left_before k (left_at g.left j)) (sym defends) ∙ c.fewer in
         let same : left_at g.left j ≡ tried.0 = let e = tried.1 in omega (arith, less, e) in
-        let loses : LosesToThreats g.rule (left_at g.left j) (board_at g j) =
-        subst (λ (k : Kind). WinsAt k g.rule (left_at g.left j) (board_at g j)) defends wins in
-        let there : LosesToThreats g.rule tried.0 (after (board_at g i) (move_at g.moves j)) =
-        subst (λ (n : ℕ). LosesToThreats g.rule n (after (board_at g i) (move_at g.moves j))) same
-        (subst (LosesToThreats g.rule (left_at g.left j)) c.board loses) in
-        subst (λ (n : ℕ). WinsByThreats g.rule n (board_at g i)) (sym tried.1)
-        (by_move g.rule tried.0 (board_at g i) (move_at g.moves j) c.on (tried.2.threat (move_at g.moves j) listed) there)
+        let loses = rw defends at wins in
+        let there = rw same at (rw c.board at loses) in
+        rw tried.1 (by_move g.rule tried.0 (board_at g i) (move_at g.moves j) c.on (tried.2.threat (move_at g.moves j) listed) there)
 
     -- and where it wins there, it wins at a child
     attack-through : (link_at g.tree.links i).kind ≡ Attack → Own Attack → WinsByThreats g.rule (left_at g.left i) (board_at g i)
@@ -362,55 +313,38 @@ module _ {g : GameTree} (ok : IsTree g.tree) (game : IsGameTree g) where
         (among-listed q (moves_of (link_at g.tree.links i) g.moves) found) in
         let c = child-of i child.0 inside child.1 in
         let attacks : (link_at g.tree.links child.0).kind ≡ Attack = c.kind ∙ ap other_kind kind in
-        let same : left_at g.left child.0 ≡ left_at g.left i =
-        ap (λ (k : Kind). left_before k (left_at g.left child.0)) (sym attacks) ∙ c.fewer in
+        let same = ap (λ (k : Kind). left_before k (left_at g.left child.0)) (sym attacks) ∙ c.fewer in
         let there : board_at g child.0 ≡ after (board_at g i) q = c.board ∙ ap (after (board_at g i)) child.2 in
-        let win : WinsByThreats g.rule (left_at g.left child.0) (board_at g child.0) =
-        subst (λ (k : Kind). WinsAt k g.rule (left_at g.left child.0) (board_at g child.0)) attacks (wins child.0 child.1) in
-        subst (λ (n : ℕ). WinsByThreats g.rule n (after (board_at g i) q)) same
-        (subst (WinsByThreats g.rule (left_at g.left child.0)) there win)
+        let win = rw attacks at (wins child.0 child.1) in
+        rw (← same) (rw there at win)
 
     defend-by : (link_at g.tree.links i).kind ≡ Defend → Own Defend
         → ((j : ℕ) → IsChild (link_at g.tree.links i) j → WinsAt (link_at g.tree.links j).kind g.rule (left_at g.left j) (board_at g j))
         → LosesToThreats g.rule (left_at g.left i) (board_at g i)
-    defend-by kind own wins q = LosesOr-on (outcome g.rule (board_at g i) q) (Unit {0})
-        (WinsByThreats g.rule (left_at g.left i) (after (board_at g i) q)) (own.none_saves q)
-        (λ on. reply-by kind own wins q on (among (moves_of (link_at g.tree.links i) g.moves) q) refl)
+    defend-by kind own wins q = search (rules, LosesOr-on, reply-by)
 
     -- and where it wins there, it wins at each child
     defend-through : (link_at g.tree.links i).kind ≡ Defend → LosesToThreats g.rule (left_at g.left i) (board_at g i) → (j : ℕ)
         → IsChild (link_at g.tree.links i) j → WinsAt (link_at g.tree.links j).kind g.rule (left_at g.left j) (board_at g j)
-    defend-through kind loses j child =
-        let c = child-of i j inside child in
-        let attacks : (link_at g.tree.links j).kind ≡ Attack = c.kind ∙ ap other_kind kind in
-        let same : left_at g.left j ≡ left_at g.left i = ap (λ (k : Kind). left_before k (left_at g.left j)) (sym attacks) ∙ c.fewer in
-        let win : WinsByThreats g.rule (left_at g.left i) (after (board_at g i) (move_at g.moves j)) =
-        subst (λ (o : Outcome). LosesOr o (WinsByThreats g.rule (left_at g.left i) (after (board_at g i) (move_at g.moves j)))) c.on
-        (loses (move_at g.moves j)) in
-        subst (λ (k : Kind). WinsAt k g.rule (left_at g.left j) (board_at g j)) (sym attacks)
-        (subst (λ (n : ℕ). WinsByThreats g.rule n (board_at g j)) (sym same)
-        (subst (WinsByThreats g.rule (left_at g.left i)) (sym c.board) win))
+    defend-through kind loses j child = search (rules, child-of)
 
     each : (j : ℕ) → IsChild (link_at g.tree.links i) j → AreNumbers (numbers_at g.tree.numbers j)
     each j child = ok.numbered.each j (child-of i j inside child).inside
 
     own-numbers : (kind : Kind) → (link_at g.tree.links i).kind ≡ kind
         → numbers_at g.tree.numbers i ≡ combined kind (children_of (link_at g.tree.links i) g.tree.numbers)
-    own-numbers kind e = ok.numbered.combined_at i inside some
-        ∙ ap (λ (k : Kind). combined k (children_of (link_at g.tree.links i) g.tree.numbers)) e
+    own-numbers kind e = search rules
 
     inner-tells : (kind : Kind) → (link_at g.tree.links i).kind ≡ kind → Own kind
         → TellsTruly (numbers_at g.tree.numbers i) (WinsAt kind g.rule (left_at g.left i) (board_at g i))
     inner-tells Attack kind own = record {
       proved = λ h.
-          let nothing : least (map (λ n. n.proof) (children_of (link_at g.tree.links i) g.tree.numbers)) ≡ 0 =
-          ap (λ (n : Numbers). n.proof) (sym (own-numbers Attack kind) ∙ h) in
+          let nothing = ap (λ (n : Numbers). n.proof) (sym (own-numbers Attack kind) ∙ h) in
           let child = some-zero i inside (λ n. n.proof) nothing in
           attack-by kind own child.0 child.1
           ((told child.0 child.1).proved (settled-proved (numbers_at g.tree.numbers child.0) (each child.0 child.1) child.2));
       disproved = λ h wins.
-          let nothing : total (map (λ n. n.disproof) (children_of (link_at g.tree.links i) g.tree.numbers)) ≡ 0 =
-          ap (λ (n : Numbers). n.disproof) (sym (own-numbers Attack kind) ∙ h) in
+          let nothing = ap (λ (n : Numbers). n.disproof) (sym (own-numbers Attack kind) ∙ h) in
           let child = attack-through kind own wins in
           (told child.0 child.1).disproved
           (settled-disproved (numbers_at g.tree.numbers child.0) (each child.0 child.1)
@@ -418,13 +352,11 @@ module _ {g : GameTree} (ok : IsTree g.tree) (game : IsGameTree g) where
     }
     inner-tells Defend kind own = record {
       proved = λ h.
-          let nothing : total (map (λ n. n.proof) (children_of (link_at g.tree.links i) g.tree.numbers)) ≡ 0 =
-          ap (λ (n : Numbers). n.proof) (sym (own-numbers Defend kind) ∙ h) in
+          let nothing = ap (λ (n : Numbers). n.proof) (sym (own-numbers Defend kind) ∙ h) in
           defend-by kind own (λ j child. (told j child).proved
           (settled-proved (numbers_at g.tree.numbers j) (each j child) (each-zero i inside (λ n. n.proof) nothing j child)));
       disproved = λ h loses.
-          let nothing : least (map (λ n. n.disproof) (children_of (link_at g.tree.links i) g.tree.numbers)) ≡ 0 =
-          ap (λ (n : Numbers). n.disproof) (sym (own-numbers Defend kind) ∙ h) in
+          let nothing = ap (λ (n : Numbers). n.disproof) (sym (own-numbers Defend kind) ∙ h) in
           let child = some-zero i inside (λ n. n.disproof) nothing in
           (told child.0 child.1).disproved (settled-disproved (numbers_at g.tree.numbers child.0) (each child.0 child.1) child.2)
           (defend-through kind loses child.0 child.1);

@@ -1,36 +1,22 @@
 -- What is remembered of looks stays true while lists are added to those that are kept.
-use Rattle.std.proofs.Common.{◌≡◌, ℕ, ◌+◌, ◌≤◌, List, ◌++◌, take, drop, length, refl, sym, ap, subst, ◌∙◌}
-use Rattle.std.proofs.Common.{arith, Option, Some, None, IfSome}
+use Rattle.std.proofs.Common.{◌≡◌, ℕ, ◌+◌, ◌≤◌, List, ◌++◌, ◌∙◌, Option, IfSome, rules}
 use Rattle.std.proofs.lemmas.List.{drop-append-le, length-append, length-drop, take-append-le}
-use Rattle.game_rules.proofs.Common.{Grid, IsPosition}
-use Rattle.game_rules.specs.declared.RuleKind.{RuleKind}
-use Rattle.game_rules.specs.declared.Point.{Point}
-use Rattle.position_table.specs.Packing.{packed}
-use Rattle.position_table.specs.Remembering.{Remembered, IsTrueTable, value_under}
+use Rattle.proof_number.proofs.Common.{Grid, IsPosition, RuleKind, Point, packed, Remembered, value_under, Child, IsAdded, IsPart}
+use Rattle.proof_number.proofs.Common.{AreChildrenOf, IsTrueLook}
+use Rattle.position_table.specs.Remembering.{IsTrueTable}
 use Rattle.position_table.proofs.Remembering.{true-found, true-weaker}
 use Rattle.threat_game.specs.declared.attacks.Attacks.TheVariants.{Moves}
-use Rattle.threat_game.specs.declared.replies.Child.{Child}
 use Rattle.threat_game.proofs.Common.{AreAttacks}
 use Rattle.proof_number.specs.declared.spans.Span.{Span}
 use Rattle.proof_number.specs.declared.looks.Look.{Look}
 use Rattle.proof_number.specs.declared.looks.Look.TheVariants.{Tried, Denied, Escape, Replies}
-use Rattle.proof_number.proofs.Common.{part_of, IsAdded, IsPart, AreChildrenOf, IsTrueLook}
 
 -- ---- lists that are kept in one
 
 module _ {T : Type 0} (all more : List T) (span : Span) where
-  part-kept : span.first + span.count ≤ length all → part_of span (all ++ more) ≡ part_of span all
-  part-kept within =
-      let d = length-drop span.first all in
-      ap (take span.count) (drop-append-le span.first all more (omega (arith, within)))
-      ∙ take-append-le span.count (drop span.first all) more (omega (arith, within, d))
-
   -- a list stays where it stands
   pub part-grown : (says : List T → Type 0) → IsPart all says span → IsPart (all ++ more) says span
-  part-grown says is =
-      let within = is.within in
-      let d = length-append all more in
-      record { within = omega (arith, within, d); holds = subst says (sym (part-kept is.within)) is.holds }
+  part-grown says is = search (rules, length-append, length-drop, drop-append-le, take-append-le)
 
 -- ---- looks
 
@@ -53,19 +39,14 @@ module _ (rule : RuleKind) (moves : List Point) (children : List Child) where
     -- what is remembered stays true where moves are added, or children
     pub moves-added : (list after : List Point) (span : Span) → IsAdded moves list after span
         → IsTrueTable Look rule (IsTrueLook rule after children) t
-    moves-added list after span added =
-        subst (λ (ps : List Point). IsTrueTable Look rule (IsTrueLook rule ps children) t) (sym added.all)
-        (true-weaker rule (IsTrueLook rule moves children) (IsTrueLook rule (moves ++ list) children) (moves-longer list) t true_of)
+    moves-added list after span added = search (rules, true-weaker, moves-longer)
 
     pub children-added : (list after : List Child) (span : Span) → IsAdded children list after span
         → IsTrueTable Look rule (IsTrueLook rule moves after) t
-    children-added list after span added =
-        subst (λ (xs : List Child). IsTrueTable Look rule (IsTrueLook rule moves xs) t) (sym added.all)
-        (true-weaker rule (IsTrueLook rule moves children) (IsTrueLook rule moves (children ++ list)) (children-longer list) t true_of)
+    children-added list after span added = search (rules, true-weaker, children-longer)
 
 module _ (rule : RuleKind) (moves : List Point) (children : List Child) (b : Grid) (n : ℕ) (t : Remembered Look) where
   -- what is found of a position holds there
   pub look-found : IsPosition rule b → IsTrueTable Look rule (IsTrueLook rule moves children) t → (found : Option Look)
       → found ≡ value_under (packed b, n) t → IfSome found (IsTrueLook rule moves children b n)
-  look-found lawful true_of None is = tt
-  look-found lawful true_of (Some look) is = true-found rule (IsTrueLook rule moves children) b b n look t lawful refl true_of is
+  look-found lawful true_of found is = search (rules, true-found)

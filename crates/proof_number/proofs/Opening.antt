@@ -1,12 +1,7 @@
 -- What the words of the contracts stand for.
 use Rattle.std.proofs.Common.{ℕ, List}
-use Rattle.game_rules.proofs.Common.{Grid}
-use Rattle.game_rules.specs.declared.RuleKind.{RuleKind}
-use Rattle.proof_tree.proofs.Common.{Tree}
-use Rattle.strategy_graph.specs.declared.Node.{Node}
-use Rattle.proof_number.specs.declared.search.Search.{Search}
-use Rattle.proof_number.proofs.Common.{Grows, HasGrown, IsAtLeaf, IsSearching, Searches, StandsAt, known_searching, known_at_leaf}
-use Rattle.proof_number.proofs.Common.{known_grown}
+use Rattle.proof_number.proofs.Common.{Grid, RuleKind, Tree, Node, Search, Grows, HasGrown, IsAtLeaf, IsSearching, Searches, StandsAt}
+use Rattle.proof_number.proofs.Common.{known_searching, known_at_leaf, known_grown}
 
 pub searching-facts : {rule : RuleKind} {s : Search} {t : Tree} {c : List Node} {way : ℕ → Type 0} → Searches rule s t c way
     → IsSearching rule s t c way

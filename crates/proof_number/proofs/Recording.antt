@@ -1,37 +1,24 @@
 -- What holds of a search on the way back: which proved nodes may lack a win, what is kept, and what is remembered. The win of a proved node
 -- of the attacker, made of those after each reply to a proved move. The way back, in the words of the contracts.
-use Rattle.std.proofs.Common.{◌≡◌, ◌⊎◌, inl, inr, ℕ, zero, suc, ◌<◌, Bool, true, false, cond, refl, sym, ap, subst, ◌∙◌, arith, List}
-use Rattle.std.proofs.Common.{Ok, Err, length, nat_eq, Option, Some, None, All, ◌+◌, ◌||◌, [], ◌∷◌, map}
-use Rattle.std.specs.List.{find, list_any, AllByRecursion}
+use Rattle.std.proofs.Common.{◌≡◌, ◌⊎◌, inl, inr, ℕ, zero, suc, ◌<◌, Bool, true, false, cond, refl, sym, ap, subst}
+use Rattle.std.proofs.Common.{◌∙◌, arith, List, Ok, Err, length, Option, Some, None, All, ◌+◌, ◌||◌, [], ◌∷◌, map}
+use Rattle.std.proofs.Common.{rules}
+use Rattle.std.specs.List.{find, AllByRecursion}
 use Rattle.std.proofs.lemmas.Bool.{cases_eq, ne_eqb}
 use Rattle.std.proofs.lemmas.List.{length-map}
-use Rattle.game_rules.specs.declared.RuleKind.{RuleKind}
-use Rattle.game_rules.specs.declared.Outcome.TheVariants.{GoesOn}
-use Rattle.game_rules.specs.declared.Point.{Point}
-use Rattle.game_rules.proofs.Common.{WinsByThreats, Grid, points_of, is_same_point, outcome, after, LosesOr}
+use Rattle.proof_number.proofs.Common.{RuleKind, GoesOn, Point, WinsByThreats, Grid, points_of, is_same_point, outcome, after, LosesOr}
+use Rattle.proof_number.proofs.Common.{Attack, Defend, settled_numbers, IsOnWayUp, Tree, ancestor, link_at, numbers_at, IsTree}
+use Rattle.proof_number.proofs.Common.{packed, Node, depth, greatest, WrittenWin, IsWrittenWin, WinsByAnswers, Note, Search, Settled}
+use Rattle.proof_number.proofs.Common.{all_notes, among, note_at, noted_for, noted_win, or_first, win_of, board_at, left_at}
+use Rattle.proof_number.proofs.Common.{IsTrueMemo, IsAbove, IsSearching, KeepsTree, game_of, answer_of, no_note, IsGameTree, IsTrueOf}
+use Rattle.proof_number.proofs.Common.{IsLostAt, IsPassed, Searches, known_searching, SearchError}
 use Rattle.game_rules.proofs.Points.{points-found, is_same_point-itself, is_same_point-same}
 use Rattle.game_rules.proofs.Positions.{GoesOn-on}
-use Rattle.proof_tree.specs.declared.Kind.{Kind}
-use Rattle.proof_tree.specs.declared.Kind.TheVariants.{Attack, Defend}
-use Rattle.proof_tree.proofs.Common.{settled_numbers, IsOnWayUp, Tree, ancestor, link_at, numbers_at, IsTree}
 use Rattle.proof_tree.proofs.Settled.{ancestor-up}
-use Rattle.position_table.specs.Packing.{packed}
 use Rattle.position_table.specs.Remembering.{kept}
 use Rattle.position_table.proofs.Remembering.{true-kept}
-use Rattle.strategy_graph.specs.declared.Node.{Node}
-use Rattle.strategy_graph.proofs.Common.{depth, greatest}
-use Rattle.strategy_compiler.specs.declared.wins.WrittenWin.{WrittenWin}
-use Rattle.strategy_compiler.proofs.Common.{IsWrittenWin, AnswersWin, WinsByAnswers}
 use Rattle.strategy_compiler.proofs.Forks.{IsAnswer, alone-deep, answers-win, mapped-all}
-use Rattle.proof_number.specs.declared.notes.Note.{Note}
-use Rattle.proof_number.specs.declared.search.Search.{Search}
-use Rattle.proof_number.specs.declared.notes.Settled.{Settled}
-use Rattle.proof_number.proofs.Common.{all_notes, among, note_at, noted_for, noted_win, or_first, win_of, WinsAt, board_at, left_at}
-use Rattle.proof_number.proofs.Common.{IsTrueMemo, IsAbove, IsSearching, KeepsTree, game_of, answer_of, no_note, IsGameTree, IsTrueOf}
-use Rattle.proof_number.proofs.Common.{IsLostAt, IsPassed, Searches}
-use Rattle.proof_number.specs.Searches.Searches.{known_searching}
 use Rattle.proof_number.proofs.Opening.{searching-facts}
-use Rattle.strategy_compiler.specs.declared.error.SearchError.{SearchError}
 use Rattle.strategy_compiler.proofs.Growing.{writes-fails, writes-nothing, writes-tells}
 use Rattle.proof_number.proofs.Disproved.{lost-at}
 use Rattle.proof_number.proofs.GameTruths.{all-tell, position-at}
@@ -39,22 +26,10 @@ use Rattle.proof_number.proofs.GameTruths.{all-tell, position-at}
 -- ---- notes
 
 pub noted-some : (n : Note) (w : WrittenWin) → noted_win n ≡ Some w → (0 < n.moves) × (win_of n ≡ w)
-noted-some n w e = by_test (nat_eq n.moves 0) refl e where
-  by_test : (r : Bool) → nat_eq n.moves 0 ≡ r → cond r None (Some (win_of n)) ≡ Some w → (0 < n.moves) × (win_of n ≡ w)
-  by_test true t h = cc
-  by_test false t h = (positive n.moves t, cc) where
-    positive : (m : ℕ) → nat_eq m 0 ≡ false → 0 < m
-    positive zero b = cc
-    positive (suc m) b = omega arith
+noted-some n w e = search rules
 
 pub noted-none : (n : Note) → noted_win n ≡ None → n.moves ≡ 0
-noted-none n e = by_moves n.moves e where
-  by_moves : (m : ℕ) → cond (nat_eq m 0) None (Some (win_of n)) ≡ None → m ≡ 0
-  by_moves zero h = refl
-  by_moves (suc m) h =
-      let some : nat_eq (suc m) 0 ≡ false = ne_eqb (suc m) 0 (λ z. omega arith) in
-      let bad : Some (win_of n) ≡ None = sym (ap (λ r. cond r None (Some (win_of n))) some) ∙ h in
-      cc
+noted-none n e = search (rules, ne_eqb)
 
 -- ---- what stays
 
@@ -103,7 +78,7 @@ pub way-above : (rule : RuleKind) (s : Search) (t : Tree) (c : List Node) (node 
     → IsSearching rule s t c (IsOnWayUp t.links node) → IsSearching rule s t c (IsAbove t.links node)
 way-above rule s t c node has h = way-changed rule s t c (IsOnWayUp t.links node) (IsAbove t.links node)
     (λ i low attack proved beside. elim (cases_eq i node) [
-      | inl e ↦ inr (subst (λ (k : ℕ). 0 < (note_at s.notes.items k).moves) (sym e)
+      | inl e ↦ inr (rw e
           (has (ap (λ (k : ℕ). (link_at t.links k).kind) (sym e) ∙ attack) (ap (numbers_at t.numbers) (sym e) ∙ proved)))
       | inr other ↦ inl (λ way. beside (way, other))
     ]) h
@@ -134,8 +109,7 @@ pub lost-node : (rule : RuleKind) (s : Search) (t : Tree) (c : List Node) (way :
     → WinsByThreats rule (left_at (game_of rule s t).left node) (board_at (game_of rule s t) node) → ⊥
 lost-node rule s t c way node h inside attack lost wins =
     let told = all-tell h.tree h.game node inside in
-    told.disproved lost (subst (λ (k : Kind). WinsAt k rule (left_at (game_of rule s t).left node) (board_at (game_of rule s t) node))
-    (sym attack) wins)
+    told.disproved lost (rw attack wins)
 
 pub won-node : (rule : RuleKind) (s : Search) (t : Tree) (c : List Node) (way : ℕ → Type 0) (node : ℕ) → IsSearching rule s t c way
     → node < length t.links → (link_at t.links node).kind ≡ Attack
@@ -143,32 +117,30 @@ pub won-node : (rule : RuleKind) (s : Search) (t : Tree) (c : List Node) (way : 
     → WinsByThreats rule (left_at (game_of rule s t).left node) (board_at (game_of rule s t) node)
 won-node rule s t c way node h inside attack won =
     let told = all-tell h.tree h.game node inside in
-    subst (λ (k : Kind). WinsAt k rule (left_at (game_of rule s t).left node) (board_at (game_of rule s t) node)) attack (told.proved won)
+    rw attack at (told.proved won)
 
 -- ---- what is remembered
 
 pub remembered-searching : (rule : RuleKind) (s u : Search) (t : Tree) (c : List Node) (way : ℕ → Type 0)
     → u ≡ record s { settled = u.settled } → IsTrueMemo rule c (game_of rule s t) u.settled → IsSearching rule s t c way
     → IsSearching rule u t c way
-remembered-searching rule s u t c way rest table h = subst (λ (w : Search). IsSearching rule w t c way) (sym rest) (record {
-  tree = h.tree;
-  game = h.game;
-  depth = h.depth;
-  depth_fits = h.depth_fits;
-  budget_fits = h.budget_fits;
-  written = h.written;
-  remembered = table;
-  counted = h.counted;
-  compiled = h.compiled;
-  few = h.few;
-  wins = h.wins;
-})
+remembered-searching rule s u t c way rest table h =
+    rw rest (record {
+      tree = h.tree;
+      game = h.game;
+      depth = h.depth;
+      depth_fits = h.depth_fits;
+      budget_fits = h.budget_fits;
+      written = h.written;
+      remembered = table;
+      counted = h.counted;
+      compiled = h.compiled;
+      few = h.few;
+      wins = h.wins;
+    })
 
 pub remembered-keeps : (s u : Search) → u ≡ record s { settled = u.settled } → KeepsTree s u
-remembered-keeps s u rest = record {
-  rest = rest ∙ ap (λ (w : Search). record s { notes = w.notes; settled = u.settled }) (sym rest);
-  places = λ r t. ap (λ (w : Search). game_of r w t) rest;
-}
+remembered-keeps s u rest = search rules
 
 -- ---- a proved child
 
@@ -199,12 +171,7 @@ find-note q (m ∷ ns) n e = by_test (is_same_point q m.at) refl e (find-note q 
 
 find-nothing : (q : Point) (ns : List Note) → find (λ m. is_same_point q m.at) ns ≡ None → among (map (λ m. m.at) ns) q ≡ false
 find-nothing q [] e = refl
-find-nothing q (m ∷ ns) e = by_test (is_same_point q m.at) refl e (find-nothing q ns) where
-  by_test : (r : Bool) → is_same_point q m.at ≡ r → cond r (Some m) (find (λ x. is_same_point q x.at) ns) ≡ None
-      → (find (λ x. is_same_point q x.at) ns ≡ None → among (map (λ x. x.at) ns) q ≡ false)
-      → (r || among (map (λ x. x.at) ns) q) ≡ false
-  by_test true same found later = cc
-  by_test false apart found later = later found
+find-nothing q (m ∷ ns) e = search (rules, find-nothing q ns)
 
 -- the note for a move is one of them: that of the move, or the first where none has it
 pub record IsNoteFor (ns : List Note) (q : Point) (k : ℕ) : Type 0 where
@@ -237,7 +204,7 @@ pub all-below : (ns : List Note) (most : ℕ) → 0 < length ns → All (λ n. n
 all-below ns most some low [] = tt
 all-below ns most some low (p ∷ ps) =
     let found = note-for ns p some in
-    (subst (λ (n : Note). n.node < most) (sym found.1.is) (low found.0 no_note found.1.inside), all-below ns most some low ps)
+    (rw found.1.is (low found.0 no_note found.1.inside), all-below ns most some low ps)
 
 -- ---- the node with these answers
 
@@ -249,14 +216,11 @@ pub written-node : (rule : RuleKind) (b : Grid) (p : Point) → outcome rule b p
     → (i : ℕ) → WinsByAnswers t p (map answer_of ns) u i
     → IsWrittenWin rule (suc n) b u (record { node = i; moves = greatest (map (λ m. m.moves) ns) + 1 })
 written-node rule b p on t u ns n all none_saves each deep i by_answers =
-    let answers : AnswersWin rule n (after b p) t (map answer_of ns) =
-    answers-win rule n (after b p) t (map answer_of ns) none_saves
-    (λ q go. subst (λ (ps : List Point). list_any (is_same_point q) ps ≡ true) (sym (note-points ns ∙ all))
+    let answers = answers-win rule n (after b p) t (map answer_of ns) none_saves
+    (λ q go. rw (note-points ns ∙ all)
     (points-found (after b p) (is_same_point q) q (GoesOn-on rule (after b p) q go) (is_same_point-itself q)))
     (mapped-all (IsAnswer rule n (after b p) t) answer_of ns each) in
-    subst (λ (k : ℕ). IsWrittenWin rule (suc n) b u (record { node = i; moves = k + 1 }))
-    (alone-deep t (map answer_of ns) ∙ deep-notes (depth t) ns deep)
-    (by_answers rule n b on answers)
+    rw (alone-deep t (map answer_of ns) ∙ deep-notes (depth t) ns deep) at (by_answers rule n b on answers)
 
 module _ {rule : RuleKind} {s : Search} {t : Tree} {c : List Node} {node : ℕ}
     (searches : Searches rule s t c (IsOnWayUp t.links node)) where
@@ -270,8 +234,7 @@ module _ {rule : RuleKind} {s : Search} {t : Tree} {c : List Node} {node : ℕ}
       → IsWrittenWin rule (left_at (game_of rule s t).left node) (board_at (game_of rule s t) node) c w
   noted-written inside w e =
       let noted = noted-some (note_at s.notes.items node) w e in
-      subst (λ (x : WrittenWin). IsWrittenWin rule (left_at (game_of rule s t).left node) (board_at (game_of rule s t) node) c x) noted.1
-      (h.written.true_wins node inside noted.0).0
+      rw noted.1 at (h.written.true_wins node inside noted.0).0
 
   pub noted-searches : (w : WrittenWin) → noted_win (note_at s.notes.items node) ≡ Some w → Searches rule s t c (IsAbove t.links node)
   noted-searches w e = known_searching (way-above rule s t c node (λ attack proved. (noted-some (note_at s.notes.items node) w e).0) h)
@@ -321,29 +284,15 @@ module _ {rule : RuleKind} {s : Search} {t : Tree} {c : List Node} {node : ℕ} 
       remembered-searching rule s u t c (IsAbove t.links node) rest
       (true-kept rule (IsTrueOf rule c (game_of rule s t)) (board_at (game_of rule s t) node) w n v s.settled
       (position-at above.tree.linked above.game node inside) there above.remembered u.settled
-      (subst (λ (m : ℕ). IsTrueOf rule c (game_of rule s t) (board_at (game_of rule s t) node) m v) (sym left) true_of) keeps) above)
+      (rw left true_of) keeps) above)
 
   pub above-inside : node < length t.links → node < length s.notes.items
-  above-inside inside = let long = length-map s.notes.items (λ (n : Note). n.at) in let e =
-      above.game.moves in omega (arith, long, e, inside)
+  above-inside inside = search (rules, length-map)
 
 -- the board that the moves are played on changes nothing else
 pub board-searches : (rule : RuleKind) (s u : Search) (t : Tree) (c : List Node) (way : ℕ → Type 0) → u ≡ record s { board = u.board }
     → Searches rule s t c way → Searches rule u t c way
-board-searches rule s u t c way rest is = let h = searching-facts is in
-    known_searching (subst (λ (w : Search). IsSearching rule w t c way) (sym rest) (record {
-      tree = h.tree;
-      game = h.game;
-      depth = h.depth;
-      depth_fits = h.depth_fits;
-      budget_fits = h.budget_fits;
-      written = h.written;
-      remembered = h.remembered;
-      counted = h.counted;
-      compiled = h.compiled;
-      few = h.few;
-      wins = h.wins;
-    }))
+board-searches rule s u t c way rest is = search (rules, searching-facts)
 
 -- ---- a node that is passed
 
@@ -351,19 +300,11 @@ module _ {rule : RuleKind} {s u : Search} {t : Tree} {c d : List Node} {node : �
   -- as the last call in it failed
   pub passed-fails : {A B : Type 0} {e : SearchError} → IsPassed {A = A} rule s u t c d node (Err e)
       → IsPassed {A = B} rule s u t c d node (Err e)
-  passed-fails {A = A} {e = e} passed = record {
-    searching = tt;
-    keeps = passed.keeps;
-    writes = writes-fails {A = A} c d _ _ e (Err e) passed.writes (omega arith) refl;
-  }
+  passed-fails {A = A} {e = e} passed = search (rules, writes-fails)
 
   -- with another answer than the last call in it
   pub passed-tells : {A B : Type 0} {x : A} (y : B) → IsPassed rule s u t c d node (Ok x) → IsPassed rule s u t c d node (Ok y)
-  passed-tells {x = x} y passed = record {
-    searching = passed.searching;
-    keeps = passed.keeps;
-    writes = writes-tells c d _ _ x y passed.writes (omega arith);
-  }
+  passed-tells {x = x} y passed = search (rules, writes-tells)
 
 -- with nothing written
 pub passed-idle : {A : Type 0} {rule : RuleKind} {s : Search} {t : Tree} {c : List Node} {node : ℕ} (y : A)

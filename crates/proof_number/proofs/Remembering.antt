@@ -1,17 +1,9 @@
 -- What is remembered of positions stays true while the compiler grows, and where the tree changes and keeps its disproved nodes.
-use Rattle.std.proofs.Common.{◌≡◌, sym, subst, ℕ, List, ◌++◌}
-use Rattle.game_rules.proofs.Common.{Grid}
-use Rattle.game_rules.specs.declared.RuleKind.{RuleKind}
-use Rattle.position_table.specs.Remembering.{Remembered}
+use Rattle.std.proofs.Common.{◌≡◌, sym, subst, ℕ, List, ◌++◌, rules}
+use Rattle.proof_number.proofs.Common.{Grid, RuleKind, Remembered, Node, NamesLower, Kind, Attack, Defend, Settled, Won, Lost, IsLost}
+use Rattle.proof_number.proofs.Common.{GameTree, IsDisproved, IsLostAt, IsTrueOf, IsTrueMemo, IsRefuted}
 use Rattle.position_table.proofs.Remembering.{true-weaker}
-use Rattle.strategy_graph.specs.declared.Node.{Node}
-use Rattle.strategy_graph.proofs.Common.{NamesLower}
 use Rattle.strategy_compiler.proofs.Growing.{growth_keeps-wins}
-use Rattle.proof_tree.specs.declared.Kind.{Kind}
-use Rattle.proof_tree.specs.declared.Kind.TheVariants.{Attack, Defend}
-use Rattle.proof_number.specs.declared.notes.Settled.{Settled}
-use Rattle.proof_number.specs.declared.notes.Settled.TheVariants.{Won, Lost}
-use Rattle.proof_number.proofs.Common.{IsLost, IsRefuted, GameTree, IsDisproved, IsLostAt, IsTrueOf, IsTrueMemo}
 use Rattle.proof_number.proofs.DenialLaws.{lost-more, refuted-more}
 
 true-of-grown : (rule : RuleKind) (g : GameTree) (c more : List Node) → NamesLower c → (b : Grid) (n : ℕ) (v : Settled)
@@ -21,8 +13,7 @@ true-of-grown rule g c more lower b n Lost h = h
 
 pub memo-grown : (rule : RuleKind) (g : GameTree) (c more : List Node) (m : Remembered Settled) → NamesLower c → IsTrueMemo rule c g m
     → IsTrueMemo rule (c ++ more) g m
-memo-grown rule g c more m lower memo =
-    true-weaker rule (IsTrueOf rule c g) (IsTrueOf rule (c ++ more) g) (true-of-grown rule g c more lower) m memo
+memo-grown rule g c more m lower memo = search (rules, true-weaker, true-of-grown)
 
 -- ---- the tree changes, and disproved nodes stay
 

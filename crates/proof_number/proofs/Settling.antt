@@ -1,26 +1,17 @@
 -- What becomes of a tree of the game, of what is written, and of the counts where a leaf is settled.
-use Rattle.std.proofs.Common.{◌≡◌, ◌≢◌, ◌⊎◌, inl, inr, ℕ, ◌+◌, ◌<◌, ◌≤◌, Bool, true, false, cond, not, ◌&&◌, refl, sym, ap, subst, ◌∙◌}
-use Rattle.std.proofs.Common.{arith, List, ◌++◌, length, nat_eq, ◌*◌}
+use Rattle.std.proofs.Common.{◌≡◌, ◌≢◌, ◌⊎◌, inl, inr, ℕ, ◌+◌, ◌<◌, ◌≤◌, Bool, true, false, cond, not}
+use Rattle.std.proofs.Common.{◌&&◌, refl, sym, ap, subst, ◌∙◌, arith, List, ◌++◌, length, nat_eq, ◌*◌, rules}
 use Rattle.std.proofs.lemmas.Bool.{cases_eq, eq-eqb, ne_eqb}
-use Rattle.game_rules.specs.declared.RuleKind.{RuleKind}
-use Rattle.strategy_graph.specs.declared.Node.{Node}
+use Rattle.proof_number.proofs.Common.{RuleKind, Node, is_settled, settled_numbers, IsOnWayUp, IsTree, OthersStay, leaf_sum, link_at}
+use Rattle.proof_number.proofs.Common.{most_proving, numbers_at, Tree, Kind, Attack, Defend, Numbers, Note, note_at, win_of, GameTree}
+use Rattle.proof_number.proofs.Common.{IsGameTree, TellsTruly, WinsAt, board_at, left_at, AreWritten, IsNotedWin, IsDisproved, IsLostAt}
+use Rattle.proof_number.proofs.Common.{IsCounted, attacks_behind, behind_at, behind_leaves, closed_nodes, is_open_leaf, is_attack}
+use Rattle.proof_number.proofs.Common.{sum_below, unproved, unwritten, IsBare, Grid, after, NamesLower}
 use Rattle.strategy_compiler.proofs.Growing.{growth_keeps-wins}
-use Rattle.proof_tree.proofs.Common.{is_settled, settled_numbers, IsOnWayUp, IsTree, OthersStay, leaf_sum, link_at, most_proving}
-use Rattle.proof_tree.proofs.Common.{numbers_at, Tree}
-use Rattle.proof_tree.specs.declared.Kind.{Kind}
-use Rattle.proof_tree.specs.declared.Kind.TheVariants.{Attack, Defend}
-use Rattle.proof_tree.specs.declared.Numbers.{Numbers}
 use Rattle.proof_tree.proofs.Settled.{leaf-beside, settled-test}
-use Rattle.proof_number.specs.declared.notes.Note.{Note}
-use Rattle.proof_number.proofs.Common.{note_at, win_of, GameTree, IsGameTree, TellsTruly, WinsAt, board_at, left_at, AreWritten, IsNotedWin}
-use Rattle.proof_number.proofs.Common.{IsDisproved, IsLostAt}
-use Rattle.proof_number.proofs.Common.{IsCounted, attacks_behind, behind_at, behind_leaves, closed_nodes, defences_behind, is_open_leaf}
-use Rattle.proof_number.proofs.Common.{is_attack, sum_below, unproved, unwritten, IsBare}
 use Rattle.proof_number.proofs.Remembering.{lost-kept}
 use Rattle.proof_number.proofs.Staying.{beside-proved, settled-stays}
 use Rattle.proof_number.proofs.Sums.{sum-less}
-use Rattle.game_rules.proofs.Common.{Grid, after}
-use Rattle.strategy_graph.proofs.Common.{NamesLower}
 use Rattle.threat_game.proofs.TreeLaws.{one_where}
 
 -- ---- the way up
@@ -52,21 +43,7 @@ unwritten-less f t notes more node inside attack none some same =
 -- a node that is proved keeps its numbers: so no more are unproved
 pub unproved-less : (t u : Tree) (i : ℕ) → (link_at u.links i).kind ≡ (link_at t.links i).kind
     → ((numbers_at t.numbers i).proof ≡ 0 → numbers_at u.numbers i ≡ numbers_at t.numbers i) → unproved u i ≤ unproved t i
-unproved-less t u i kind stays = by_proof (cases_eq (numbers_at t.numbers i).proof 0) where
-  less : (a r : Bool) → one_where (a && r) ≤ one_where (a && true)
-  less true true = omega arith
-  less true false = omega arith
-  less false r = omega arith
-
-  by_proof : ((numbers_at t.numbers i).proof ≡ 0) ⊎ ((numbers_at t.numbers i).proof ≡ 0 → ⊥) → unproved u i ≤ unproved t i
-  by_proof (inl none) =
-      let a = ap (λ (k : Kind). one_where (is_attack k && not (nat_eq (numbers_at u.numbers i).proof 0))) kind in
-      let b = ap (λ (n : Numbers). one_where (is_attack (link_at t.links i).kind && not (nat_eq n.proof 0))) (stays none) in
-      omega (arith, a, b)
-  by_proof (inr some) =
-      let a = ap (λ (k : Kind). one_where (is_attack k && not (nat_eq (numbers_at u.numbers i).proof 0))) kind in
-      let b = ap (λ r. one_where (is_attack (link_at t.links i).kind && not r)) (ne_eqb (numbers_at t.numbers i).proof 0 some) in
-      omega (arith, a, b, less (is_attack (link_at t.links i).kind) (not (nat_eq (numbers_at u.numbers i).proof 0)))
+unproved-less t u i kind stays = search (rules, cases_eq, one_where, ne_eqb)
 
 -- ---- a leaf is settled
 
@@ -87,15 +64,7 @@ module _ (g : GameTree) (ok : IsTree g.tree) (numbers : List Numbers) (leaf : �
   -- a node that is disproved stays so
   pub disproved-settled : is_settled (numbers_at g.tree.numbers 0) ≡ false → leaf ≡ most_proving g.tree → (n : ℕ) (b : Grid)
       → IsDisproved g n b → IsDisproved After n b
-  disproved-settled root_open leaf_is n b is = record {
-    node = is.node;
-    inside = is.inside;
-    attack = is.attack;
-    disproved = settled-stays g.tree ok root_open leaf leaf_is numbers others is.node is.disproved;
-    several = is.several;
-    left_is = is.left_is;
-    board_is = is.board_is;
-  }
+  disproved-settled root_open leaf_is n b is = search (rules, settled-stays)
 
   lost-test : (r : Bool) → settled_numbers r ≡ settled_numbers false → r ≡ false
   lost-test false e = refl
@@ -122,8 +91,7 @@ module _ (g : GameTree) (ok : IsTree g.tree) (numbers : List Numbers) (leaf : �
       | inl same ↦
           subst (λ (k : ℕ). TellsTruly (numbers_at numbers k)
           (WinsAt (link_at g.tree.links k).kind g.rule (left_at g.left k) (board_at g k))) (sym same)
-          (subst (λ (n : Numbers). TellsTruly n (WinsAt (link_at g.tree.links leaf).kind g.rule (left_at g.left leaf) (board_at g leaf)))
-          (sym here) truth)
+          (rw here truth)
       | inr other ↦ subst (λ (n : Numbers). TellsTruly n (WinsAt (link_at g.tree.links i).kind g.rule (left_at g.left i) (board_at g i)))
           (sym (other-leaf i none other)) (game.leaf i low none)
     ];
@@ -157,8 +125,7 @@ module _ (g : GameTree) (ok : IsTree g.tree) (numbers : List Numbers) (leaf : �
       at-leaf false e = let less = stays leaf in let zero_more = ap one_where e in omega (arith, less, zero_more)
       at-leaf true e =
           let one = ap one_where e in
-          let now : unproved After.tree leaf ≡ 0 =
-          ap (λ (k : Kind). one_where (is_attack k && not (nat_eq (numbers_at numbers leaf).proof 0))) (attack e)
+          let now = ap (λ (k : Kind). one_where (is_attack k && not (nat_eq (numbers_at numbers leaf).proof 0))) (attack e)
           ∙ ap (λ (n : Numbers). one_where (not (nat_eq n.proof 0))) (here ∙ ap settled_numbers e) in
           let was : unproved g.tree leaf ≡ 1 =
           ap (λ (k : Kind). one_where (is_attack k && not (nat_eq (numbers_at g.tree.numbers leaf).proof 0))) (attack e)
@@ -204,8 +171,7 @@ module _ (g : GameTree) (ok : IsTree g.tree) (numbers : List Numbers) (leaf : �
         let is = written.met i low defend some q on none in
         let first : ℕ = (link_at g.tree.links i).first in
         let other : first ≢ leaf = λ e.
-        let nothing : (note_at notes first).moves ≡ 0 = ap (λ (k : ℕ). (note_at notes k).moves) e
-        ∙ written.fresh leaf inside childless unsettled in
+        let nothing = ap (λ (k : ℕ). (note_at notes k).moves) e ∙ written.fresh leaf inside childless unsettled in
         let positive = is.some in
         omega (arith, nothing, positive) in
         record {
@@ -235,19 +201,11 @@ module _ (g : GameTree) (ok : IsTree g.tree) (numbers : List Numbers) (leaf : �
 
   behind-here : (f : Kind → RuleKind → ℕ → Grid → ℕ)
       → behind_at f After leaf ≡ 0
-  behind-here f =
-      ap (λ r. cond (r && not (is_settled (numbers_at numbers leaf)))
-      (f (link_at g.tree.links leaf).kind g.rule (left_at g.left leaf) (board_at g leaf)) 0)
-      (eq-eqb (link_at g.tree.links leaf).count 0 childless)
-      ∙ ap (λ r. cond (not r) (f (link_at g.tree.links leaf).kind g.rule (left_at g.left leaf) (board_at g leaf)) 0) is-settled
+  behind-here f = search (rules, eq-eqb, is-settled)
 
   pub behind-before : (f : Kind → RuleKind → ℕ → Grid → ℕ)
       → behind_at f g leaf ≡ f (link_at g.tree.links leaf).kind g.rule (left_at g.left leaf) (board_at g leaf)
-  behind-before f =
-      ap (λ r. cond (r && not (is_settled (numbers_at g.tree.numbers leaf)))
-      (f (link_at g.tree.links leaf).kind g.rule (left_at g.left leaf) (board_at g leaf)) 0)
-      (eq-eqb (link_at g.tree.links leaf).count 0 childless)
-      ∙ ap (λ r. cond (not r) (f (link_at g.tree.links leaf).kind g.rule (left_at g.left leaf) (board_at g leaf)) 0) unsettled
+  behind-before f = search (rules, eq-eqb)
 
   pub behind-settled : (f : Kind → RuleKind → ℕ → Grid → ℕ)
       → behind_leaves f After + f (link_at g.tree.links leaf).kind g.rule (left_at g.left leaf) (board_at g leaf) ≤ behind_leaves f g
@@ -292,16 +250,7 @@ module _ (g : GameTree) (ok : IsTree g.tree) (numbers : List Numbers) (leaf : �
       → more + 2 * sum_below (length g.tree.links) (unproved After.tree) ≤ attacked + 2 * sum_below (length g.tree.links) (unproved g.tree)
       → ((kind : Kind) → leaf_sum kind g.tree.links numbers ≤ leaf_sum kind g.tree.links g.tree.numbers)
       → IsCounted After budget more defended
-  counted-settled budget attacked defended more counted grows fits behind few sums = record {
-    attacks = let a = counted.attacks in let b = behind-settled attacks_behind in omega (arith, a, b, behind);
-    defences = let a = counted.defences in let b = behind-settled defences_behind in omega (arith, a, b);
-    attackers = let a = counted.attackers in omega (arith, a, grows);
-    few_attacks = let a = counted.few_attacks in omega (arith, a, few);
-    defenders = counted.defenders;
-    attacked_fits = fits;
-    defended_fits = counted.defended_fits;
-    leaves = λ kind some. let a = counted.leaves kind some in let b = sums kind in omega (arith, a, b);
-  }
+  counted-settled budget attacked defended more counted grows fits behind few sums = search (rules, behind-settled)
 
 -- ---- the compiler grows
 

@@ -1,10 +1,8 @@
 -- A proved or disproved node stays so where the most-proving leaf is settled or gets children.
-use Rattle.std.proofs.Common.{◌≡◌, ◌∙◌, ℕ, zero, suc, ◌<◌, false, refl, sym, ap, subst, arith, List, ◌++◌, length}
+use Rattle.std.proofs.Common.{rules, ◌≡◌, ◌∙◌, ℕ, zero, suc, ◌<◌, false, refl, sym, ap, arith, List, ◌++◌, length}
 use Rattle.std.proofs.lemmas.List.{get_or_append_left}
-use Rattle.proof_tree.specs.declared.Link.{Link}
-use Rattle.proof_tree.specs.declared.Numbers.{Numbers}
-use Rattle.proof_tree.proofs.Common.{IsOnWayUp, IsTree, OthersStay, Tree, ancestor, is_settled, link_at, most_proving, no_numbers}
-use Rattle.proof_tree.proofs.Common.{numbers_at, settled_numbers}
+use Rattle.proof_number.proofs.Common.{Link, Numbers, IsOnWayUp, IsTree, OthersStay, Tree, ancestor, is_settled, link_at, most_proving}
+use Rattle.proof_number.proofs.Common.{no_numbers, numbers_at, settled_numbers}
 use Rattle.proof_tree.proofs.OpenWays.{way-open}
 use Rattle.proof_tree.proofs.Settled.{ancestor-inside}
 
@@ -12,18 +10,11 @@ module _ (t : Tree) (ok : IsTree t) (root_open : is_settled (numbers_at t.number
   where
     -- it is not on the way up from the leaf
     beside-way : (j : ℕ) → numbers_at t.numbers j ≡ settled_numbers false → IsOnWayUp t.links leaf j → ⊥
-    beside-way j lost way =
-        let is = way-open t ok root_open j (subst (λ (i : ℕ). IsOnWayUp t.links i j) leaf_is way) in
-        let some = is.disproof_above in
-        let none : (numbers_at t.numbers j).disproof ≡ 0 = ap (λ (n : Numbers). n.disproof) lost in
-        omega (arith, none, some)
+    beside-way j lost way = search (rules, way-open)
 
     -- nor is a proved one
     pub beside-proved : (j : ℕ) → (numbers_at t.numbers j).proof ≡ 0 → IsOnWayUp t.links leaf j → ⊥
-    beside-proved j none way =
-        let is = way-open t ok root_open j (subst (λ (i : ℕ). IsOnWayUp t.links i j) leaf_is way) in
-        let some = is.proof_above in
-        omega (arith, none, some)
+    beside-proved j none way = search (rules, way-open)
 
     pub settled-stays : (numbers : List Numbers) → OthersStay t.links leaf t.numbers numbers → (j : ℕ)
         → numbers_at t.numbers j ≡ settled_numbers false → numbers_at numbers j ≡ settled_numbers false

@@ -1,22 +1,14 @@
 -- A step of the search from the root to a leaf and back, of its parts.
-use Rattle.std.proofs.Common.{◌≡◌, ◌∙◌, ℕ, ◌+◌, ◌<◌, ◌≤◌, false, sym, ap, subst, arith, length, List, Ok}
-use Rattle.std.proofs.Common.{Err, OnOk, Result}
+use Rattle.std.proofs.Common.{◌≡◌, ◌∙◌, ℕ, ◌+◌, ◌<◌, ◌≤◌, false, sym, ap, subst, arith, length, List, Ok, rules}
+use Rattle.std.proofs.Common.{Err, Result}
 use Rattle.std.proofs.lemmas.List.{length-append}
-use Rattle.game_rules.proofs.Common.{Grid}
-use Rattle.game_rules.specs.declared.RuleKind.{RuleKind}
-use Rattle.strategy_graph.specs.declared.Node.{Node}
-use Rattle.strategy_compiler.specs.declared.error.SearchError.{SearchError}
-use Rattle.strategy_compiler.proofs.Common.{Writes}
+use Rattle.proof_number.proofs.Common.{Grid, RuleKind, Node, SearchError, Writes, is_settled, IsOnWayUp, IsTree, Tree, link_at}
+use Rattle.proof_number.proofs.Common.{most_proving, numbers_at, Search, Step, Done, known_searching, GameTree, IsGameTree}
+use Rattle.proof_number.proofs.Common.{board_at, Grows, HasGrown, HasSpent, HasStayed, IsSameAim, HasStepped, IsAbove, IsBack, IsPassed}
+use Rattle.proof_number.proofs.Common.{KeepsTree, IsOverBudget, IsSearching, IsStep, IsTried, OnStep, Searches, StandsAt, game_of}
+use Rattle.proof_number.proofs.Common.{most_nodes, room_in, nodes_so_far}
 use Rattle.strategy_compiler.proofs.Growing.{writes-fails, writes-tells, writes-then}
-use Rattle.proof_tree.proofs.Common.{is_settled, IsOnWayUp, IsTree, Tree, link_at, most_proving, numbers_at}
-use Rattle.threat_game.proofs.Common.{threat_tree}
-use Rattle.proof_number.specs.declared.search.Search.{Search}
-use Rattle.proof_number.specs.declared.search.Step.{Step}
-use Rattle.proof_number.specs.declared.search.Step.TheVariants.{Done, Spent}
-use Rattle.proof_number.proofs.Common.{known_searching, known_at_leaf, GameTree, IsGameTree, board_at, Grows, HasGrown}
-use Rattle.proof_number.proofs.Common.{HasSpent, HasStayed, IsSameAim, HasStepped, IsAbove, IsBack, IsPassed, KeepsTree, IsOverBudget}
-use Rattle.proof_number.proofs.Common.{IsSearching, IsStep, IsTried, OnStep, Searches, StandsAt, game_of, most_nodes, room_in}
-use Rattle.proof_number.proofs.Common.{nodes_so_far}
+use Rattle.proof_number.specs.declared.search.Step.TheVariants.{Spent}
 use Rattle.proof_number.proofs.Opening.{grown-facts, searching-facts}
 use Rattle.proof_number.proofs.RunningOut.{out-aim}
 use Rattle.std.proofs.lemmas.Result.{on_ok_weaker}
@@ -38,27 +30,15 @@ module _ {rule : RuleKind} {s : Search} {t : Tree} {c : List Node} (searches : S
       → moved ≡ record s { board = moved.board } → leaf ≡ most_proving t → leaf < length t.links → (link_at t.links leaf).count ≡ 0
       → is_settled (numbers_at t.numbers leaf) ≡ false → view ≡ board_at (game_of rule s t) leaf
       → moved.board ≡ board_at (game_of rule s t) leaf → StandsAt rule moved t c leaf view
-  stands-there moved leaf view root_open rest is low none leaf_open view_is board_is = known_at_leaf (
-      let same : board_at (game_of rule s t) leaf ≡ board_at (game_of rule moved t) leaf =
-      sym (ap (λ (w : Search). board_at (game_of rule w t) leaf) rest) in
-      record {
-        searching = searching-facts (board-searches rule s moved t c (λ i. ⊥) rest searches);
-        root_open = root_open;
-        leaf_is = is;
-        in_tree = low;
-        childless = none;
-        leaf_open = leaf_open;
-        view_is = view_is ∙ same;
-        board_is = board_is ∙ same;
-      })
+  stands-there moved leaf view root_open rest is low none leaf_open view_is board_is = search (rules, searching-facts, board-searches)
 
 -- ---- what a step did
 
 pub on-done : (x : Step) (D S E : Type 0) → x ≡ Done → OnStep (Ok x) D S E → D
-on-done x D S E e h = subst (λ (y : Step). OnStep (Ok y) D S E) e h
+on-done x D S E e h = rw e at h
 
 pub on-spent : (x : Step) (D S E : Type 0) → x ≡ Spent → OnStep (Ok x) D S E → S
-on-spent x D S E e h = subst (λ (y : Step). OnStep (Ok y) D S E) e h
+on-spent x D S E e h = rw e at h
 
 -- the leaf was tried, and what it came to
 module _ {rule : RuleKind} {s v : Search} {t u : Tree} {c d : List Node} {leaf : ℕ} {x : Step}
@@ -78,20 +58,10 @@ module _ {rule : RuleKind} {s v : Search} {t u : Tree} {c d : List Node} {leaf :
 -- ---- what stays
 
 pub moved-aim : (s moved : Search) → moved ≡ record s { board = moved.board } → IsSameAim s moved
-moved-aim s moved rest = record {
-  depth = ap (λ (w : Search). w.depth) rest;
-  budget = ap (λ (w : Search). w.budget) rest;
-  before = ap (λ (w : Search). w.before) rest;
-  root = ap (λ (w : Search). w.root) rest;
-}
+moved-aim s moved rest = search rules
 
 pub aim-then : (s u v : Search) → IsSameAim s u → IsSameAim u v → IsSameAim s v
-aim-then s u v first second = record {
-  depth = second.depth ∙ first.depth;
-  budget = second.budget ∙ first.budget;
-  before = second.before ∙ first.before;
-  root = second.root ∙ first.root;
-}
+aim-then s u v first second = search rules
 
 -- the step leaves the tree as it was
 module _ (rule : RuleKind) (s moved v : Search) (t u : Tree) (rest : moved ≡ record s { board = moved.board })
@@ -115,12 +85,7 @@ module _ (rule : RuleKind) (s moved v : Search) (t u : Tree) (rest : moved ≡ r
   stayed-root = ap (λ (w : Search). w.root) stays.keeps.rest ∙ ap (λ (w : Search). w.root) rest
 
   pub stayed-aim : (w : Search) → w ≡ record v { board = w.board } → IsSameAim s w
-  stayed-aim w back = record {
-    depth = ap (λ (x : Search). x.depth) back ∙ ap (λ (x : Search). x.depth) stays.keeps.rest ∙ ap (λ (x : Search). x.depth) rest;
-    budget = ap (λ (x : Search). x.budget) back ∙ ap (λ (x : Search). x.budget) stays.keeps.rest ∙ ap (λ (x : Search). x.budget) rest;
-    before = ap (λ (x : Search). x.before) back ∙ ap (λ (x : Search). x.before) stays.keeps.rest ∙ ap (λ (x : Search). x.before) rest;
-    root = ap (λ (x : Search). x.root) back ∙ ap (λ (x : Search). x.root) stays.keeps.rest ∙ ap (λ (x : Search). x.root) rest;
-  }
+  stayed-aim w back = search rules
 
   pub stayed-inside : (leaf : ℕ) → leaf < length t.links → leaf < length u.links
   stayed-inside leaf = subst (λ (w : Tree). leaf < length w.links) (sym stays.same)
@@ -163,9 +128,8 @@ module _ {rule : RuleKind} {s v : Search} {t u : Tree} {d : List Node} {leaf : �
     module _ {c e : List Node} {w : Search} {x : Step} (first : Writes c d (room_in (most_nodes rule s) c) (Ok x)) where
       back-writes : {r : Result (Unit {0}) SearchError} → IsBack rule v w u d e r → Writes c e (room_in (most_nodes rule before) c) r
       back-writes {r = r} back =
-          let limit : nodes_so_far rule v ≤ most_nodes rule s =
-          subst (λ (k : ℕ). nodes_so_far rule v ≤ k) (most-same rule grown.aim) (counted-most grown.searching) in
-          subst (λ (k : ℕ). Writes c e (room_in k c) r) (most-same rule (moved-aim before s rest)) (writes-on first limit back.writes)
+          let limit = rw (most-same rule grown.aim) at (counted-most grown.searching) in
+          rw (most-same rule (moved-aim before s rest)) at (writes-on first limit back.writes)
 
       pub back-done : {y : Unit {0}} → IsBack rule v w u d e (Ok y) → IsStep rule before w t u c e (Ok Done)
       back-done {y = y} back = record {
@@ -180,9 +144,7 @@ module _ {rule : RuleKind} {s v : Search} {t u : Tree} {d : List Node} {leaf : �
       pub back-fails : {r : Result Step SearchError} (error : SearchError) → IsBack rule v w u d e (Err error) → r ≡ Err error
           → IsStep rule before w t u c e r
       back-fails {r = r} error back is = record {
-        came = subst (λ (q : Result Step SearchError). OnStep q (HasStepped rule w t u e) (IsOverBudget rule before t u) (Unit {0}))
-            (sym is)
-            tt;
+        came = rw is tt;
         aim = aim-then before v w grown-aim back.aim;
         board = back.board ∙ grown-aim.root;
         tree = grown.searching.tree;
@@ -202,8 +164,8 @@ module _ {rule : RuleKind} {s : Search} {t : Tree} {c : List Node} (searching : 
     aim = stayed-aim rule s moved v t u rest stays w back;
     board = board ∙ stayed-root rule s moved v t u rest stays;
     tree = stayed-tree rule s moved v t u rest stays (searched-tree searching);
-    longer = subst (λ (x : Tree). length t.links ≤ length x.links) (sym stays.same) (omega arith);
-    writes = subst (λ (k : ℕ). Writes c d (room_in k c) r) (most-same rule (moved-aim s moved rest)) writes;
+    longer = rw stays.same (omega arith);
+    writes = rw (most-same rule (moved-aim s moved rest)) at writes;
   }
 
   pub spent-step : {moved v w : Search} {u : Tree} {d : List Node} {leaf : ℕ} {x : Step} → moved ≡ record s { board = moved.board }
@@ -214,19 +176,14 @@ module _ {rule : RuleKind} {s : Search} {t : Tree} {c : List Node} (searching : 
       stayed-step rest (spent-stays tried is) back board
       (record {
         same = spent.same;
-        spent = subst (λ (y : Search). y.budget < threat_tree rule y.depth y.root) rest spent.spent;
+        spent = rw rest at spent.spent;
         ran_out = out-aim (moved-aim s moved rest) spent.ran_out;
-      }) (subst (λ (y : Step). Writes c d (room_in (most_nodes rule moved) c) (Ok y)) is tried.writes)
+      }) (rw is at tried.writes)
 
 -- ---- the way back
 
 keeps-aim : (s u : Search) → KeepsTree s u → IsSameAim s u
-keeps-aim s u keeps = record {
-  depth = ap (λ (w : Search). w.depth) keeps.rest;
-  budget = ap (λ (w : Search). w.budget) keeps.rest;
-  before = ap (λ (w : Search). w.before) keeps.rest;
-  root = ap (λ (w : Search). w.root) keeps.rest;
-}
+keeps-aim s u keeps = search rules
 
 -- the root is passed
 pub root-back : {rule : RuleKind} {s u : Search} {t : Tree} {c d : List Node} {node : ℕ} {r : Result (Unit {0}) SearchError} → node ≡ 0
@@ -265,8 +222,8 @@ pub node-refused : {rule : RuleKind} {s u w : Search} {t : Tree} {c d : List Nod
 node-refused {rule = rule} {s = s} {u = u} {w = w} {t = t} {c = c} {d = d} {r = r} e is passed rest board =
     let first = keeps-aim s u passed.keeps in
     record {
-      searching = subst (λ (q : Result (Unit {0}) SearchError). OnOk q (Searches rule w t d (λ i. ⊥))) (sym is) tt;
+      searching = rw is tt;
       aim = aim-then s u w first (moved-aim u w rest);
       board = board ∙ first.root;
-      writes = subst (Writes c d (room_in (nodes_so_far rule s) c)) (sym is) passed.writes;
+      writes = rw is passed.writes;
     }

@@ -1,47 +1,32 @@
 -- The steps of a search, in the words of its contracts. Steps at a leaf of the attacker whose win is compiled at once: what is counted
 -- fits, and so do the nodes.
 use Rattle.std.proofs.Common.{◌≡◌, ℕ, ◌+◌, ◌<◌, ◌≤◌, Bool, true, false, inl, sym, ap, subst, ◌∙◌, arith, List}
-use Rattle.std.proofs.Common.{[], ◌++◌, append-nil, length, Some, Result, Ok, Err, refl, cond, ◌&&◌, not, nat_eq}
-use Rattle.std.proofs.lemmas.List.{get_or-map, length-map}
+use Rattle.std.proofs.Common.{[], ◌++◌, append-nil, get_or, length, Some, Result, Ok, Err, refl, cond, ◌&&◌, not, rules}
+use Rattle.std.proofs.lemmas.List.{get_or-map, get_or_default, length-map}
 use Rattle.std.proofs.lemmas.Bool.{eq-eqb}
-use Rattle.game_rules.specs.declared.RuleKind.{RuleKind}
-use Rattle.game_rules.proofs.Common.{Grid, IsPosition, mover, WinsByThreats, has_five}
-use Rattle.proof_tree.specs.declared.Kind.{Kind}
-use Rattle.proof_tree.specs.declared.Kind.TheVariants.{Attack}
-use Rattle.proof_tree.proofs.Common.{is_settled, settled_numbers, IsTree, OthersStay, Tree, leaf_sum, link_at, most_proving, numbers_at}
-use Rattle.position_table.specs.Packing.{Packed, packed}
-use Rattle.position_table.specs.Remembering.{value_under, looked_up}
+use Rattle.proof_number.proofs.Common.{RuleKind, Grid, IsPosition, mover, WinsByThreats, has_five, Kind, Attack, is_settled, WinsAt}
+use Rattle.proof_number.proofs.Common.{settled_numbers, IsTree, OthersStay, Tree, leaf_sum, link_at, most_proving, numbers_at, packed}
+use Rattle.proof_number.proofs.Common.{value_under, looked_up, Node, SearchError, WrittenWin, IsCompiled, GrowsBy, Writes, DoublePoint}
+use Rattle.proof_number.proofs.Common.{threat_tree, IsThreatWin, IsDoubleWin, answer_nodes, is_last_move, Step, Done, known_grown}
+use Rattle.proof_number.proofs.Common.{IsSameAim, IsTried, most_nodes, room_in, no_note, note_at, CanGrow, board_at, left_at}
+use Rattle.proof_number.proofs.Common.{IsTrueOf, IsTrueMemo, Grows, HasGrown, HasSpent, HasStayed, KeepsTree, OnStep, IsAtLeaf, IsNotedWin}
+use Rattle.proof_number.proofs.Common.{IsSettledAt, StandsAt, game_of, noted_won, GameTree, attacks_behind, behind_at, unwritten, IsLostAt}
+use Rattle.proof_number.proofs.Common.{IsBare, threat_wins, wins_behind, won_at, Note, Settled, Lost, Search, Point}
+use Rattle.position_table.specs.Packing.{Packed}
 use Rattle.position_table.proofs.Remembering.{true-found, true-looked}
-use Rattle.strategy_graph.specs.declared.Node.{Node}
 use Rattle.strategy_graph.proofs.Filling.{IsTable-lower}
-use Rattle.strategy_compiler.specs.declared.error.SearchError.{SearchError}
-use Rattle.strategy_compiler.specs.declared.wins.WrittenWin.{WrittenWin}
 use Rattle.strategy_compiler.proofs.Growing.{grows-not, win-some, writes-memory, writes-nothing}
 use Rattle.strategy_compiler.specs.declared.error.SearchError.TheVariants.{Memory}
-use Rattle.strategy_compiler.proofs.Common.{IsCompiled, GrowsBy, Writes}
-use Rattle.threat_game.specs.declared.doubles.DoublePoint.{DoublePoint}
 use Rattle.threat_game.proofs.TreeLaws.{tree-positive, counted-within}
-use Rattle.threat_game.proofs.Common.{threat_tree, IsThreatWin, IsDoubleWin, answer_nodes, is_last_move}
-use Rattle.proof_number.specs.declared.search.Step.{Step}
-use Rattle.proof_number.specs.declared.search.Step.TheVariants.{Done, Spent}
+use Rattle.proof_number.specs.declared.search.Step.TheVariants.{Spent}
 use Rattle.proof_number.proofs.RunningOut.{runs-out}
 use Rattle.proof_number.proofs.WinLaws.{double-wins, last-counts}
-use Rattle.proof_number.proofs.Common.{known_at_leaf, known_grown, IsSameAim, IsTried, most_nodes, room_in, no_note}
-use Rattle.proof_number.proofs.Common.{note_at, CanGrow, WinsAt, board_at, left_at, IsTrueOf, IsTrueMemo, Grows, HasGrown, HasSpent}
-use Rattle.proof_number.proofs.Common.{HasStayed, KeepsTree, OnStep, IsAtLeaf, IsNotedWin, IsSettledAt, StandsAt, game_of, noted_won}
-use Rattle.proof_number.proofs.Common.{GameTree, attacks_behind, behind_at, is_attack, unwritten, IsLostAt}
-use Rattle.proof_number.proofs.Common.{IsBare, threat_wins, wins_behind, won_at}
-use Rattle.proof_number.specs.declared.notes.Note.{Note}
-use Rattle.proof_number.specs.declared.notes.Settled.{Settled}
-use Rattle.proof_number.specs.declared.notes.Settled.TheVariants.{Lost}
-use Rattle.proof_number.specs.declared.search.Search.{Search}
 use Rattle.proof_number.proofs.Opening.{grown-facts, leaf-facts}
 use Rattle.proof_number.proofs.GameTruths.{left-low, position-at, board-root}
 use Rattle.proof_number.proofs.Growing.{lost-grown, won-grown}
 use Rattle.proof_number.proofs.Remembering.{memo-grown}
 use Rattle.proof_number.proofs.Recording.{keeps-all}
 use Rattle.proof_number.proofs.Sums.{sum-one}
-use Rattle.game_rules.specs.declared.Point.{Point}
 
 module _ {rule : RuleKind} {s : Search} {t : Tree} {c : List Node} {leaf : ℕ} {view : Grid} (stands : StandsAt rule s t c leaf view) where
   at-leaf : IsAtLeaf rule s t c leaf view
@@ -60,20 +45,22 @@ module _ {rule : RuleKind} {s : Search} {t : Tree} {c : List Node} {leaf : ℕ} 
   leaf-noted = let same = at-leaf.searching.game.moves in let long = length-map s.notes.items (λ (n : Note). n.at) in let low =
       at-leaf.in_tree in omega (arith, same, long, low)
 
+  -- of what is read there
+  pub leaf-left : (n : Note) → n ≡ get_or s.notes.items leaf n → n.left ≡ (note_at s.notes.items leaf).left
+  leaf-left n read = ap (λ (x : Note). x.left) (read ∙ get_or_default s.notes.items leaf n no_note leaf-noted)
+
   pub leaf-compiled : IsCompiled c
   leaf-compiled = at-leaf.searching.compiled
 
   pub leaf-lawful : IsPosition rule view
-  leaf-lawful = subst (IsPosition rule) (sym at-leaf.view_is)
-      (position-at at-leaf.searching.tree.linked at-leaf.searching.game leaf at-leaf.in_tree)
+  leaf-lawful = rw at-leaf.view_is (position-at at-leaf.searching.tree.linked at-leaf.searching.game leaf at-leaf.in_tree)
 
   pub leaf-board : s.board ≡ view
   leaf-board = at-leaf.board_is ∙ sym at-leaf.view_is
 
   grows-with : (kind : Kind) → (link_at t.links leaf).kind ≡ kind
       → CanGrow kind rule (left_at (game_of rule s t).left leaf) (board_at (game_of rule s t) leaf)
-  grows-with kind e = subst (λ (q : Kind). CanGrow q rule (left_at (game_of rule s t).left leaf) (board_at (game_of rule s t) leaf)) e
-      (at-leaf.searching.game.open_leaf leaf at-leaf.in_tree at-leaf.childless at-leaf.leaf_open)
+  grows-with kind e = search (rules, at-leaf)
 
   left-noted : left_at (game_of rule s t).left leaf ≡ (note_at s.notes.items leaf).left
   left-noted = get_or-map (λ (n : Note). n.left) s.notes.items leaf no_note 0 leaf-noted
@@ -89,10 +76,10 @@ module _ {rule : RuleKind} {s : Search} {t : Tree} {c : List Node} {leaf : ℕ} 
   -- at an attacker's leaf
   module _ (attack : (link_at t.links leaf).kind ≡ Attack) where
     pub attack-no_five : has_five rule view (mover view) ≡ false
-    attack-no_five = subst (λ (b : Grid). has_five rule b (mover b) ≡ false) (sym at-leaf.view_is) (grows-with Attack attack).0
+    attack-no_five = rw at-leaf.view_is (grows-with Attack attack).0
 
     pub attack-moves : 2 ≤ (note_at s.notes.items leaf).left
-    attack-moves = subst (λ (n : ℕ). 2 ≤ n) left-noted (grows-with Attack attack).1
+    attack-moves = rw left-noted at (grows-with Attack attack).1
 
     -- a win is known of the board of the view, and it is settled as won
     module _ (u : Tree) (st : IsSettledAt t u leaf true) (v : Search) (more : List Node)
@@ -177,9 +164,7 @@ most-same rule aim = rw (aim.before, aim.budget, aim.depth, aim.root)
 -- what stays where only the notes and the table changed
 pub rest-of : (s mid v : Search) → mid ≡ record s { settled = mid.settled } → v ≡ record mid { notes = v.notes }
     → v ≡ record s { board = v.board; notes = v.notes; settled = v.settled; attacked = v.attacked }
-rest-of s mid v first second =
-    let e : v ≡ record s { notes = v.notes; settled = mid.settled } = second ∙ ap (λ (w : Search). record w { notes = v.notes }) first in
-    e ∙ ap (λ (w : Search). record s { board = w.board; notes = v.notes; settled = w.settled; attacked = w.attacked }) (sym e)
+rest-of s mid v first second = search rules
 
 -- a leaf that is settled by the tree, as the leaf of a search
 pub settled-at : (t u : Tree) (leaf : ℕ) (p : Bool) → leaf ≡ most_proving t → u.links ≡ t.links
@@ -188,7 +173,7 @@ pub settled-at : (t u : Tree) (leaf : ℕ) (p : Bool) → leaf ≡ most_proving 
 settled-at t u leaf p is links settled others leaves tree = record {
   links = links;
   settled = ap (numbers_at u.numbers) is ∙ settled;
-  others = subst (λ (i : ℕ). OthersStay t.links i t.numbers u.numbers) (sym is) others;
+  others = rw is others;
   leaves = leaves;
   tree = tree;
 }
@@ -214,7 +199,7 @@ module _ {rule : RuleKind} {s : Search} {t : Tree} {c : List Node} {leaf : ℕ} 
       (leaf-compiled stands) win
       (items ∙ ap (λ (w : Search). noted_won w.notes.items leaf win) first) noted (omega (arith, count)) (omega (arith, count, fits))
       (omega (arith, count)) (omega (arith, count, positive)) (omega (arith, count)) (omega arith)
-      (subst (IsTrueMemo rule c (game_of rule s t)) (sym (ap (λ (w : Search). w.settled) second)) table-now)
+      (rw (ap (λ (w : Search). w.settled) second) table-now)
 
   -- and what is remembered as lost
   pub recalled-lost : (u : Tree) → IsSettledAt t u leaf false
@@ -226,57 +211,26 @@ module _ {rule : RuleKind} {s : Search} {t : Tree} {c : List Node} {leaf : ℕ} 
 
   -- the search stands at the leaf as before
   pub recalled-stands : StandsAt rule mid t c leaf view
-  recalled-stands = known_at_leaf (
-      let h = at-leaf stands in
-      subst (λ (w : Search). IsAtLeaf rule w t c leaf view) (sym first) (record {
-        searching = record {
-          tree = h.searching.tree;
-          game = h.searching.game;
-          depth = h.searching.depth;
-          depth_fits = h.searching.depth_fits;
-          budget_fits = h.searching.budget_fits;
-          written = h.searching.written;
-          remembered = table-now;
-          counted = h.searching.counted;
-          compiled = h.searching.compiled;
-          few = h.searching.few;
-          wins = h.searching.wins;
-        };
-        root_open = h.root_open;
-        leaf_is = h.leaf_is;
-        in_tree = h.in_tree;
-        childless = h.childless;
-        leaf_open = h.leaf_open;
-        view_is = h.view_is;
-        board_is = h.board_is;
-      }))
+  recalled-stands = search (rules, at-leaf, table-now)
 
 -- ---- a step after a look at the table is one from before it
 
 module _ (rule : RuleKind) (s mid v : Search) (t u : Tree) (d : List Node) (leaf : ℕ)
     (first : mid ≡ record s { settled = mid.settled }) where
   grown-from : HasGrown rule (record s { settled = mid.settled }) v t u d leaf → HasGrown rule s v t u d leaf
-  grown-from h = record {
-    searching = h.searching;
-    in_tree = h.in_tree;
-    aim = record { depth = h.aim.depth; budget = h.aim.budget; before = h.aim.before; root = h.aim.root };
-    board = h.board;
-    place = h.place;
-    progress = h.progress;
-    longer = h.longer;
-  }
+  grown-from h = search rules
 
   keeps-from : KeepsTree (record s { settled = mid.settled }) v → KeepsTree s v
   keeps-from h = record { rest = h.rest; places = h.places }
 
   step-from : (r : Result Step SearchError) → OnStep r (Grows rule mid v t u d leaf) (HasSpent rule mid v t u) (HasStayed mid v t u)
       → OnStep r (Grows rule s v t u d leaf) (HasSpent rule s v t u) (HasStayed s v t u)
-  step-from (Ok Done) h = known_grown (grown-from (subst (λ (w : Search). HasGrown rule w v t u d leaf) first (grown-facts h)))
+  step-from (Ok Done) h = known_grown (grown-from (rw first at (grown-facts h)))
   step-from (Ok Spent) h =
-      let k : HasSpent rule (record s { settled = mid.settled }) v t u = subst (λ (w : Search). HasSpent rule w v t u) first h in
+      let k = rw first at h in
       record { spent = k.spent; ran_out = k.ran_out; same = k.same; keeps = keeps-from k.keeps }
   step-from (Err e) h =
-      let k : HasStayed (record s { settled = mid.settled }) v t u = subst (λ (w : Search). HasStayed w v t u) first h in
+      let k = rw first at h in
       record { same = k.same; keeps = keeps-from k.keeps }
 
 pub tried-from : {rule : RuleKind} {s mid v : Search} {t u : Tree} {c d : List Node} {leaf : ℕ} {r : Result Step SearchError}
@@ -302,8 +256,7 @@ module _ {rule : RuleKind} {s : Search} {t : Tree} {c : List Node} {leaf : ℕ} 
 
   -- the same on the board of the search, whatever the place that it stands in
   pub board-stands : (b : Grid) → b ≡ s.board → StandsAt rule (record s { board = b }) t c leaf b
-  board-stands b e = subst (λ (w : Grid). StandsAt rule (record s { board = w }) t c leaf w) (sym e)
-      (subst (StandsAt rule s t c leaf) (sym (leaf-board stands)) stands)
+  board-stands b e = search (rules, leaf-board)
 
   module _ (attack : (link_at t.links leaf).kind ≡ Attack) where
     own-behind : (f : Kind → RuleKind → ℕ → Grid → ℕ) → behind_at f (game_of rule s t) leaf ≡ f Attack rule
@@ -318,8 +271,7 @@ module _ {rule : RuleKind} {s : Search} {t : Tree} {c : List Node} {leaf : ℕ} 
     at-view : (count : ℕ → Grid → ℕ) → count (note_at s.notes.items leaf).left view ≡ count (left_at (game_of rule s t).left leaf)
         (board_at (game_of rule s t) leaf)
     at-view count =
-        let left_is : left_at (game_of rule s t).left leaf ≡ (note_at s.notes.items leaf).left =
-        get_or-map (λ (n : Note). n.left) s.notes.items leaf no_note 0 (leaf-noted stands) in
+        let left_is = get_or-map (λ (n : Note). n.left) s.notes.items leaf no_note 0 (leaf-noted stands) in
         ap (λ (n : ℕ). count n view) (sym left_is) ∙ ap (count (left_at (game_of rule s t).left leaf)) here.view_is
 
     -- what the game has behind the leaf is counted from the root
@@ -329,15 +281,11 @@ module _ {rule : RuleKind} {s : Search} {t : Tree} {c : List Node} {leaf : ℕ} 
         let low = sum-one (length t.links) (behind_at attacks_behind g) leaf here.in_tree in
         let first : left_at g.left 0 ≡ s.depth = get_or-map (λ (n : Note). n.left) s.notes.items 0 no_note 0
         (let l = leaf-noted stands in omega (arith, l)) ∙ here.searching.depth in
-        let root_is : threat_tree rule (left_at g.left 0) s.root ≡ threat_tree rule s.depth s.root =
-        ap (λ (n : ℕ). threat_tree rule n s.root) first in
+        let root_is = ap (λ (n : ℕ). threat_tree rule n s.root) first in
         omega (arith, low, own-behind attacks_behind, at-view (threat_tree rule), root_is, here.searching.counted.attacks)
 
     own-unwritten : (f : ℕ → ℕ) → unwritten f t s.notes.items leaf ≡ f leaf
-    own-unwritten f =
-        ap (λ (k : Kind). cond (is_attack k && nat_eq (note_at s.notes.items leaf).moves 0) (f leaf) 0) attack
-        ∙ ap (λ r. cond r (f leaf) 0) (eq-eqb (note_at s.notes.items leaf).moves 0
-        (here.searching.written.fresh leaf here.in_tree here.childless here.leaf_open))
+    own-unwritten f = search (rules, eq-eqb)
 
     -- a node for the leaf is not in the compiler yet
     node-fits : length c + 1 ≤ s.before + s.attacked
@@ -355,9 +303,7 @@ module _ {rule : RuleKind} {s : Search} {t : Tree} {c : List Node} {leaf : ℕ} 
 
     pub double-fits : (d : DoublePoint) → IsDoubleWin rule view d
         → 1 + answer_nodes rule view d ≤ threat_tree rule (note_at s.notes.items leaf).left view
-    double-fits d wins = counted-within rule view d (leaf-lawful stands) wins
-        (attack-no_five stands attack) (note_at s.notes.items leaf).left
-        (attack-moves stands attack)
+    double-fits d wins = search (rules, counted-within, leaf-lawful, attack-no_five, attack-moves)
 
     -- where the budget does not reach, the game has more positions
     pub spent-there : (d : DoublePoint) → IsDoubleWin rule view d → s.budget < s.attacked + answer_nodes rule view d → HasSpent rule s s t t
@@ -371,8 +317,7 @@ module _ {rule : RuleKind} {s : Search} {t : Tree} {c : List Node} {leaf : ℕ} 
     -- no more nodes are needed than positions are won
     pub double-won : (d : DoublePoint) → IsDoubleWin rule view d
         → 1 + answer_nodes rule view d ≤ threat_wins rule (note_at s.notes.items leaf).left view
-    double-won d wins = double-wins rule view d (leaf-lawful stands) wins (attack-no_five stands attack) (note_at s.notes.items leaf).left
-        (attack-moves stands attack)
+    double-won d wins = search (rules, double-wins, leaf-lawful, attack-no_five, attack-moves)
 
     pub last-won : (p : Point) → is_last_move rule view p ≡ true → 1 ≤ threat_wins rule (note_at s.notes.items leaf).left view
     last-won p last = let two = attack-moves stands attack in
@@ -421,10 +366,9 @@ module _ {rule : RuleKind} {s : Search} {t : Tree} {c : List Node} {leaf : ℕ} 
           (ap (λ (w : Search). w.board) rest) d grown.is compiled win items (is.written, is.by_threats)
           (omega (arith, count)) (omega (arith, count, fits)) (omega (arith, count, two)) (omega (arith, count, few))
           (omega (arith, count, long)) (omega (arith, long, won))
-          (subst (λ (w : Search). IsTrueMemo rule c (game_of rule s t) w.settled) (sym rest) here.searching.remembered)
+          (rw rest here.searching.remembered)
 
 -- what was tried on a board that is that of the search
 pub tried-on-board : {rule : RuleKind} {s v : Search} {t u : Tree} {c d : List Node} {leaf : ℕ} {r : Result Step SearchError} {b : Grid}
     → b ≡ s.board → IsTried rule (record s { board = b }) v t u c d leaf r → IsTried rule s v t u c d leaf r
-tried-on-board {rule = rule} {s = s} {v = v} {t = t} {u = u} {c = c} {d = d} {leaf = leaf} {r = r} same tried =
-    subst (λ (b : Grid). IsTried rule (record s { board = b }) v t u c d leaf r) same tried
+tried-on-board {rule = rule} {s = s} {v = v} {t = t} {u = u} {c = c} {d = d} {leaf = leaf} {r = r} same tried = search rules

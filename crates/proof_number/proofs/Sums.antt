@@ -1,6 +1,6 @@
 -- Sums over the first numbers: how they change where one term does, or where terms are added.
 use Rattle.std.proofs.Common.{◌≡◌, ◌≢◌, ◌⊎◌, inl, inr, ℕ, zero, suc, ◌+◌, ◌<◌, ◌≤◌, refl, sym, ap, subst, ◌∙◌, zero-add, arith, List, []}
-use Rattle.std.proofs.Common.{◌∷◌, length, get_or, sum_by}
+use Rattle.std.proofs.Common.{◌∷◌, length, get_or, sum_by, rules}
 use Rattle.std.proofs.lemmas.List.Sums.{sum_by-cons}
 use Rattle.std.proofs.lemmas.Bool.{cases_eq}
 use Rattle.proof_number.specs.SearchTrees.{sum_below}
@@ -23,10 +23,7 @@ sum-le (suc n) f g h =
 
 -- terms that are the same
 pub sum-same : (n : ℕ) (f g : ℕ → ℕ) → ((i : ℕ) → i < n → f i ≡ g i) → sum_below n f ≡ sum_below n g
-sum-same n f g h =
-    let up = sum-le n f g (λ i low. let e = h i low in omega (arith, e)) in
-    let down = sum-le n g f (λ i low. let e = h i low in omega (arith, e)) in
-    omega (arith, up, down)
+sum-same n f g h = search (rules, sum-le)
 
 -- the same, and one term is less by d or more
 pub sum-less : (n : ℕ) (f g : ℕ → ℕ) (i d : ℕ) → i < n → ((j : ℕ) → j < n → j ≢ i → f j ≤ g j) → f i + d ≤ g i
@@ -52,15 +49,11 @@ sum-one n f i inside =
 -- two sums are one
 pub sum-split : (n : ℕ) (f g : ℕ → ℕ) → sum_below n f + sum_below n g ≡ sum_below n (λ i. f i + g i)
 sum-split zero f g = let a = sum-zero f in let b = sum-zero g in let d = sum-zero (λ i. f i + g i) in omega (arith, a, b, d)
-sum-split (suc n) f g =
-    let rest = sum-split n f g in
-    let d = sum-suc n (λ i. f i + g i) in
-    omega (arith, sum-suc n f, sum-suc n g, d, rest)
+sum-split (suc n) f g = search (rules, sum-suc, sum-split n f g)
 
 -- further terms
 pub sum-more : (n k : ℕ) (f : ℕ → ℕ) → sum_below (n + k) f ≡ sum_below n f + sum_below k (λ j. f (n + j))
-sum-more n zero f = let a = sum-zero (λ j. f (n + j)) in let e : n + 0 ≡ n =
-    omega arith in ap (λ (m : ℕ). sum_below m f) e ∙ omega (arith, a)
+sum-more n zero f = search (rules, sum-zero)
 sum-more n (suc k) f =
     let a = sum-suc (n + k) f in
     let b = sum-suc k (λ j. f (n + j)) in
@@ -74,8 +67,7 @@ sum-list h d [] = sum-zero (λ j. h (get_or [] j d))
 sum-list h d (x ∷ xs) =
     let F : ℕ → ℕ = λ j. h (get_or (x ∷ xs) j d) in
     let e : suc (length xs) ≡ 1 + length xs = omega arith in
-    let same : sum_below (length xs) (λ j. F (1 + j)) ≡ sum_below (length xs) (λ j. h (get_or xs j d)) =
-    ap (sum_below (length xs)) (λ i j. F (one_more j i)) in
+    let same = ap (sum_below (length xs)) (λ i j. F (one_more j i)) in
     let first : sum_below 1 F ≡ h x = sum-suc 0 F ∙ ap (λ (m : ℕ). m + h x) (sum-zero F) ∙ zero-add (h x) in
     ap (λ (m : ℕ). sum_below m F) e ∙ sum-more 1 (length xs) F ∙ ap (λ (m : ℕ). sum_below 1 F + m) (same ∙ sum-list h d xs)
     ∙ ap (λ (m : ℕ). m + sum_by h xs) first ∙ sym (sum_by-cons h x xs) where

@@ -1,30 +1,22 @@
 -- How many positions of the game of threats are won: at a position, behind its moves, and behind the replies.
-use Rattle.std.proofs.Common.{◌≡◌, ℕ, zero, suc, ◌+◌, ◌≤◌, Bool, true, false, cond, ◌&&◌, ◌||◌, not, refl, ap, subst}
-use Rattle.std.proofs.Common.{◌∙◌, arith, List, [], ◌∷◌, map, filter, sum_by, All}
+use Rattle.std.proofs.Common.{◌≡◌, ℕ, zero, suc, ◌+◌, ◌≤◌, Bool, true, false, cond, ◌&&◌, ◌||◌, not, refl, ap}
+use Rattle.std.proofs.Common.{◌∙◌, arith, List, [], ◌∷◌, map, filter, sum_by, All, rules}
 use Rattle.std.specs.List.{list_any}
 use Rattle.std.proofs.lemmas.List.Sums.{sum_by-cons, sum_by-le-sum_by}
-use Rattle.game_rules.specs.declared.RuleKind.{RuleKind}
-use Rattle.game_rules.specs.declared.Outcome.{Outcome}
-use Rattle.game_rules.specs.declared.Outcome.TheVariants.{GoesOn}
-use Rattle.game_rules.specs.declared.Point.{Point}
-use Rattle.game_rules.proofs.Common.{Grid, points_of, is_same_point, IsPosition, outcome, mover, after}
-use Rattle.game_rules.proofs.Common.{goes_on, has_five, if_goes_on, behind_replies, has_threat, WinsByThreats, WinsByFours, LosesOr}
-use Rattle.game_rules.proofs.Common.{wins_under, other}
-use Rattle.game_rules.specs.Games.{wins_by_threats}
+use Rattle.proof_number.proofs.Common.{RuleKind, Outcome, GoesOn, Point, Grid, points_of, is_same_point, IsPosition, outcome, mover, after}
+use Rattle.proof_number.proofs.Common.{goes_on, has_five, if_goes_on, behind_replies, has_threat, WinsByThreats, other}
+use Rattle.proof_number.proofs.Common.{wins_by_threats, DoublePoint, Child, Judged, Five, Last, Open, IsDoubleWin, answer_nodes, one_if}
+use Rattle.proof_number.proofs.Common.{IsJudged, is_open, moves_for, nodes_for, tried_moves, is_last_move, behind_threats, threat_wins}
+use Rattle.game_rules.proofs.Common.{wins_under}
 use Rattle.game_rules.proofs.Games.{WinsUnder-test, WinsUnder-more, WinsByFours-WinsByThreats, five-threats, test-WinsUnder}
 use Rattle.game_rules.proofs.Outcomes.{goes_on-is, if_goes_on-one}
 use Rattle.game_rules.proofs.PointLists.{filter-sum, sum-least}
 use Rattle.game_rules.proofs.Positions.{GoesOn-on, IsPosition-after}
-use Rattle.threat_game.specs.declared.doubles.DoublePoint.{DoublePoint}
-use Rattle.threat_game.specs.declared.replies.Child.{Child}
-use Rattle.threat_game.specs.declared.replies.Judged.{Judged}
-use Rattle.threat_game.specs.declared.replies.Judged.TheVariants.{Five, DoublePoint as DoubleWins, Last, Open}
-use Rattle.threat_game.proofs.Common.{is_safe_threat, IsDoubleWin, answer_nodes, one_if, IsJudged, IsChild}
-use Rattle.threat_game.proofs.Common.{has_reply_at, has_reply_beside, is_open, moves_for, nodes_for, tried_moves, is_tried, is_last_move}
+use Rattle.threat_game.specs.declared.replies.Judged.TheVariants.{DoublePoint as DoubleWins}
+use Rattle.threat_game.proofs.Common.{is_safe_threat, IsChild, is_tried}
 use Rattle.threat_game.proofs.AttackLaws.{last-wins}
 use Rattle.threat_game.proofs.DoubleLaws.{double-lost, double-threats}
 use Rattle.threat_game.proofs.TreeLaws.{double-threat, still-safe, tried-is}
-use Rattle.proof_number.proofs.Common.{behind_threats, threat_wins}
 
 -- ---- at a position
 
@@ -57,12 +49,7 @@ last-counts rule (suc n) b p last l = won-counts rule (suc n) b (last-wins rule 
 
 replies-more : (rule : RuleKind) (f g : Grid → ℕ) → ((c : Grid) → f c ≤ g c) → (c : Grid)
     → behind_replies rule f c ≤ behind_replies rule g c
-replies-more rule f g more c =
-    sum_by-le-sum_by (λ q. if_goes_on (outcome rule c q) (f (after c q))) (λ q. if_goes_on (outcome rule c q) (g (after c q))) (points_of c)
-    (λ q. by_outcome (outcome rule c q) (f (after c q)) (g (after c q)) (more (after c q))) where
-      by_outcome : (o : Outcome) (k l : ℕ) → k ≤ l → if_goes_on o k ≤ if_goes_on o l
-      by_outcome GoesOn k l h = h
-      by_outcome _ k l h = omega arith
+replies-more rule f g more c = search (rules, sum_by-le-sum_by)
 
 threats-more : (rule : RuleKind) (f g : Grid → ℕ) → ((c : Grid) → f c ≤ g c) → (b : Grid)
     → behind_threats rule f b ≤ behind_threats rule g b
@@ -81,12 +68,7 @@ threats-more rule f g more b =
       by_five false k l h = h
 
 own-more : (rule : RuleKind) (n m : ℕ) (b : Grid) → n ≤ m → one_if (wins_by_threats rule n b) ≤ one_if (wins_by_threats rule m b)
-own-more rule n m b few = by_test (wins_by_threats rule n b) refl where
-  by_test : (r : Bool) → wins_by_threats rule n b ≡ r → one_if r ≤ one_if (wins_by_threats rule m b)
-  by_test false e = omega arith
-  by_test true e =
-      let one = won-one rule m b (WinsUnder-more (has_threat rule) rule n m b few (test-WinsUnder (has_threat rule) rule n b e)) in
-      omega (arith, one)
+own-more rule n m b few = search (rules, won-one, WinsUnder-more, test-WinsUnder)
 
 -- no fewer are won
 pub wins-more : (rule : RuleKind) (n m : ℕ) (b : Grid) → n ≤ m → threat_wins rule n b ≤ threat_wins rule m b
@@ -114,33 +96,15 @@ module _ (rule : RuleKind) (n : ℕ) (b : Grid) (none : has_five rule b (mover b
       (λ p e. (tried-is rule b p e).is_safe) (points_of b) in
       omega (arith, wins-parts rule n b, behind-all, few)
 
-one-or : (a r : Bool) → one_if (a || r) ≤ one_if a + one_if r
-one-or true true = omega arith
-one-or true false = omega arith
-one-or false r = omega arith
-
-one-split : (g a : Bool) (k : ℕ) → (g ≡ true → 1 ≤ k) → one_if (g && a) + one_if (g && not a) ≤ k
-one-split true true k low = low refl
-one-split true false k low = low refl
-one-split false a k low = omega arith
-
-one-most : (r : Bool) → one_if r ≤ 1
-one-most true = omega arith
-one-most false = omega arith
-
 -- two nodes at most answer the replies to a double point
 pub answers-few : (rule : RuleKind) (b : Grid) (d : DoublePoint) → answer_nodes rule b d ≤ 2
-answers-few rule b d =
-    omega (arith, one-most (has_reply_at rule (after b d.at) d.first), one-most (has_reply_beside rule (after b d.at) d.first))
+answers-few rule b d = search rules
 
 -- a reply on a point, and one beside it, are two of the replies
 sum-two : (f : Point → ℕ) (g a : Point → Bool) → ((q : Point) → g q ≡ true → 1 ≤ f q) → (ps : List Point)
     → one_if (list_any (λ q. g q && a q) ps) + one_if (list_any (λ q. g q && not (a q)) ps) ≤ sum_by f ps
 sum-two f g a low [] = omega arith
-sum-two f g a low (p ∷ ps) =
-    let first = one-or (g p && a p) (list_any (λ q. g q && a q) ps) in
-    let second = one-or (g p && not (a p)) (list_any (λ q. g q && not (a q)) ps) in
-    omega (arith, one-split (g p) (a p) (f p) (low p), sum-two f g a low ps, sum_by-cons f p ps, first, second)
+sum-two f g a low (p ∷ ps) = search (rules, sum_by-cons, sum-two f g a low ps)
 
 module _ (rule : RuleKind) (b : Grid) (d : DoublePoint) (lawful : IsPosition rule b) (wins : IsDoubleWin rule b d)
     (none : has_five rule b (mover b) ≡ false) where
@@ -149,8 +113,7 @@ module _ (rule : RuleKind) (b : Grid) (d : DoublePoint) (lawful : IsPosition rul
       → 1 ≤ threat_wins rule n (after (after b d.at) q)
   reply-won n l q on =
       let c : Grid = after (after b d.at) q in
-      let fours : WinsByFours rule 1 c = subst (λ (o : Outcome). LosesOr o (WinsByFours rule 1 c))
-      (goes_on-is (outcome rule (after b d.at) q) on) (double-lost rule b d lawful wins q) in
+      let fours = rw (goes_on-is (outcome rule (after b d.at) q) on) at (double-lost rule b d lawful wins q) in
       won-counts rule n c (WinsByFours-WinsByThreats rule n c (WinsUnder-more (has_five rule) rule 1 n c l fours))
 
   safe : is_safe_threat rule b d.at ≡ true

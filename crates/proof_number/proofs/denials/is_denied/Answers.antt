@@ -1,10 +1,8 @@
 use Rattle.std.proofs.Common.{◌≡◌, ◌≤◌, ◌↔◌, ℕ, Bool, true, IfOk, IsTrue, Result, Ok, Err}
-use Rattle.game_rules.specs.declared.RuleKind.{RuleKind}
-use Rattle.game_rules.proofs.Common.{Grid, has_five, has_threat, wins_by_fours}
+use Rattle.proof_number.proofs.Common.{RuleKind, Grid, has_five, has_threat, LosesToThreats, WinsByFewFours}
+use Rattle.game_rules.proofs.Common.{wins_by_fours}
 use Rattle.game_rules.proofs.Games.{one-winner, test-WinsUnder}
 use Rattle.four_search.specs.FourGame.{four_cost}
-use Rattle.threat_game.specs.ThreatGame.{LosesToThreats}
-use Rattle.proof_number.specs.Denials.{WinsByFewFours}
 use Rattle.proof_number.proofs.denials.is_denied.Goals as goal
 
 denied : {E : Type 0} (rule : RuleKind) (b : Grid) (found : Result Bool E)

@@ -1,6 +1,5 @@
 use Rattle.std.proofs.Common.{◌≡◌, ◌++◌, map}
-use Rattle.game_rules.specs.Grid.{points_of}
-use Rattle.proof_number.proofs.Common.{all_notes, note_for}
+use Rattle.proof_number.proofs.Common.{points_of, all_notes, note_for}
 use Rattle.proof_number.proofs.record.notes_for.Given as goal
 
 -- the notes so far, and those for the points left, are all

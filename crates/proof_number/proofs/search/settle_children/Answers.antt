@@ -1,15 +1,8 @@
-use Rattle.std.proofs.Common.{rules, ◌≡◌, true, ℕ, ◌≤◌, ◌∙◌, refl, ap, subst, arith, List, [], ◌∷◌, ◌++◌, IfSome, sum_by}
+use Rattle.std.proofs.Common.{rules, ◌≡◌, ◌≤◌, ◌∙◌, refl, ap, arith, [], ◌∷◌, ◌++◌}
 use Rattle.std.proofs.lemmas.List.{take_all}
-use Rattle.strategy_compiler.specs.Growth.{GrowsBy}
-use Rattle.threat_game.specs.Replies.{nodes_for}
-use Rattle.game_rules.proofs.Common.{Grid, after}
+use Rattle.proof_number.proofs.Common.{Grid, after, Note, Child, moves_for, child_at, child_note, no_child}
 use Rattle.strategy_graph.specs.declared.TheConstants.{MAX_NODES}
 use Rattle.strategy_graph.proofs.Filling.{IsTable-lower}
-use Rattle.strategy_compiler.specs.declared.wins.WrittenWin.{WrittenWin}
-use Rattle.proof_number.specs.declared.notes.Note.{Note}
-use Rattle.threat_game.specs.declared.replies.Child.{Child}
-use Rattle.threat_game.proofs.Common.{IsChild, IsThreatWin, moves_for, stands_for}
-use Rattle.proof_number.specs.Children.{child_at, child_note, no_child}
 use Rattle.threat_game.proofs.TreeLaws.{moves-few}
 use Rattle.strategy_compiler.proofs.Growing.{writes-memory}
 use Rattle.proof_number.proofs.Defending.{more-settled, no-room, nodes-more, nodes-within}
@@ -47,8 +40,7 @@ returns-in_err-add_child-clause-writes g c =
 
 pub returns-clause-writes : goal.returns-clause-writes
 returns-clause-writes g c = record {
-  grows = subst (λ (xs : List Child). GrowsBy c.args.compiler.now c.loop-child.compiler (sum_by (λ child. nodes_for child.judged) xs))
-      (take_all c.loop-child.child-index c.args.children.now (omega arith)) c.loop-child.invariant.grown;
+  grows = rw (take_all c.loop-child.child-index c.args.children.now (omega arith)) at c.loop-child.invariant.grown;
   compiled = c.loop-child.invariant.compiled;
   full = λ e. cc;
   full_now = λ e. cc;
@@ -59,26 +51,15 @@ loop-child-preserved g c =
     let b : Grid = g.V.Seen.position c.args.view.now in
     let child : Child = child_at c.args.children.now c.loop-child.child-index in
     let is = c.requires.each c.loop-child.child-index no_child c.loop-child-test.true in
-    let wins : IfSome c.in_ok-win.win (λ (found : WrittenWin). (moves : ℕ) → moves_for child.judged ≤ moves
-    → IsThreatWin g.R.Rule.KIND moves (after b child.at) c.settle_child.new.compiler found) =
-    subst (λ (d : Grid). IfSome c.in_ok-win.win (λ (found : WrittenWin). (moves : ℕ) → moves_for child.judged ≤ moves
-    → IsThreatWin g.R.Rule.KIND moves (after d child.at) c.settle_child.new.compiler found)) c.loop-child.invariant.same
-    c.in_ok-win.ensures.win in
-    let stands : IfSome c.in_ok-win.win
-    (λ (found : WrittenWin). (moves : ℕ) (met : Child) → stands_for child.judged met.judged ≡ true → IsChild g.R.Rule.KIND moves b met
-    → IsThreatWin g.R.Rule.KIND moves (after b met.at) c.settle_child.new.compiler found) =
-    subst (λ (d : Grid). IfSome c.in_ok-win.win
-    (λ (found : WrittenWin). (moves : ℕ) (met : Child) → stands_for child.judged met.judged ≡ true → IsChild g.R.Rule.KIND moves d met
-    → IsThreatWin g.R.Rule.KIND moves (after d met.at) c.settle_child.new.compiler found)) c.loop-child.invariant.same
-    c.in_ok-win.ensures.stands in
+    let wins = rw c.loop-child.invariant.same at c.in_ok-win.ensures.win in
+    let stands = rw c.loop-child.invariant.same at c.in_ok-win.ensures.stands in
     record {
       same = c.settle_child.ensures.same ∙ c.loop-child.invariant.same;
       settled = more-settled g.R.Rule.KIND c.args.left b c.args.children.now c.loop-child.compiler c.settle_child.new.compiler
-          c.loop-child.child-index _ c.loop-child.numbers.items c.add_child.new.numbers.items
-          c.loop-child.notes.items c.add_child.new.notes.items child c.in_ok-win.win
+          c.loop-child.child-index _ c.loop-child.numbers.items c.add_child.new.numbers.items c.loop-child.notes.items
+          c.add_child.new.notes.items child c.in_ok-win.win
           (IsTable-lower c.loop-child.compiler c.loop-child.invariant.compiled.table) c.loop-child.invariant.settled refl
-          c.in_ok-win.ensures.open
-          is.enough wins stands c.settle_child.ensures.grows c.in_ok-add_child.ensures.numbers
+          c.in_ok-win.ensures.open is.enough wins stands c.settle_child.ensures.grows c.in_ok-add_child.ensures.numbers
           (c.in_ok-add_child.ensures.notes ∙ ap (λ (note : Note). c.loop-child.notes.items ++ child_note note c.in_ok-win.win ∷ [])
           c.open.ensures.note);
       grown = nodes-more c.args.children.now c.args.compiler.now c.loop-child.compiler c.settle_child.new.compiler c.loop-child.child-index

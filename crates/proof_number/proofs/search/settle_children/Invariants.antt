@@ -1,7 +1,5 @@
 use Rattle.std.proofs.Common.{◌≡◌, take, sum_by}
-use Rattle.proof_number.proofs.Common.{AreSettled}
-use Rattle.strategy_compiler.proofs.Common.{GrowsBy, IsCompiled}
-use Rattle.threat_game.proofs.Common.{nodes_for}
+use Rattle.proof_number.proofs.Common.{AreSettled, GrowsBy, IsCompiled, nodes_for}
 use Rattle.proof_number.proofs.search.settle_children.Given as goal
 
 -- the view is as before, the children so far are settled, and the compiler has grown by their nodes

@@ -1,8 +1,8 @@
 use Rattle.std.proofs.Common.{inl, subst, IfSome}
-use Rattle.position_table.specs.Packing.{packed}
+use Rattle.proof_number.proofs.Common.{packed, IsTrueLook, table_in}
 use Rattle.position_table.proofs.Remembering.{true-looked}
-use Rattle.proof_number.specs.Looks.{LookMemory, IsTrueLook, table_in}
 use Rattle.proof_number.proofs.LookLaws.{look-found}
+use Rattle.proof_number.specs.Looks.{LookMemory}
 use Rattle.proof_number.proofs.looks.Looks.find.Goals as goal
 
 pub invariant_of-self : goal.invariant_of-self

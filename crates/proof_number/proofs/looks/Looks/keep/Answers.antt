@@ -1,6 +1,6 @@
 use Rattle.std.proofs.Common.{refl, sym, subst}
 use Rattle.position_table.proofs.Remembering.{true-kept}
-use Rattle.proof_number.specs.Looks.{LookMemory, IsTrueLook, table_in}
+use Rattle.proof_number.specs.Looks.{IsTrueLook, table_in, LookMemory}
 use Rattle.proof_number.proofs.looks.Looks.keep.Goals as goal
 
 pub invariant_of-self : goal.invariant_of-self

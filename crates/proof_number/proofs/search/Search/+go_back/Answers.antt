@@ -1,9 +1,5 @@
-use Rattle.std.proofs.Common.{rules, ◌≡◌, ◌∙◌, ◌<◌, ℕ, refl, sym, ap, subst, arith, length}
-use Rattle.game_rules.specs.Grid.{Grid}
-use Rattle.proof_tree.specs.Trees.{IsOnWayUp, IsTree, link_at}
-use Rattle.proof_tree.specs.declared.Link.{Link}
-use Rattle.proof_number.specs.declared.search.Search.{Search}
-use Rattle.proof_number.proofs.Common.{GameTree, IsGameTree, board_at, Searches, game_of}
+use Rattle.std.proofs.Common.{rules, ◌≡◌, ◌∙◌, ◌<◌, ℕ, refl, sym, ap, arith, length}
+use Rattle.proof_number.proofs.Common.{Grid, IsOnWayUp, IsTree, Link, Search, GameTree, board_at, game_of}
 use Rattle.proof_number.proofs.GameTruths.{board-root}
 use Rattle.proof_number.proofs.Recording.{board-searches, parent-searches, way-game, way-tree}
 use Rattle.proof_number.proofs.StepLaws.{node-back, node-refused, root-back}
@@ -37,7 +33,7 @@ step_back-requires-clause-tree g t c = way-tree
 
 pub step_back-requires-clause-game : goal.step_back-requires-clause-game
 step_back-requires-clause-game g t c =
-    subst IsGameTree (sym (c.record-found.ensures.passed.keeps.places g.R.Rule.KIND c.args.tree.now)) (way-game c.requires.searching)
+    rw (c.record-found.ensures.passed.keeps.places g.R.Rule.KIND c.args.tree.now) (way-game c.requires.searching)
 
 pub step_back-requires-clause-view : goal.step_back-requires-clause-view
 step_back-requires-clause-view g t c =
@@ -57,23 +53,13 @@ go_back-requires g t c κs within =
     let lower : c.link-parent.result.parent < c.args.node = let low =
     tree.linked.parent_first c.args.node some c.requires.in_tree in omega (arith, low, up) in
     let inside : c.link-parent.result.parent < length c.args.tree.now.links = let low = c.requires.in_tree in omega (arith, lower, low) in
-    let before : Searches g.R.Rule.KIND c.record-found.new.self c.args.tree.now c.record-found.new.compiler
-    (IsOnWayUp c.args.tree.now.links (link_at c.args.tree.now.links c.args.node).parent) =
-    parent-searches c.in-Ok.ensures.passed.searching in
-    let searching : Searches g.R.Rule.KIND c.step_back.new.self c.args.tree.now c.record-found.new.compiler
-    (IsOnWayUp c.args.tree.now.links c.link-parent.result.parent) =
-    board-searches g.R.Rule.KIND c.record-found.new.self c.step_back.new.self c.args.tree.now c.record-found.new.compiler
-    (IsOnWayUp c.args.tree.now.links c.link-parent.result.parent) c.step_back.ensures.rest
-    (subst (λ (i : ℕ). Searches g.R.Rule.KIND c.record-found.new.self c.args.tree.now c.record-found.new.compiler
-    (IsOnWayUp c.args.tree.now.links i)) (sym up) before) in
+    let before = parent-searches c.in-Ok.ensures.passed.searching in
+    let searching = board-searches g.R.Rule.KIND c.record-found.new.self c.step_back.new.self c.args.tree.now c.record-found.new.compiler
+    (IsOnWayUp c.args.tree.now.links c.link-parent.result.parent) c.step_back.ensures.rest (rw up before) in
     let at : Search → ℕ → Grid = λ s i. board_at (game_of g.R.Rule.KIND s c.args.tree.now) i in
-    let view : g.V.Seen.position c.step_back.new.view ≡ board_at (game_of g.R.Rule.KIND c.step_back.new.self c.args.tree.now)
-    c.link-parent.result.parent =
-    c.step_back.ensures.view ∙ ap (at c.record-found.new.self) (sym up)
+    let view = c.step_back.ensures.view ∙ ap (at c.record-found.new.self) (sym up)
     ∙ ap (λ (s : Search). at s c.link-parent.result.parent) (sym c.step_back.ensures.rest) in
-    let board : c.step_back.new.self.board ≡ board_at (game_of g.R.Rule.KIND c.step_back.new.self c.args.tree.now)
-    c.link-parent.result.parent =
-    c.step_back.ensures.board ∙ ap (at c.record-found.new.self) (sym up)
+    let board = c.step_back.ensures.board ∙ ap (at c.record-found.new.self) (sym up)
     ∙ ap (λ (s : Search). at s c.link-parent.result.parent) (sym c.step_back.ensures.rest) in
     search rules
 
@@ -90,5 +76,5 @@ take_back-requires-clause-tree g t c = way-tree
 
 pub take_back-requires-clause-game : goal.take_back-requires-clause-game
 take_back-requires-clause-game g t c =
-    subst (λ (s : Search). IsGameTree (game_of g.R.Rule.KIND s c.args.tree.now)) (sym c.step_back.ensures.rest)
-    (subst IsGameTree (sym (c.record-found.ensures.passed.keeps.places g.R.Rule.KIND c.args.tree.now)) (way-game c.requires.searching))
+    rw c.step_back.ensures.rest
+    (rw (c.record-found.ensures.passed.keeps.places g.R.Rule.KIND c.args.tree.now) (way-game c.requires.searching))

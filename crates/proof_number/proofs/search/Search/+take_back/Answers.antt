@@ -1,8 +1,5 @@
-use Rattle.std.proofs.Common.{rules, ◌≡◌, ◌<◌, ℕ, sym, ap, subst, ◌∙◌, arith, length}
-use Rattle.game_rules.specs.Grid.{Grid}
-use Rattle.proof_tree.specs.declared.Link.{Link}
-use Rattle.proof_number.specs.declared.search.Search.{Search}
-use Rattle.proof_number.proofs.Common.{GameTree, IsGameTree, board_at, game_of}
+use Rattle.std.proofs.Common.{rules, ◌≡◌, ◌<◌, ℕ, sym, ap, ◌∙◌, arith, length, subst}
+use Rattle.proof_number.proofs.Common.{Grid, Link, Search, GameTree, board_at, game_of, IsGameTree}
 use Rattle.proof_number.proofs.GameTruths.{board-root}
 use Rattle.proof_number.proofs.search.Search.+take_back.Goals as goal
 

@@ -1,19 +1,9 @@
-use Rattle.std.proofs.Common.{rules, ◌≡◌, ◌∙◌, ◌+◌, ◌≤◌, ℕ, false, sym, ap, subst, arith, List, IfNone, Some, None}
-use Rattle.std.proofs.Common.{get_or, Option, sum_by}
-use Rattle.std.proofs.lemmas.List.{get_or_default}
-use Rattle.game_rules.proofs.Common.{Grid}
-use Rattle.game_rules.specs.declared.RuleKind.{RuleKind}
-use Rattle.proof_tree.proofs.Common.{Tree}
+use Rattle.std.proofs.Common.{rules, ◌≡◌, ◌∙◌, ◌+◌, ◌≤◌, ℕ, false, sym, ap, arith, List, get_or, Option, sum_by}
+use Rattle.proof_number.proofs.Common.{Grid, RuleKind, Tree, Node, Note, Child, Children, Search, note_at, StandsAt, nodes_for}
 use Rattle.proof_tree.proofs.SumLaws.{fresh-numbers}
-use Rattle.strategy_graph.specs.declared.Node.{Node}
-use Rattle.proof_number.specs.declared.notes.Note.{Note}
-use Rattle.threat_game.specs.declared.replies.Child.{Child}
-use Rattle.threat_game.specs.declared.replies.Children.{Children}
-use Rattle.proof_number.specs.declared.search.Search.{Search}
-use Rattle.strategy_compiler.proofs.Common.{GrowsBy}
-use Rattle.proof_number.proofs.Common.{no_note, note_at, StandsAt}
-use Rattle.threat_game.proofs.Common.{AreChildren, AreReplies, HasEscape, nodes_for}
-use Rattle.proof_number.proofs.Steps.{attacked-few, leaf-board, leaf-is, leaf-noted, root-open, settled-at, writes-no_memory, writes-none}
+use Rattle.threat_game.proofs.Common.{AreReplies}
+use Rattle.proof_number.proofs.Steps.{attacked-few, leaf-board, leaf-is, leaf-noted, leaf-left, root-open, settled-at, writes-no_memory}
+use Rattle.proof_number.proofs.Steps.{writes-none}
 use Rattle.proof_number.proofs.Defending.{all-fresh, defend-moves, defend-no_five, defend-reply, each-is, each-same, escape-grows, few-new}
 use Rattle.proof_number.proofs.Defending.{replies-few, replies-grow, replies-room, replies-spent, settled-same, some-new}
 use Rattle.strategy_compiler.proofs.Growing.{grows-more, writes-fails, writes-memory, writes-tells}
@@ -21,13 +11,11 @@ use Rattle.proof_number.proofs.ExpandedCounts.{budget-few, short-there, sums-the
 use Rattle.proof_number.proofs.search.Search.answer_replies.Goals as goal
 
 -- what the replies are judged as, within the moves that are left at the leaf
-judged : (rule : RuleKind) (s : Search) (t : Tree) (d : List Node) (leaf : ℕ) (view : Grid) → StandsAt rule s t d leaf view
-    → (n : Note) (left : ℕ) (r o : Option Children) → n ≡ get_or s.notes.items leaf n → left ≡ n.left → r ≡ o
-    → AreReplies rule left view r → AreReplies rule (note_at s.notes.items leaf).left view o
-judged rule s t d leaf view at_leaf n left r o read from is replies =
-    let noted = leaf-noted at_leaf in
-    let note : n ≡ note_at s.notes.items leaf = read ∙ get_or_default s.notes.items leaf n no_note noted in
-    subst (λ (k : ℕ). AreReplies rule k view o) (from ∙ ap (λ (x : Note). x.left) note) (subst (AreReplies rule left view) is replies)
+judged : {rule : RuleKind} {s : Search} {t : Tree} {d : List Node} {leaf : ℕ} {view : Grid} {n : Note} {left : ℕ} {r o : Option Children}
+    → StandsAt rule s t d leaf view → n ≡ get_or s.notes.items leaf n → left ≡ n.left → r ≡ o → AreReplies rule left view r
+    → AreReplies rule (note_at s.notes.items leaf).left view o
+judged {rule = rule} {view = view} {n = n} {left = left} {o = o} at_leaf read from is replies =
+    rw (← (from ∙ leaf-left at_leaf n read)) (rw is at replies)
 
 pub index-requires : goal.index-requires
 index-requires g c = let low = leaf-noted c.requires.at_leaf in omega (arith, low)
@@ -48,65 +36,44 @@ settle-requires g c = record {
 
 pub judge_replies-requires-clause-some_moves : goal.judge_replies-requires-clause-some_moves
 judge_replies-requires-clause-some_moves g c =
-    let noted = leaf-noted c.requires.at_leaf in
-    let note : c.index.result.now ≡ note_at c.args.self.now.notes.items c.args.leaf =
-    c.index.ensures ∙ get_or_default c.args.self.now.notes.items c.args.leaf c.index.result.now no_note noted in
-    let left_is = c.from.ensures ∙ ap (λ (n : Note). n.left) note in
+    let left_is = c.from.ensures ∙ leaf-left c.requires.at_leaf c.index.result.now c.index.ensures in
     let one = defend-moves c.requires.at_leaf c.requires.defend in
     omega (arith, one, left_is)
 
 pub overflow_add-count : goal.overflow_add-count
 overflow_add-count g c =
-    let are : AreChildren g.R.Rule.KIND (note_at c.args.self.now.notes.items c.args.leaf).left (g.V.Seen.position c.args.view.now)
-    c.in-Some.children = judged g.R.Rule.KIND c.args.self.now c.args.tree.now c.args.compiler.now c.args.leaf
-    (g.V.Seen.position c.args.view.now) c.requires.at_leaf c.index.result.now c.from.result _ (Some c.in-Some.children) c.index.ensures
-    c.from.ensures c.in-Some.is c.in_ok-judge_replies.ensures.replies in
+    let are = judged c.requires.at_leaf c.index.ensures c.from.ensures c.in-Some.is c.in_ok-judge_replies.ensures.replies in
     let a = attacked-few c.requires.at_leaf in
     let few = replies-few c.requires.at_leaf c.requires.defend c.in-Some.children are in
     omega (arith, a, few)
 
 pub returns-in-None-clause-tried : goal.returns-in-None-clause-tried
 returns-in-None-clause-tried g c =
-    let noted = leaf-noted c.requires.at_leaf in
-    let note : c.index.result.now ≡ note_at c.args.self.now.notes.items c.args.leaf =
-    c.index.ensures ∙ get_or_default c.args.self.now.notes.items c.args.leaf c.index.result.now no_note noted in
-    let left_is = c.from.ensures ∙ ap (λ (n : Note). n.left) note in
-    let escape : HasEscape g.R.Rule.KIND (note_at c.args.self.now.notes.items c.args.leaf).left (g.V.Seen.position c.args.view.now) =
-    judged g.R.Rule.KIND c.args.self.now c.args.tree.now c.args.compiler.now c.args.leaf
-    (g.V.Seen.position c.args.view.now) c.requires.at_leaf c.index.result.now c.from.result _ None c.index.ensures c.from.ensures
-    c.in-None.is c.in_ok-judge_replies.ensures.replies in
-    let early : c.from.result ≤ 2 = subst (λ o. IfNone o (c.from.result ≤ 2)) c.in-None.is c.in_ok-judge_replies.ensures.early in
+    let left_is = c.from.ensures ∙ leaf-left c.requires.at_leaf c.index.result.now c.index.ensures in
+    let escape = judged c.requires.at_leaf c.index.ensures c.from.ensures c.in-None.is c.in_ok-judge_replies.ensures.replies in
+    let early = rw c.in-None.is at c.in_ok-judge_replies.ensures.early in
     let is = leaf-is c.requires.at_leaf in
     record {
-      step = escape-grows
-          c.requires.at_leaf c.requires.defend escape (omega (arith, early, left_is))
-          c.settle.new.self (settled-at c.args.tree.now c.settle.new.self c.args.leaf false is c.settle.ensures.links
-          c.settle.ensures.settled
-          c.settle.ensures.others c.settle.ensures.leaves c.settle.ensures.tree)
-          c.judge_replies.new.board c.judge_replies.ensures.same_board;
+      step = escape-grows c.requires.at_leaf c.requires.defend escape (omega (arith, early, left_is)) c.settle.new.self
+          (settled-at c.args.tree.now c.settle.new.self c.args.leaf false is c.settle.ensures.links c.settle.ensures.settled
+          c.settle.ensures.others c.settle.ensures.leaves c.settle.ensures.tree) c.judge_replies.new.board
+          c.judge_replies.ensures.same_board;
       writes = writes-none c.requires.at_leaf _;
     }
 
 pub returns-then-count-self-clause-tried : goal.returns-then-count-self-clause-tried
 returns-then-count-self-clause-tried g c =
-    let are : AreChildren g.R.Rule.KIND (note_at c.args.self.now.notes.items c.args.leaf).left (g.V.Seen.position c.args.view.now)
-    c.in-Some.children = judged g.R.Rule.KIND c.args.self.now c.args.tree.now c.args.compiler.now c.args.leaf
-    (g.V.Seen.position c.args.view.now) c.requires.at_leaf c.index.result.now c.from.result _ (Some c.in-Some.children) c.index.ensures
-    c.from.ensures c.in-Some.is c.in_ok-judge_replies.ensures.replies in
+    let are = judged c.requires.at_leaf c.index.ensures c.from.ensures c.in-Some.is c.in_ok-judge_replies.ensures.replies in
     let over = c.if-count-self.true in
     record {
-      step = replies-spent
-          c.requires.at_leaf c.requires.defend c.in-Some.children are (omega (arith, over)) c.judge_replies.new.board
+      step = replies-spent c.requires.at_leaf c.requires.defend c.in-Some.children are (omega (arith, over)) c.judge_replies.new.board
           c.judge_replies.ensures.same_board;
       writes = writes-none c.requires.at_leaf _;
     }
 
 pub returns-in_err-settled-in-Some-clause-tried : goal.returns-in_err-settled-in-Some-clause-tried
 returns-in_err-settled-in-Some-clause-tried g c =
-    let are : AreChildren g.R.Rule.KIND (note_at c.args.self.now.notes.items c.args.leaf).left (g.V.Seen.position c.args.view.now)
-    c.in-Some.children = judged g.R.Rule.KIND c.args.self.now c.args.tree.now c.args.compiler.now c.args.leaf
-    (g.V.Seen.position c.args.view.now) c.requires.at_leaf c.index.result.now c.from.result _ (Some c.in-Some.children) c.index.ensures
-    c.from.ensures c.in-Some.is c.in_ok-judge_replies.ensures.replies in
+    let are = judged c.requires.at_leaf c.index.ensures c.from.ensures c.in-Some.is c.in_ok-judge_replies.ensures.replies in
     let within = c.if-count-self.false in
     let same = ap (sum_by (λ (child : Child). nodes_for child.judged)) c.as_slice.ensures.value in
     let room = replies-room c.requires.at_leaf c.requires.defend c.in-Some.children are (omega (arith, within)) in
@@ -117,10 +84,7 @@ returns-in_err-settled-in-Some-clause-tried g c =
 
 pub returns-in_err-expand-in-Some-clause-tried : goal.returns-in_err-expand-in-Some-clause-tried
 returns-in_err-expand-in-Some-clause-tried g c =
-    let are : AreChildren g.R.Rule.KIND (note_at c.args.self.now.notes.items c.args.leaf).left (g.V.Seen.position c.args.view.now)
-    c.in-Some.children = judged g.R.Rule.KIND c.args.self.now c.args.tree.now c.args.compiler.now c.args.leaf
-    (g.V.Seen.position c.args.view.now) c.requires.at_leaf c.index.result.now c.from.result _ (Some c.in-Some.children) c.index.ensures
-    c.from.ensures c.in-Some.is c.in_ok-judge_replies.ensures.replies in
+    let are = judged c.requires.at_leaf c.index.ensures c.from.ensures c.in-Some.is c.in_ok-judge_replies.ensures.replies in
     let within = c.if-count-self.false in
     let same = ap (sum_by (λ (child : Child). nodes_for child.judged)) c.as_slice.ensures.value in
     let room = replies-room c.requires.at_leaf c.requires.defend c.in-Some.children are (omega (arith, within)) in
@@ -138,31 +102,15 @@ returns-in_err-judge_replies-clause-tried g c = record {
 
 pub expand-requires : goal.expand-requires
 expand-requires g c =
-    let noted = leaf-noted c.requires.at_leaf in
-    let note : c.index.result.now ≡ note_at c.args.self.now.notes.items c.args.leaf =
-    c.index.ensures ∙ get_or_default c.args.self.now.notes.items c.args.leaf c.index.result.now no_note noted in
-    let are : AreChildren g.R.Rule.KIND (note_at c.args.self.now.notes.items c.args.leaf).left (g.V.Seen.position c.args.view.now)
-    c.in-Some.children = judged g.R.Rule.KIND c.args.self.now c.args.tree.now c.args.compiler.now c.args.leaf
-    (g.V.Seen.position c.args.view.now) c.requires.at_leaf c.index.result.now c.from.result _ (Some c.in-Some.children) c.index.ensures
-    c.from.ensures c.in-Some.is c.in_ok-judge_replies.ensures.replies in
-    let settled = settled-same g.R.Rule.KIND c.index.result.now.left (note_at c.args.self.now.notes.items c.args.leaf).left
-    (g.V.Seen.position c.judge_replies.new.view) (g.V.Seen.position c.args.view.now) c.settle_children.new.compiler
-    c.as_slice.result.now c.in-Some.children.all.items
-    c.in_ok-settled-in-Some.settled.numbers.items c.as_slice-in-Some.result.now c.in_ok-settled-in-Some.settled.notes.items
-    c.as_slice-in-Some-2.result.now
-    (ap (λ (n : Note). n.left) note) c.judge_replies.ensures.same c.as_slice.ensures.value c.as_slice-in-Some.ensures.value
-    c.as_slice-in-Some-2.ensures.value c.in_ok-settled-in-Some.ensures.settled in
+    let left = leaf-left c.requires.at_leaf c.index.result.now c.index.ensures in
+    let are = judged c.requires.at_leaf c.index.ensures c.from.ensures c.in-Some.is c.in_ok-judge_replies.ensures.replies in
+    let settled = settled-same left c.judge_replies.ensures.same c.as_slice.ensures.value
+    c.as_slice-in-Some.ensures.value c.as_slice-in-Some-2.ensures.value c.in_ok-settled-in-Some.ensures.settled in
     let within = c.if-count-self.false in
     let few = budget-few c.requires.at_leaf in
-    let all = few-new
-    c.requires.at_leaf c.requires.defend c.in-Some.children are c.settle_children.new.compiler c.as_slice-in-Some.result.now
-    c.as_slice-in-Some-2.result.now settled (omega (arith, within)) in
-    let some = some-new
-    c.requires.at_leaf c.requires.defend c.in-Some.children are c.settle_children.new.compiler c.as_slice-in-Some.result.now
-    c.as_slice-in-Some-2.result.now settled in
-    let fresh = all-fresh
-    c.requires.at_leaf c.requires.defend c.in-Some.children are c.settle_children.new.compiler c.as_slice-in-Some.result.now
-    c.as_slice-in-Some-2.result.now settled in
+    let all = few-new c.requires.at_leaf c.requires.defend c.in-Some.children are _ _ _ settled (omega (arith, within)) in
+    let some = some-new c.requires.at_leaf c.requires.defend c.in-Some.children are _ _ _ settled in
+    let fresh = all-fresh c.requires.at_leaf c.requires.defend c.in-Some.children are _ _ _ settled in
     record {
       «open» = root-open c.requires.at_leaf;
       leaf = leaf-is c.requires.at_leaf;
@@ -174,31 +122,16 @@ expand-requires g c =
 
 pub returns-in_ok-expand-in-Some-clause-tried : goal.returns-in_ok-expand-in-Some-clause-tried
 returns-in_ok-expand-in-Some-clause-tried g c =
-    let noted = leaf-noted c.requires.at_leaf in
-    let note : c.index.result.now ≡ note_at c.args.self.now.notes.items c.args.leaf =
-    c.index.ensures ∙ get_or_default c.args.self.now.notes.items c.args.leaf c.index.result.now no_note noted in
-    let are : AreChildren g.R.Rule.KIND (note_at c.args.self.now.notes.items c.args.leaf).left (g.V.Seen.position c.args.view.now)
-    c.in-Some.children = judged g.R.Rule.KIND c.args.self.now c.args.tree.now c.args.compiler.now c.args.leaf
-    (g.V.Seen.position c.args.view.now) c.requires.at_leaf c.index.result.now c.from.result _ (Some c.in-Some.children) c.index.ensures
-    c.from.ensures c.in-Some.is c.in_ok-judge_replies.ensures.replies in
-    let settled = settled-same g.R.Rule.KIND c.index.result.now.left (note_at c.args.self.now.notes.items c.args.leaf).left
-    (g.V.Seen.position c.judge_replies.new.view) (g.V.Seen.position c.args.view.now) c.settle_children.new.compiler
-    c.as_slice.result.now c.in-Some.children.all.items
-    c.in_ok-settled-in-Some.settled.numbers.items c.as_slice-in-Some.result.now c.in_ok-settled-in-Some.settled.notes.items
-    c.as_slice-in-Some-2.result.now
-    (ap (λ (n : Note). n.left) note) c.judge_replies.ensures.same c.as_slice.ensures.value c.as_slice-in-Some.ensures.value
-    c.as_slice-in-Some-2.ensures.value c.in_ok-settled-in-Some.ensures.settled in
+    let left = leaf-left c.requires.at_leaf c.index.result.now c.index.ensures in
+    let are = judged c.requires.at_leaf c.index.ensures c.from.ensures c.in-Some.is c.in_ok-judge_replies.ensures.replies in
+    let settled = settled-same left c.judge_replies.ensures.same c.as_slice.ensures.value
+    c.as_slice-in-Some.ensures.value c.as_slice-in-Some-2.ensures.value c.in_ok-settled-in-Some.ensures.settled in
     let within = c.if-count-self.false in
-    let grown : GrowsBy c.args.compiler.now c.settle_children.new.compiler
-    (sum_by (λ child. nodes_for child.judged) c.in-Some.children.all.items) =
-    subst (λ (xs : List Child). GrowsBy c.args.compiler.now c.settle_children.new.compiler
-    (sum_by (λ child. nodes_for child.judged) xs)) c.as_slice.ensures.value c.in_ok-settled-in-Some.ensures.writes.grows in
+    let grown = rw c.as_slice.ensures.value at c.in_ok-settled-in-Some.ensures.writes.grows in
     let count : ℕ = c.args.self.now.attacked + c.in-Some.children.count in
     record {
-      step = replies-grow
-          c.requires.at_leaf c.requires.defend c.in-Some.children are c.settle_children.new.compiler grown
-          c.in_ok-settled-in-Some.ensures.writes.compiled
-          c.as_slice-in-Some.result.now c.as_slice-in-Some-2.result.now settled
+      step = replies-grow c.requires.at_leaf c.requires.defend c.in-Some.children are c.settle_children.new.compiler grown
+          c.in_ok-settled-in-Some.ensures.writes.compiled c.as_slice-in-Some.result.now c.as_slice-in-Some-2.result.now settled
           c.expand.new.tree c.in_ok-expand-in-Some.ensures.tree (record c.expand.new.self { attacked = count })
           c.in_ok-expand-in-Some.ensures.notes (ap (λ (s : Search). record s { attacked = count }) c.expand.ensures.rest
           ∙ ap (λ (b : Grid). record c.args.self.now { board = b; notes = c.expand.new.self.notes; attacked = count })
@@ -212,16 +145,9 @@ returns-in_ok-expand-in-Some-clause-tried g c =
 
 pub settle_children-requires : goal.settle_children-requires
 settle_children-requires g c =
-    let noted = leaf-noted c.requires.at_leaf in
-    let note : c.index.result.now ≡ note_at c.args.self.now.notes.items c.args.leaf =
-    c.index.ensures ∙ get_or_default c.args.self.now.notes.items c.args.leaf c.index.result.now no_note noted in
-    let are : AreChildren g.R.Rule.KIND (note_at c.args.self.now.notes.items c.args.leaf).left (g.V.Seen.position c.args.view.now)
-    c.in-Some.children = judged g.R.Rule.KIND c.args.self.now c.args.tree.now c.args.compiler.now c.args.leaf
-    (g.V.Seen.position c.args.view.now) c.requires.at_leaf c.index.result.now c.from.result _ (Some c.in-Some.children) c.index.ensures
-    c.from.ensures c.in-Some.is c.in_ok-judge_replies.ensures.replies in
+    let left = leaf-left c.requires.at_leaf c.index.result.now c.index.ensures in
+    let are = judged c.requires.at_leaf c.index.ensures c.from.ensures c.in-Some.is c.in_ok-judge_replies.ensures.replies in
     record {
-      each = each-same g.R.Rule.KIND c.index.result.now.left (note_at c.args.self.now.notes.items c.args.leaf).left
-          (g.V.Seen.position c.judge_replies.new.view) (g.V.Seen.position c.args.view.now)
-          c.as_slice.result.now c.in-Some.children.all.items (ap (λ (n : Note). n.left) note) c.judge_replies.ensures.same
-          c.as_slice.ensures.value (each-is c.requires.at_leaf c.requires.defend c.in-Some.children are);
+      each = each-same left c.judge_replies.ensures.same c.as_slice.ensures.value
+          (each-is c.requires.at_leaf c.requires.defend c.in-Some.children are);
     }

@@ -1,10 +1,5 @@
-use Rattle.std.proofs.Common.{◌≡◌, ◌∙◌, ◌<◌, sym, ap, subst, arith, length, false, refl, Some}
-use Rattle.position_table.specs.Packing.{packed}
-use Rattle.position_table.specs.Remembering.{value_under}
-use Rattle.proof_number.specs.declared.notes.Settled.TheVariants.{Won, Lost}
-use Rattle.proof_number.specs.declared.search.Search.{Search}
-use Rattle.proof_number.proofs.Common.{note_at, IsNotedWin}
-use Rattle.strategy_compiler.specs.declared.wins.WrittenWin.{WrittenWin}
+use Rattle.std.proofs.Common.{◌≡◌, ◌∙◌, ◌<◌, sym, ap, arith, false, refl, Some}
+use Rattle.proof_number.proofs.Common.{Won, Lost, note_at, IsNotedWin, WrittenWin}
 use Rattle.proof_number.proofs.Steps.{leaf-found, leaf-is, leaf-noted, left-few, recalled-lost, recalled-stands, recalled-won, root-open}
 use Rattle.proof_number.proofs.Steps.{settled-at, tried-from, writes-none}
 use Rattle.proof_number.proofs.search.Search.attack.Goals as goal
@@ -21,31 +16,25 @@ pub settle_won-requires-clause-leaf : goal.settle_won-requires-clause-leaf
 settle_won-requires-clause-leaf g c = leaf-is c.requires.at_leaf
 
 pub settle_won-requires-clause-noted : goal.settle_won-requires-clause-noted
-settle_won-requires-clause-noted g c =
-    subst (λ (s : Search). c.args.leaf < length s.notes.items) (sym c.recall.ensures.rest) (leaf-noted c.requires.at_leaf)
+settle_won-requires-clause-noted g c = rw c.recall.ensures.rest (leaf-noted c.requires.at_leaf)
 
 pub settle_won-requires-clause-few : goal.settle_won-requires-clause-few
 settle_won-requires-clause-few g c =
-    let found : Some (Won c.in-Some-Won.win) ≡ value_under
-    (packed (g.V.Seen.position c.args.view.now), (note_at c.args.self.now.notes.items c.args.leaf).left) c.args.self.now.settled =
-    ap Some (sym c.in-Some-Won.field-0-is) ∙ c.in-Some-Won.ensures.found in
+    let found = ap Some (sym c.in-Some-Won.field-0-is) ∙ c.in-Some-Won.ensures.found in
     let known = leaf-found c.requires.at_leaf c.requires.attack (g.V.Seen.position c.args.view.now) (Won c.in-Some-Won.win) refl found in
     let few = left-few c.requires.at_leaf in
     omega (arith, few, known.0.within, ap (λ (w : WrittenWin). w.moves) c.in-Some-Won.win-is)
 
 pub returns-in-Some-Won-clause-tried : goal.returns-in-Some-Won-clause-tried
 returns-in-Some-Won-clause-tried g c =
-    let found : Some (Won c.in-Some-Won.win) ≡ value_under
-    (packed (g.V.Seen.position c.args.view.now), (note_at c.args.self.now.notes.items c.args.leaf).left) c.args.self.now.settled =
-    ap Some (sym c.in-Some-Won.field-0-is) ∙ c.in-Some-Won.ensures.found in
+    let found = ap Some (sym c.in-Some-Won.field-0-is) ∙ c.in-Some-Won.ensures.found in
     let known = leaf-found c.requires.at_leaf c.requires.attack (g.V.Seen.position c.args.view.now) (Won c.in-Some-Won.win) refl found in
     let P : WrittenWin → Type 0 = λ w. IsNotedWin g.R.Rule.KIND (note_at c.args.self.now.notes.items c.args.leaf).left
     (g.V.Seen.position c.args.view.now) c.args.compiler.now w in
     record {
-      step = recalled-won
-          c.requires.at_leaf c.requires.attack c.recall.new.self c.recall.ensures.rest _ c.recall.ensures.entries
+      step = recalled-won c.requires.at_leaf c.requires.attack c.recall.new.self c.recall.ensures.rest _ c.recall.ensures.entries
           c.settle_won.new.tree c.settle_won.ensures.settled c.settle_won.new.self c.settle_won.ensures.rest _ c.settle_won.ensures.notes
-          (subst P (sym c.in-Some-Won.win-is) known);
+          (rw c.in-Some-Won.win-is known);
       writes = writes-none c.requires.at_leaf _;
     }
 
@@ -56,8 +45,7 @@ settle-requires g c = record {
 
 pub returns-in-Some-Lost-clause-tried : goal.returns-in-Some-Lost-clause-tried
 returns-in-Some-Lost-clause-tried g c =
-    let found : Some Lost ≡ value_under (packed (g.V.Seen.position c.args.view.now), (note_at c.args.self.now.notes.items c.args.leaf).left)
-    c.args.self.now.settled = ap Some (sym c.in-Some-Lost.field-0-is) ∙ c.in-Some-Lost.ensures.found in
+    let found = ap Some (sym c.in-Some-Lost.field-0-is) ∙ c.in-Some-Lost.ensures.found in
     let known = leaf-found c.requires.at_leaf c.requires.attack (g.V.Seen.position c.args.view.now) Lost refl found in
     let is = leaf-is c.requires.at_leaf in
     record {

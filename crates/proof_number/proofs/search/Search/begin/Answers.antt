@@ -1,14 +1,12 @@
 use Rattle.std.proofs.Common.{rules, ◌≡◌, ◌∙◌, refl, sym, ap, arith}
-use Rattle.game_rules.proofs.Common.{Grid, mover, five_points}
+use Rattle.proof_number.proofs.Common.{Grid, mover, Search, IsThreatWin, nowhere}
+use Rattle.game_rules.proofs.Common.{five_points}
 use Rattle.game_rules.proofs.Fives.{first_listed, none_listed}
 use Rattle.proof_tree.proofs.SumLaws.{lone-leaf}
 use Rattle.strategy_compiler.proofs.Growing.{grows-not, writes-fails, writes-memory}
-use Rattle.proof_number.specs.declared.search.Search.{Search}
-use Rattle.threat_game.specs.Wins.{IsThreatWin}
 use Rattle.threat_game.proofs.TreeLaws.{few-moves}
 use Rattle.proof_number.proofs.Beginning.{begun-open, begun-refused, begun-won, some-won}
 use Rattle.game_rules.proofs.Games.{five-threats}
-use Rattle.threat_game.proofs.Common.{nowhere}
 use Rattle.proof_number.proofs.search.Search.begin.Goals as goal
 
 pub returns-in_err-fives-clause-begun : goal.returns-in_err-fives-clause-begun
@@ -19,8 +17,7 @@ returns-in_err-fives-clause-begun g c =
 pub returns-then-self-gt1-clause-begun : goal.returns-then-self-gt1-clause-begun
 returns-then-self-gt1-clause-begun g c =
     let b : Grid = g.V.Seen.position c.args.view.now in
-    let are : c.as_slice.result.now ≡ five_points g.R.Rule.KIND b (mover b) =
-    c.as_slice.ensures.items ∙ c.in_ok-fives.ensures.fives ∙ ap (five_points g.R.Rule.KIND b) c.side-attacker.ensures.side in
+    let are = c.as_slice.ensures.items ∙ c.in_ok-fives.ensures.fives ∙ ap (five_points g.R.Rule.KIND b) c.side-attacker.ensures.side in
     let none = c.in-empty.len_below in
     let deep = c.if-self-gt1.true in
     begun-open c.requires.begins c.side-attacker.ensures.lawful c.len.ensures.tree c.len-2.ensures.compiled (omega (arith, deep))
@@ -29,8 +26,7 @@ returns-then-self-gt1-clause-begun g c =
 pub one_move-requires-clause-no_five : goal.one_move-requires-clause-no_five
 one_move-requires-clause-no_five g c =
     let b : Grid = g.V.Seen.position c.args.view.now in
-    let are : c.as_slice.result.now ≡ five_points g.R.Rule.KIND b (mover b) =
-    c.as_slice.ensures.items ∙ c.in_ok-fives.ensures.fives ∙ ap (five_points g.R.Rule.KIND b) c.side-attacker.ensures.side in
+    let are = c.as_slice.ensures.items ∙ c.in_ok-fives.ensures.fives ∙ ap (five_points g.R.Rule.KIND b) c.side-attacker.ensures.side in
     let none = c.in-empty.len_below in
     none_listed g.R.Rule.KIND b (mover b) c.as_slice.result.now are (omega (arith, none))
 
@@ -41,8 +37,7 @@ one_move-requires-clause-one_move g c =
 pub returns-in_err-win-in-len1-up-clause-begun : goal.returns-in_err-win-in-len1-up-clause-begun
 returns-in_err-win-in-len1-up-clause-begun g c =
     let b : Grid = g.V.Seen.position c.args.view.now in
-    let are : c.as_slice.result.now ≡ five_points g.R.Rule.KIND b (mover b) =
-    c.as_slice.ensures.items ∙ c.in_ok-fives.ensures.fives ∙ ap (five_points g.R.Rule.KIND b) c.side-attacker.ensures.side in
+    let are = c.as_slice.ensures.items ∙ c.in_ok-fives.ensures.fives ∙ ap (five_points g.R.Rule.KIND b) c.side-attacker.ensures.side in
     begun-refused c.requires.begins c.side-attacker.ensures.lawful c.len.ensures.tree refl refl (search rules)
     (writes-fails _ _ 1 _ _ _ c.in_err-win-in-len1-up.ensures.writes
     (some-won c.requires.begins c.side-attacker.ensures.lawful c.len.ensures.tree
@@ -59,8 +54,7 @@ settle_won-requires-clause-noted g c = let one = c.requires.begins.new.one in om
 pub settle_won-requires-clause-few : goal.settle_won-requires-clause-few
 settle_won-requires-clause-few g c =
     let b : Grid = g.V.Seen.position c.args.view.now in
-    let are : c.as_slice.result.now ≡ five_points g.R.Rule.KIND b (mover b) =
-    c.as_slice.ensures.items ∙ c.in_ok-fives.ensures.fives ∙ ap (five_points g.R.Rule.KIND b) c.side-attacker.ensures.side in
+    let are = c.as_slice.ensures.items ∙ c.in_ok-fives.ensures.fives ∙ ap (five_points g.R.Rule.KIND b) c.side-attacker.ensures.side in
     let is : IsThreatWin g.R.Rule.KIND c.args.self.now.depth b c.compile_five.new.compiler c.in_ok-win-in-len1-up.win =
     c.in_ok-win-in-len1-up.ensures.win g.R.Rule.KIND b c.args.self.now.depth c.side-attacker.ensures.lawful
     (first_listed g.R.Rule.KIND b (mover b) c.as_slice.result.now _ are c.in-len1-up.len_at_least) c.requires.begins.some_depth in
@@ -69,8 +63,7 @@ settle_won-requires-clause-few g c =
 pub returns-in-len1-up-clause-begun : goal.returns-in-len1-up-clause-begun
 returns-in-len1-up-clause-begun g c =
     let b : Grid = g.V.Seen.position c.args.view.now in
-    let are : c.as_slice.result.now ≡ five_points g.R.Rule.KIND b (mover b) =
-    c.as_slice.ensures.items ∙ c.in_ok-fives.ensures.fives ∙ ap (five_points g.R.Rule.KIND b) c.side-attacker.ensures.side in
+    let are = c.as_slice.ensures.items ∙ c.in_ok-fives.ensures.fives ∙ ap (five_points g.R.Rule.KIND b) c.side-attacker.ensures.side in
     let is : IsThreatWin g.R.Rule.KIND c.args.self.now.depth b c.compile_five.new.compiler c.in_ok-win-in-len1-up.win =
     c.in_ok-win-in-len1-up.ensures.win g.R.Rule.KIND b c.args.self.now.depth c.side-attacker.ensures.lawful
     (first_listed g.R.Rule.KIND b (mover b) c.as_slice.result.now _ are c.in-len1-up.len_at_least) c.requires.begins.some_depth in

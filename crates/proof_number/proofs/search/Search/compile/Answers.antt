@@ -1,9 +1,6 @@
 use Rattle.std.proofs.Common.{◌≡◌, ◌∙◌, refl, sym, ap, arith, List, length, take, drop}
 use Rattle.std.proofs.lemmas.List.{get_or_default}
-use Rattle.proof_tree.proofs.Common.{link_at}
-use Rattle.proof_tree.specs.declared.Link.{Link}
-use Rattle.proof_number.specs.declared.notes.Note.{Note}
-use Rattle.proof_number.proofs.Common.{no_note, note_at}
+use Rattle.proof_number.proofs.Common.{Link, Note, no_note, note_at}
 use Rattle.proof_number.proofs.Compiling.{compile-below, compile-few, compile-fits, compile-here, compile-inside, compile-keeps}
 use Rattle.proof_number.proofs.Compiling.{compile-kids, compile-noted, compile-room, compile-searches, compile-some, compile-won}
 use Rattle.proof_number.proofs.Recording.{keeps-all}
@@ -41,9 +38,7 @@ kids-notes-requires g c =
 pub compile_answers-requires : goal.compile_answers-requires
 compile_answers-requires g c =
     let items : List Note = c.args.self.now.notes.items in
-    let are : c.kids-notes.result.now ≡ take (link_at c.args.tree.now.links c.first_proved-proved.result).count
-    (drop (link_at c.args.tree.now.links c.first_proved-proved.result).first items) =
-    c.kids-notes.ensures.kids ∙ ap (λ (ns : List Note). take c.link-link.result.count (drop c.link-link.result.first ns))
+    let are = c.kids-notes.ensures.kids ∙ ap (λ (ns : List Note). take c.link-link.result.count (drop c.link-link.result.first ns))
     c.as_slice.ensures.value ∙ ap (λ (l : Link). take l.count (drop l.first items)) c.link-link.ensures.link in
     record {
       some = compile-kids c.requires.searching
@@ -69,9 +64,7 @@ note_win-requires-clause-noted g c =
 pub note_win-requires-clause-few : goal.note_win-requires-clause-few
 note_win-requires-clause-few g c =
     let items : List Note = c.args.self.now.notes.items in
-    let are : c.kids-notes.result.now ≡ take (link_at c.args.tree.now.links c.first_proved-proved.result).count
-    (drop (link_at c.args.tree.now.links c.first_proved-proved.result).first items) =
-    c.kids-notes.ensures.kids ∙ ap (λ (ns : List Note). take c.link-link.result.count (drop c.link-link.result.first ns))
+    let are = c.kids-notes.ensures.kids ∙ ap (λ (ns : List Note). take c.link-link.result.count (drop c.link-link.result.first ns))
     c.as_slice.ensures.value ∙ ap (λ (l : Link). take l.count (drop l.first items)) c.link-link.ensures.link in
     let low = compile-noted c.requires.searching
     c.requires.in_tree c.requires.attack c.requires.proved c.requires.unwritten c.first_proved-proved.result
@@ -86,9 +79,7 @@ note_win-requires-clause-few g c =
 pub returns-in-Ok : goal.returns-in-Ok
 returns-in-Ok g c =
     let items : List Note = c.args.self.now.notes.items in
-    let are : c.kids-notes.result.now ≡ take (link_at c.args.tree.now.links c.first_proved-proved.result).count
-    (drop (link_at c.args.tree.now.links c.first_proved-proved.result).first items) =
-    c.kids-notes.ensures.kids ∙ ap (λ (ns : List Note). take c.link-link.result.count (drop c.link-link.result.first ns))
+    let are = c.kids-notes.ensures.kids ∙ ap (λ (ns : List Note). take c.link-link.result.count (drop c.link-link.result.first ns))
     c.as_slice.ensures.value ∙ ap (λ (l : Link). take l.count (drop l.first items)) c.link-link.ensures.link in
     let low = compile-noted c.requires.searching
     c.requires.in_tree c.requires.attack c.requires.proved c.requires.unwritten c.first_proved-proved.result

@@ -11,20 +11,17 @@ index-requires g c = let low = noted-inside
 pub returns-in-Some-clause-win : goal.returns-in-Some-clause-win
 returns-in-Some-clause-win g c =
     let low = noted-inside c.requires.searching c.requires.in_tree in
-    let note : note_at c.args.self.now.notes.items c.args.node ≡ c.index.result.now =
-    get_or_default c.args.self.now.notes.items c.args.node no_note c.index.result.now low ∙ sym c.index.ensures in
+    let note = get_or_default c.args.self.now.notes.items c.args.node no_note c.index.result.now low ∙ sym c.index.ensures in
     noted-written c.requires.searching c.requires.in_tree c.in-Some.win (ap noted_win note ∙ sym c.in-Some.ensures.win)
 
 pub returns-in-Some-clause-passed : goal.returns-in-Some-clause-passed
 returns-in-Some-clause-passed g c =
     let low = noted-inside c.requires.searching c.requires.in_tree in
-    let note : note_at c.args.self.now.notes.items c.args.node ≡ c.index.result.now =
-    get_or_default c.args.self.now.notes.items c.args.node no_note c.index.result.now low ∙ sym c.index.ensures in
+    let note = get_or_default c.args.self.now.notes.items c.args.node no_note c.index.result.now low ∙ sym c.index.ensures in
     passed-idle _ (noted-searches c.requires.searching c.in-Some.win (ap noted_win note ∙ sym c.in-Some.ensures.win))
 
 pub compile-requires-clause-unwritten : goal.compile-requires-clause-unwritten
 compile-requires-clause-unwritten g c =
     let low = noted-inside c.requires.searching c.requires.in_tree in
-    let note : note_at c.args.self.now.notes.items c.args.node ≡ c.index.result.now =
-    get_or_default c.args.self.now.notes.items c.args.node no_note c.index.result.now low ∙ sym c.index.ensures in
+    let note = get_or_default c.args.self.now.notes.items c.args.node no_note c.index.result.now low ∙ sym c.index.ensures in
     noted-none (note_at c.args.self.now.notes.items c.args.node) (ap noted_win note ∙ sym c.in-None.ensures.win)

@@ -1,6 +1,4 @@
-use Rattle.std.proofs.Common.{rules, sym, subst, false, arith}
-use Rattle.game_rules.specs.Grid.{Grid}
-use Rattle.proof_number.specs.Searches.{StandsAt}
+use Rattle.std.proofs.Common.{rules, false, arith}
 use Rattle.proof_number.proofs.Steps.{leaf-is, leaf-noted, root-open, settled-at, writes-no_memory, writes-none}
 use Rattle.proof_number.proofs.Defending.{denied-grows}
 use Rattle.proof_number.proofs.search.Search.defend.Goals as goal
@@ -26,9 +24,7 @@ returns-then-denied-clause-tried g c =
     }
 
 pub answer_replies-requires-clause-at_leaf : goal.answer_replies-requires-clause-at_leaf
-answer_replies-requires-clause-at_leaf g c =
-    subst (λ (b : Grid). StandsAt g.R.Rule.KIND c.args.self.now c.args.tree.now c.args.compiler.now c.args.leaf b)
-    (sym c.is_denied.ensures.same) c.requires.at_leaf
+answer_replies-requires-clause-at_leaf g c = rw c.is_denied.ensures.same c.requires.at_leaf
 
 pub returns-in_err-denied-clause-tried : goal.returns-in_err-denied-clause-tried
 returns-in_err-denied-clause-tried g c = record {

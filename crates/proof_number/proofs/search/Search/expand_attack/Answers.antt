@@ -1,13 +1,10 @@
-use Rattle.std.proofs.Common.{rules, ◌≡◌, ◌∙◌, false, ◌+◌, ◌-◌, ℕ, inl, refl, sym, ap, subst, arith, List, length, map, replicate, All}
-use Rattle.std.proofs.lemmas.List.{get_or_default, length-replicate, nil_from_length}
+use Rattle.std.proofs.Common.{rules, ◌≡◌, ◌∙◌, false, ◌+◌, ◌-◌, ℕ, inl, refl, sym, ap, arith, List, length, map}
+use Rattle.std.proofs.Common.{replicate}
+use Rattle.std.proofs.lemmas.List.{length-replicate, nil_from_length}
 use Rattle.std.proofs.lemmas.List.Elements.{All-replicate}
-use Rattle.game_rules.specs.declared.Point.{Point}
+use Rattle.proof_number.proofs.Common.{Point, Search, note_at}
 use Rattle.proof_tree.proofs.SumLaws.{IsFresh}
-use Rattle.threat_game.specs.Attacks.{tried_moves}
-use Rattle.proof_number.specs.declared.notes.Note.{Note}
-use Rattle.proof_number.specs.declared.search.Search.{Search}
-use Rattle.proof_number.specs.Notes.{no_note, note_at}
-use Rattle.proof_number.proofs.Steps.{attack-moves, leaf-is, leaf-noted, root-open, settled-at, writes-no_memory, writes-none}
+use Rattle.proof_number.proofs.Steps.{attack-moves, leaf-is, leaf-noted, leaf-left, root-open, settled-at, writes-no_memory, writes-none}
 use Rattle.proof_number.proofs.Attacking.{moves-grow, moves-spent, none-grows, open_note, open_one}
 use Rattle.proof_number.proofs.ExpandedCounts.{budget-few, defended-few, short-there, sums-there}
 use Rattle.proof_number.proofs.search.Search.expand_attack.Goals as goal
@@ -25,10 +22,7 @@ index-requires g c = let low = leaf-noted c.requires.at_leaf in omega (arith, lo
 
 pub overflow_sub-left : goal.overflow_sub-left
 overflow_sub-left g c =
-    let noted = leaf-noted c.requires.at_leaf in
-    let note : c.index.result.now ≡ note_at c.args.self.now.notes.items c.args.leaf =
-    c.index.ensures ∙ get_or_default c.args.self.now.notes.items c.args.leaf c.index.result.now no_note noted in
-    let same = ap (λ (n : Note). n.left) note in
+    let same = leaf-left c.requires.at_leaf c.index.result.now c.index.ensures in
     let two = attack-moves c.requires.at_leaf c.requires.attack in
     omega (arith, same, two)
 
@@ -40,10 +34,8 @@ expand-requires-clause-leaf g c = leaf-is c.requires.at_leaf
 
 pub expand-requires-clause-short : goal.expand-requires-clause-short
 expand-requires-clause-short g c =
-    let are : c.as_slice.result.now ≡ replicate (length c.args.moves.now) open_one =
-    c.as_slice.ensures.value ∙ c.in_ok-numbers.ensures.numbers in
-    let long : length c.as_slice.result.now ≡ length c.args.moves.now =
-    ap length are ∙ length-replicate (length c.args.moves.now) open_one in
+    let are = c.as_slice.ensures.value ∙ c.in_ok-numbers.ensures.numbers in
+    let long = ap length are ∙ length-replicate (length c.args.moves.now) open_one in
     let some = c.if-moves-eq0.false in
     let within = c.if-count-self.false in
     let few = budget-few c.requires.at_leaf in
@@ -51,15 +43,12 @@ expand-requires-clause-short g c =
 
 pub expand-requires-clause-sums : goal.expand-requires-clause-sums
 expand-requires-clause-sums g c =
-    let are : c.as_slice.result.now ≡ replicate (length c.args.moves.now) open_one =
-    c.as_slice.ensures.value ∙ c.in_ok-numbers.ensures.numbers in
-    let long : length c.as_slice.result.now ≡ length c.args.moves.now =
-    ap length are ∙ length-replicate (length c.args.moves.now) open_one in
+    let are = c.as_slice.ensures.value ∙ c.in_ok-numbers.ensures.numbers in
+    let long = ap length are ∙ length-replicate (length c.args.moves.now) open_one in
     let some = c.if-moves-eq0.false in
     let within = c.if-count-self.false in
     let few = budget-few c.requires.at_leaf in
-    let fresh : All IsFresh c.as_slice.result.now = subst (All IsFresh) (sym are)
-    (All-replicate IsFresh (length c.args.moves.now) open_one (inl refl)) in
+    let fresh = rw (← are) at (All-replicate IsFresh (length c.args.moves.now) open_one (inl refl)) in
     sums-there c.requires.at_leaf c.as_slice.result.now (omega (arith, long, some)) (omega (arith, long, within, few)) fresh
 
 pub returns-then-moves-eq0 : goal.returns-then-moves-eq0
@@ -70,8 +59,7 @@ returns-then-moves-eq0 g c =
         step = none-grows c.requires.at_leaf c.requires.attack
             c.requires.others (sym c.requires.moves ∙ nil_from_length c.args.moves.now c.if-moves-eq0.true)
             c.settle.new.self (settled-at c.args.tree.now c.settle.new.self c.args.leaf false is c.settle.ensures.links
-            c.settle.ensures.settled
-            c.settle.ensures.others c.settle.ensures.leaves c.settle.ensures.tree);
+            c.settle.ensures.settled c.settle.ensures.others c.settle.ensures.leaves c.settle.ensures.tree);
         writes = writes-none c.requires.at_leaf _;
       };
     }
@@ -92,18 +80,13 @@ returns-then-count-self g c =
 
 pub returns : goal.returns
 returns g c =
-    let noted = leaf-noted c.requires.at_leaf in
-    let note : c.index.result.now ≡ note_at c.args.self.now.notes.items c.args.leaf =
-    c.index.ensures ∙ get_or_default c.args.self.now.notes.items c.args.leaf c.index.result.now no_note noted in
-    let same = ap (λ (n : Note). n.left) note in
+    let same = leaf-left c.requires.at_leaf c.index.result.now c.index.ensures in
     let two = attack-moves c.requires.at_leaf c.requires.attack in
     let size = ap length c.requires.moves in
     let some = c.if-moves-eq0.false in
     let within = c.if-count-self.false in
     let left : ℕ = c.index.result.now.left - 1 in
-    let count : c.args.self.now.defended + length c.args.moves.now ≡ c.args.self.now.defended + length
-    (tried_moves g.R.Rule.KIND c.args.self.now.board) =
-    ap (λ (ps : List Point). c.args.self.now.defended + length ps) c.requires.moves in
+    let count = ap (λ (ps : List Point). c.args.self.now.defended + length ps) c.requires.moves in
     record {
       tried = record {
         step = moves-grow c.requires.at_leaf c.requires.attack

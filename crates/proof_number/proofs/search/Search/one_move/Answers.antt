@@ -1,11 +1,9 @@
-use Rattle.std.proofs.Common.{ℕ, subst, rules, ◌∙◌, refl, sym, ap, arith, false}
+use Rattle.std.proofs.Common.{rules, ◌∙◌, refl, sym, ap, arith, false}
 use Rattle.proof_tree.proofs.SumLaws.{lone-leaf}
 use Rattle.strategy_compiler.proofs.Growing.{writes-fails}
-use Rattle.proof_number.specs.declared.search.Search.{Search}
-use Rattle.threat_game.specs.Wins.{IsThreatWin}
+use Rattle.proof_number.proofs.Common.{Search, IsThreatWin}
 use Rattle.threat_game.proofs.TreeLaws.{few-moves}
 use Rattle.proof_number.proofs.Beginning.{begun-lost, begun-refused, begun-won, some-won}
-use Rattle.game_rules.proofs.Common.{WinsByThreats}
 use Rattle.threat_game.proofs.AttackLaws.{last-wins}
 use Rattle.proof_number.proofs.Steps.{settled-at}
 use Rattle.proof_number.proofs.search.Search.one_move.Goals as goal
@@ -31,8 +29,8 @@ returns-in_err-win-in-Some-clause-begun g c =
     begun-refused c.requires.begins c.requires.lawful c.requires.tree refl c.last_move.ensures.same_board (search rules)
     (writes-fails _ _ 1 _ _ _ c.in_err-win-in-Some.ensures.writes
     (some-won c.requires.begins c.requires.lawful c.requires.tree
-    (subst (λ (n : ℕ). WinsByThreats g.R.Rule.KIND n (g.V.Seen.position c.args.view.now)) (sym c.requires.one_move)
-    (last-wins g.R.Rule.KIND (g.V.Seen.position c.args.view.now) _ c.in-Some.ensures.last 0))) (search rules))
+    (rw c.requires.one_move (last-wins g.R.Rule.KIND (g.V.Seen.position c.args.view.now) _ c.in-Some.ensures.last 0)))
+    (search rules))
 
 pub returns-in_ok-win-in-Some-clause-begun : goal.returns-in_ok-win-in-Some-clause-begun
 returns-in_ok-win-in-Some-clause-begun g c =

@@ -1,6 +1,5 @@
-use Rattle.std.proofs.Common.{◌≡◌, ◌∙◌, ◌<◌, sym, ap, subst, arith, length, Option, IfSome}
-use Rattle.proof_number.specs.declared.notes.Settled.{Settled}
-use Rattle.proof_number.proofs.Common.{no_note, GameTree, board_at, left_at, IsTrueOf, game_of}
+use Rattle.std.proofs.Common.{◌≡◌, ◌∙◌, ◌<◌, sym, ap, arith, length, Option, IfSome, subst}
+use Rattle.proof_number.proofs.Common.{Settled, no_note, GameTree, board_at, left_at, IsTrueOf, game_of}
 use Rattle.proof_number.proofs.GameTruths.{noted-left}
 use Rattle.strategy_compiler.proofs.Growing.{writes-tells}
 use Rattle.proof_number.proofs.Recording.{above-inside, keeps-then, kept-searches, passed-fails, passed-tells, remembered-keeps}

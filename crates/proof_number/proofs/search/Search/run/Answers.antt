@@ -1,8 +1,6 @@
-use Rattle.std.proofs.Common.{rules, ◌≡◌, ◌∙◌, ◌*◌, ◌≤◌, ℕ, sym, ap, subst, arith, length, min}
-use Rattle.proof_tree.proofs.Common.{is_settled, Tree, numbers_at}
+use Rattle.std.proofs.Common.{rules, ◌≡◌, ◌∙◌, ◌*◌, ◌≤◌, ℕ, sym, ap, arith}
+use Rattle.proof_number.proofs.Common.{is_settled, Tree, numbers_at, threat_tree, HasStepped, IsOverBudget}
 use Rattle.strategy_compiler.proofs.Growing.{writes-fails, writes-tells}
-use Rattle.threat_game.proofs.Common.{threat_tree}
-use Rattle.proof_number.proofs.Common.{HasStepped, IsOverBudget, HasRunOut, IsSearchTree}
 use Rattle.proof_number.proofs.Ending.{begun-room, closed-few, leaves-told, root-noted, steps-write, told-denial, told-lost, told-none}
 use Rattle.proof_number.proofs.Ending.{told-proved, told-tree, told-win, told-disproved}
 use Rattle.proof_number.proofs.StepLaws.{on-done, on-spent, searched-tree}
@@ -115,16 +113,14 @@ returns-in-Spent-clause-told g c =
     record {
       true_answer = (
         omega (arith, spent, positions, budget),
-        subst (λ (t : Tree). HasRunOut rule s.depth s.budget s.root t) (sym came.same) (out-aim inv.aim came.ran_out),
+        rw came.same (out-aim inv.aim came.ran_out),
       );
       root = ap (λ (t : Tree). is_settled (numbers_at t.numbers 0)) came.same ∙ ap is_settled (sym c.numbers.ensures.numbers)
           ∙ sym c.is_settled.ensures.settled ∙ c.loop-self-test.true;
       leaves = leaves-told g.R.Rule.KIND c.args.self.now c.requires.begins.new.before_is step.tree (omega (arith, longer, before))
-          (subst (λ (t : Tree). length t.links ≤ 2 * min s.budget (threat_tree rule s.depth s.root)) (sym came.same)
-          (told-tree inv.searching s.depth s.budget s.root inv.aim.depth inv.aim.budget inv.aim.root))
+          (rw came.same (told-tree inv.searching s.depth s.budget s.root inv.aim.depth inv.aim.budget inv.aim.root))
           (writes-tells _ _ _ _ c.in_ok-step.field-0 _ (steps-write rule inv.aim inv.writes step.writes) (omega arith));
-      searched = subst (λ (t : Tree). IsSearchTree rule s.depth s.budget s.root t) (sym came.same)
-          (tree-aim inv.aim (so-far-tree (searching-facts inv.searching)));
+      searched = rw came.same (tree-aim inv.aim (so-far-tree (searching-facts inv.searching)));
     }
 
 pub returns-in-Spent-clause-same : goal.returns-in-Spent-clause-same

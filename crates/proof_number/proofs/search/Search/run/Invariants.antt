@@ -1,6 +1,5 @@
 use Rattle.std.proofs.Common.{◌≡◌, ◌≤◌, ◌-◌, ◌*◌, length, Ok}
-use Rattle.strategy_compiler.specs.Growth.{Writes}
-use Rattle.proof_number.specs.Searches.{IsSameAim, Searches, closed_nodes, most_nodes, room_in}
+use Rattle.proof_number.proofs.Common.{Writes, IsSameAim, Searches, closed_nodes, most_nodes, room_in}
 use Rattle.proof_number.proofs.search.Search.run.Given as goal
 
 -- the search is for the same, and stands at the root; the tree and the compiler have grown

@@ -1,8 +1,6 @@
 use Rattle.std.proofs.Common.{◌≡◌, ◌∙◌, arith}
 use Rattle.std.proofs.lemmas.List.{length-map}
-use Rattle.proof_number.specs.declared.notes.Note.{Note}
-use Rattle.proof_number.proofs.Common.{no_note, GameTree, game_of}
-use Rattle.threat_game.specs.ThreatGame.{move_at}
+use Rattle.proof_number.proofs.Common.{Note, no_note, GameTree, game_of, move_at}
 use Rattle.proof_number.proofs.GameTruths.{noted-move, move-stone, move-unwon, move-lifted, move-holds}
 use Rattle.proof_number.proofs.search.Search.step_back.Goals as goal
 

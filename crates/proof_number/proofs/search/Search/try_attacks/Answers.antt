@@ -1,7 +1,5 @@
-use Rattle.std.proofs.Common.{rules, ◌≡◌, ◌∙◌, true, sym, ap, subst}
-use Rattle.game_rules.specs.Grid.{Grid}
-use Rattle.threat_game.specs.declared.attacks.Attacks.TheVariants.{NoReply, Moves}
-use Rattle.threat_game.specs.Attacks.{AreAttacks, OthersFail, is_last_move, tried_moves}
+use Rattle.std.proofs.Common.{rules, ◌≡◌, ◌∙◌, sym, ap}
+use Rattle.threat_game.specs.Attacks.{tried_moves}
 use Rattle.proof_number.proofs.Steps.{attack-no_five, board-stands, leaf-board, tried-on-board, writes-no_memory}
 use Rattle.proof_number.proofs.search.Search.try_attacks.Goals as goal
 
@@ -19,27 +17,21 @@ expand_attack-requires-clause-at_leaf g c = board-stands c.requires.at_leaf _ c.
 
 pub win_last-requires-clause-last : goal.win_last-requires-clause-last
 win_last-requires-clause-last g c =
-    let board : c.find_attacks.new.board ≡ g.V.Seen.position c.args.view.now =
-    c.find_attacks.ensures.same_board ∙ leaf-board c.requires.at_leaf in
-    let all : AreAttacks g.R.Rule.KIND (g.V.Seen.position c.args.view.now) (NoReply c.in-NoReply.p) =
-    subst (AreAttacks g.R.Rule.KIND (g.V.Seen.position c.args.view.now)) c.in-NoReply.is c.in_ok-double.ensures.attacks in
-    subst (λ (b : Grid). is_last_move g.R.Rule.KIND b c.in-NoReply.p ≡ true) (sym board) all
+    let board = c.find_attacks.ensures.same_board ∙ leaf-board c.requires.at_leaf in
+    let all = rw c.in-NoReply.is at c.in_ok-double.ensures.attacks in
+    rw board all
 
 pub expand_attack-requires-clause-moves : goal.expand_attack-requires-clause-moves
 expand_attack-requires-clause-moves g c =
-    let board : c.find_attacks.new.board ≡ g.V.Seen.position c.args.view.now =
-    c.find_attacks.ensures.same_board ∙ leaf-board c.requires.at_leaf in
-    let all : AreAttacks g.R.Rule.KIND (g.V.Seen.position c.args.view.now) (Moves c.in-Moves.moves) =
-    subst (AreAttacks g.R.Rule.KIND (g.V.Seen.position c.args.view.now)) c.in-Moves.is c.in_ok-double.ensures.attacks in
+    let board = c.find_attacks.ensures.same_board ∙ leaf-board c.requires.at_leaf in
+    let all = rw c.in-Moves.is at c.in_ok-double.ensures.attacks in
     c.as_slice.ensures.items ∙ all.0 ∙ ap (tried_moves g.R.Rule.KIND) (sym board)
 
 pub expand_attack-requires-clause-others : goal.expand_attack-requires-clause-others
 expand_attack-requires-clause-others g c =
-    let board : c.find_attacks.new.board ≡ g.V.Seen.position c.args.view.now =
-    c.find_attacks.ensures.same_board ∙ leaf-board c.requires.at_leaf in
-    let all : AreAttacks g.R.Rule.KIND (g.V.Seen.position c.args.view.now) (Moves c.in-Moves.moves) =
-    subst (AreAttacks g.R.Rule.KIND (g.V.Seen.position c.args.view.now)) c.in-Moves.is c.in_ok-double.ensures.attacks in
-    subst (OthersFail g.R.Rule.KIND) (sym board) all.1
+    let board = c.find_attacks.ensures.same_board ∙ leaf-board c.requires.at_leaf in
+    let all = rw c.in-Moves.is at c.in_ok-double.ensures.attacks in
+    rw board all.1
 
 pub returns-in_err-double-clause-tried : goal.returns-in_err-double-clause-tried
 returns-in_err-double-clause-tried g c = record {

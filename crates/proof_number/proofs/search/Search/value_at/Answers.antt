@@ -1,7 +1,5 @@
 use Rattle.std.proofs.Common.{◌≡◌, ◌∙◌, sym, ap, inl, inr, true, false}
-use Rattle.proof_tree.proofs.Common.{is_settled, settled_numbers, numbers_at}
-use Rattle.proof_tree.specs.declared.Link.{Link}
-use Rattle.proof_tree.specs.declared.Numbers.{Numbers}
+use Rattle.proof_number.proofs.Common.{is_settled, settled_numbers, numbers_at, Link, Numbers}
 use Rattle.proof_tree.proofs.Settled.{settled-lost, settled-won}
 use Rattle.proof_number.proofs.Recording.{lost-there, lost-there-by, other-searches, passed-fails, passed-idle, passed-tells, won-there}
 use Rattle.proof_number.proofs.search.Search.value_at.Goals as goal

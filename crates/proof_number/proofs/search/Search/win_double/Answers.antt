@@ -1,8 +1,5 @@
 use Rattle.std.proofs.Common.{rules, ◌≡◌, ◌+◌, ℕ, ap, subst, arith}
-use Rattle.game_rules.specs.Grid.{Grid}
-use Rattle.threat_game.proofs.Common.{IsThreatWin, answer_nodes}
-use Rattle.strategy_compiler.specs.Growth.{GrowsBy}
-use Rattle.proof_number.specs.Notes.{note_at}
+use Rattle.proof_number.proofs.Common.{Grid, answer_nodes, GrowsBy, note_at}
 use Rattle.proof_number.proofs.Steps.{attack-moves, leaf-is, leaf-noted, root-open, attacked-few, counted-step, double-fits, double-room}
 use Rattle.proof_number.proofs.Steps.{spent-there, double-won, win-few, writes-none}
 use Rattle.proof_number.proofs.WinLaws.{answers-few}
@@ -46,37 +43,29 @@ pub settle_won-requires-clause-few : goal.settle_won-requires-clause-few
 settle_won-requires-clause-few g c =
     let two = attack-moves c.requires.at_leaf c.requires.attack in
     let left : ℕ = (note_at c.args.self.now.notes.items c.args.leaf).left in
-    let is : IsThreatWin g.R.Rule.KIND left (g.V.Seen.position c.args.view.now) c.compile_double.new.compiler c.in_ok-win.win =
-    subst (λ (b : Grid). IsThreatWin g.R.Rule.KIND left b c.compile_double.new.compiler c.in_ok-win.win) c.answers_of.ensures.same
-    (c.in_ok-win.ensures.win left two) in
+    let is = rw c.answers_of.ensures.same at (c.in_ok-win.ensures.win left two) in
     win-few c.requires.at_leaf c.requires.attack c.compile_double.new.compiler c.in_ok-win.win is
 
 pub returns-clause-tried : goal.returns-clause-tried
 returns-clause-tried g c =
     let two = attack-moves c.requires.at_leaf c.requires.attack in
     let left : ℕ = (note_at c.args.self.now.notes.items c.args.leaf).left in
-    let is : IsThreatWin g.R.Rule.KIND left (g.V.Seen.position c.args.view.now) c.compile_double.new.compiler c.in_ok-win.win =
-    subst (λ (b : Grid). IsThreatWin g.R.Rule.KIND left b c.compile_double.new.compiler c.in_ok-win.win) c.answers_of.ensures.same
-    (c.in_ok-win.ensures.win left two) in
+    let is = rw c.answers_of.ensures.same at (c.in_ok-win.ensures.win left two) in
     let few = double-fits c.requires.at_leaf c.requires.attack c.args.double c.requires.double in
     let won = double-won c.requires.at_leaf c.requires.attack c.args.double c.requires.double in
     let two_most = answers-few g.R.Rule.KIND (g.V.Seen.position c.args.view.now) c.args.double in
     let nodes = c.answers_of.ensures.nodes in
     let within = c.if-count-self.false in
-    let same : answer_nodes g.R.Rule.KIND (g.V.Seen.position c.answers_of.new.view) c.args.double ≡ answer_nodes g.R.Rule.KIND
-    (g.V.Seen.position c.args.view.now) c.args.double =
-    ap (λ (b : Grid). answer_nodes g.R.Rule.KIND b c.args.double) c.answers_of.ensures.same in
+    let same = ap (λ (b : Grid). answer_nodes g.R.Rule.KIND b c.args.double) c.answers_of.ensures.same in
     let added : 1 + answer_nodes g.R.Rule.KIND (g.V.Seen.position c.answers_of.new.view) c.args.double ≡ 1 + c.answers_of.result =
     omega (arith, same, nodes) in
     let grown : GrowsBy c.args.compiler.now c.compile_double.new.compiler (1 + c.answers_of.result) = subst
     (λ (k : ℕ). GrowsBy c.args.compiler.now c.compile_double.new.compiler k) added c.in_ok-win.ensures.writes.grows in
     record {
-      step = counted-step
-          c.requires.at_leaf c.requires.attack c.answers_of.result (omega (arith, within)) (omega (arith, two_most, nodes))
-          (omega (arith, few, nodes)) (omega (arith, won, nodes))
-          c.settle_won.new.tree c.settle_won.ensures.settled c.settle_won.new.self c.settle_won.ensures.rest c.compile_double.new.compiler
-          grown
-          c.in_ok-win.ensures.writes.compiled c.in_ok-win.win c.settle_won.ensures.notes is;
+      step = counted-step c.requires.at_leaf c.requires.attack c.answers_of.result (omega (arith, within)) (omega (arith, two_most, nodes))
+          (omega (arith, few, nodes)) (omega (arith, won, nodes)) c.settle_won.new.tree c.settle_won.ensures.settled c.settle_won.new.self
+          c.settle_won.ensures.rest c.compile_double.new.compiler grown c.in_ok-win.ensures.writes.compiled c.in_ok-win.win
+          c.settle_won.ensures.notes is;
       writes = writes-tells _ _ _ _ c.in_ok-win.win _ c.in_ok-win.ensures.writes
           (double-room c.requires.at_leaf c.requires.attack (g.V.Seen.position c.answers_of.new.view) c.args.double c.answers_of.result
           c.answers_of.ensures.same c.answers_of.ensures.nodes c.requires.double (omega (arith, within)));
