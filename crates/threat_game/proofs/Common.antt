@@ -8,9 +8,11 @@ pub use Rattle.threat_game.specs.NearDoubles.{points_of_two, reach, some_has, st
 unfoldable pub use Rattle.threat_game.specs.NearDoubles.{makes_on}
 pub use Rattle.threat_game.specs.QuietPoints.{HasTwoQuiet, IsQuiet}
 pub use Rattle.threat_game.specs.Replies.{AreChildren, AreJudged, AreKept, AreReplies, AreStopped, EscapesBy, HasEscape, IsBeside, IsChild}
-pub use Rattle.threat_game.specs.Replies.{IsJudged, IsJudgedDouble, IsJudgement, IsKeptAt, StopsDoubles, answer_nodes, counted_for}
-pub use Rattle.threat_game.specs.Replies.{has_reply_at, has_reply_beside, is_met, is_open, is_same_double, is_standing, kept_children}
-pub use Rattle.threat_game.specs.Replies.{moves_for, nodes_for, one_if, put_first, replies_at, stands_for}
+pub use Rattle.threat_game.specs.Replies.{AreJudgedInPart, IsJudged, IsJudgedDouble, IsJudgement, IsKeptAt, IsMetAt, StopsDoubles}
+pub use Rattle.threat_game.specs.Replies.{answer_nodes}
+pub use Rattle.threat_game.specs.Replies.{counted_for, first_with, has_reply_at, has_reply_beside, is_met, is_open, is_same_double}
+pub use Rattle.threat_game.specs.Replies.{is_standing}
+pub use Rattle.threat_game.specs.Replies.{kept_children, moves_for, nodes_for, one_if, put_first, replies_at, standing_node, stands_for}
 pub use Rattle.threat_game.specs.ThreatGame.{LosesToThreats, is_safe_threat, move_at, nowhere}
 unfoldable pub use Rattle.threat_game.specs.ThreatGame.{is_threat_move, threat_tree}
 pub use Rattle.threat_game.specs.Wins.{IsThreatWin}

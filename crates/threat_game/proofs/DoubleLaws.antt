@@ -159,15 +159,6 @@ module _ (rule : RuleKind) (b : Grid) (d : DoublePoint) (lawful : IsPosition rul
     on_board = (five-on d.first wins.both.first, (five-on d.second wins.both.second, replies-on (points_of (after b d.at))));
   }
 
-  -- it is one with an answer to each point of the board
-  pub double-everywhere : IsDoubleThreat rule b d.at d.first d.second (points_of b)
-  double-everywhere = record {
-    goes_on = wins.on;
-    lost = double-threat.lost;
-    listed = λ q on. points-found b (is_same_point q) q (GoesOn-on rule (after b d.at) q on) (is_same_point-itself q);
-    on_board = (five-on d.first wins.both.first, (five-on d.second wins.both.second, points-on b));
-  }
-
 -- ---- five points in short, and threats
 
 pub some-five : (rule : RuleKind) (b : Grid) (s : Side) → is_some_point (in_short (five_points rule b s)) ≡ has_five rule b s

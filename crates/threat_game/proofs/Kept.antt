@@ -1,10 +1,12 @@
 -- One reply stands for others: what is kept of all that is judged, and the win that is compiled for the one.
-use Rattle.std.proofs.Common.{◌≡◌, ℕ, ◌≤◌, ◌<◌, Bool, true, false, ◌&&◌, ◌||◌, not, refl, sym, ap, subst, ◌∙◌, arith, List, []}
-use Rattle.std.proofs.Common.{◌∷◌, map, length, All, Option, Some, None, IfSome, nat_eq, rules}
+use Rattle.std.proofs.Common.{◌≡◌, ℕ, ◌≤◌, ◌<◌, Bool, true, false, cond, ◌&&◌, ◌||◌, not, refl, sym, ap, subst, ◌∙◌, arith, List, []}
+use Rattle.std.proofs.Common.{◌∷◌, ◌++◌, append-nil, length-append, map, length, All, Option, Some, None, IfSome, nat_eq, rules}
 use Rattle.std.specs.List.{find, filter, list_any, sum_by, AllByRecursion}
 use Rattle.std.proofs.lemmas.Bool.{and_parts, eqb-true}
-use Rattle.std.proofs.lemmas.List.Elements.{All-filter, All-from_recursion, recursion_from_All}
+use Rattle.std.proofs.lemmas.List.Elements.{All-filter, All-from_recursion, filter-append, recursion_from_All}
 use Rattle.std.proofs.lemmas.List.Filters.{sum_by-filter_both}
+use Rattle.std.proofs.lemmas.List.Folds.{find-append}
+use Rattle.std.specs.Option.{option_or}
 use Rattle.std.proofs.lemmas.List.Sums.{sum_by-cons}
 use Rattle.game_rules.specs.declared.RuleKind.{RuleKind}
 use Rattle.game_rules.specs.declared.Outcome.TheVariants.{GoesOn}
@@ -19,8 +21,8 @@ use Rattle.threat_game.specs.declared.doubles.DoublePoint.{DoublePoint}
 use Rattle.threat_game.specs.declared.replies.Child.{Child}
 use Rattle.threat_game.specs.declared.replies.Judged.{Judged}
 use Rattle.threat_game.specs.declared.replies.Judged.TheVariants.{Five, DoublePoint as DoubleWins, Last, Open}
-use Rattle.threat_game.proofs.Common.{IsDoubleWin, IsJudged, IsChild, IsThreatWin, AreJudged, moves_for}
-use Rattle.threat_game.proofs.Common.{is_standing, is_same_double, stands_for, is_met, put_first, kept_children}
+use Rattle.threat_game.proofs.Common.{IsDoubleWin, IsJudged, IsChild, IsMetAt, IsThreatWin, AreJudged, is_open, moves_for}
+use Rattle.threat_game.proofs.Common.{first_with, is_standing, is_same_double, stands_for, is_met, put_first, kept_children}
 
 -- ---- what is judged first stands for itself
 
@@ -33,9 +35,23 @@ stands-itself judged h = search (rules, is_same_point-itself, double-itself)
 pub stands-standing : (first judged : Judged) → stands_for first judged ≡ true → is_standing first ≡ true
 stands-standing first judged h = search (rules, and_parts)
 
+-- it takes as many moves, and nothing stands for what is open
+stands-moves : (first judged : Judged) → stands_for first judged ≡ true → moves_for first ≡ moves_for judged
+stands-moves first judged h = search rules
+
+stands-closed : (first judged : Judged) → stands_for first judged ≡ true → is_open judged ≡ true → ⊥
+stands-closed first judged h e = search rules
+
+-- how many nodes answer the replies to the double point that is met plays no part
+pub stands-double : (first : Judged) (d : DoublePoint) (n m : ℕ) → stands_for first (DoubleWins d n) ≡ stands_for first (DoubleWins d m)
+stands-double (Five w) d n m = refl
+stands-double (DoubleWins e k) d n m = refl
+stands-double (Last p) d n m = refl
+stands-double Open d n m = refl
+
 -- ---- sums over what is kept
 
-abbrev stands : Child → Bool
+abbrev pub stands : Child → Bool
 stands child = is_standing child.judged
 
 first-within : (f : Child → ℕ) (s : Child) (xs : List Child) → find stands xs ≡ Some s
@@ -59,7 +75,7 @@ kept-sum f xs = by_first (find stands xs) refl where
 
 -- ---- what holds of all holds of what is kept
 
-found-all : (P : Child → Type 0) (s : Child) (xs : List Child) → AllByRecursion P xs → find stands xs ≡ Some s → P s
+pub found-all : (P : Child → Type 0) (s : Child) (xs : List Child) → AllByRecursion P xs → find stands xs ≡ Some s → P s
 found-all P s [] all e = cc
 found-all P s (x ∷ xs) all e = search (rules, found-all P s xs all.1)
 
@@ -87,6 +103,76 @@ kept-some xs some = by_first (find stands xs) where
 pub found-if : (P : Child → Type 0) (xs : List Child) → All P xs → (first : Option Child) → first ≡ find stands xs → IfSome first P
 found-if P xs all None e = tt
 found-if P xs all (Some s) e = found-all P s xs (recursion_from_All P xs all) (sym e)
+
+-- ---- what is met need not be judged
+
+-- the first, after one more
+pub first-more : (xs : List Child) (x : Child) → find stands (xs ++ x ∷ []) ≡ first_with (find stands xs) x
+first-more xs x = find-append stands xs (x ∷ []) ∙ by_first (find stands xs) where
+  by_first : (first : Option Child) → option_or first (find stands (x ∷ [])) ≡ first_with first x
+  by_first None = refl
+  by_first (Some s) = refl
+
+-- those beside the first whose win does not stand after them
+abbrev unmet : Option Child → List Child → List Child
+unmet first = filter (λ x. not (is_met first x.judged))
+
+-- of the part the same is kept as of all
+pub record IsPart (part all : List Child) : Type 0 where
+  pub first : find stands part ≡ find stands all
+  pub rest : unmet (find stands part) part ≡ unmet (find stands part) all
+  pub fewer : length part ≤ length all
+
+pub part-kept : (part all : List Child) → IsPart part all → kept_children part ≡ kept_children all
+part-kept part all is = ap (put_first (find stands part)) is.rest ∙ ap (λ (o : Option Child). put_first o (unmet o all)) is.first
+
+-- one more in both
+pub part-push : (part all : List Child) (x : Child) → IsPart part all → IsPart (part ++ x ∷ []) (all ++ x ∷ [])
+part-push part all x is = record {
+  first = first-more part x ∙ ap (λ (o : Option Child). first_with o x) is.first ∙ sym (first-more all x);
+  rest = by_first (find stands part) is.rest (first-more part x);
+  fewer = let few = is.fewer in omega (arith, few, length-append part (x ∷ []), length-append all (x ∷ []));
+} where
+  by_first : (first : Option Child) → unmet first part ≡ unmet first all → find stands (part ++ x ∷ []) ≡ first_with first x
+      → unmet (find stands (part ++ x ∷ [])) (part ++ x ∷ []) ≡ unmet (find stands (part ++ x ∷ [])) (all ++ x ∷ [])
+  by_first None rest found =
+      ap (λ (xs : List Child). unmet (find stands (part ++ x ∷ [])) (xs ++ x ∷ [])) (sym (filter-all part) ∙ rest ∙ filter-all all)
+  by_first (Some s) rest found =
+      subst (λ (o : Option Child). unmet o (part ++ x ∷ []) ≡ unmet o (all ++ x ∷ [])) (sym found)
+      (filter-append (λ y. not (stands_for s.judged y.judged)) part (x ∷ [])
+      ∙ ap (λ (ys : List Child). ys ++ unmet (Some s) (x ∷ [])) rest
+      ∙ sym (filter-append (λ y. not (stands_for s.judged y.judged)) all (x ∷ [])))
+
+-- one more that is met
+pub part-skip : (part all : List Child) (x : Child) → IsPart part all → is_met (find stands part) x.judged ≡ true
+    → IsPart part (all ++ x ∷ [])
+part-skip part all x is met = record {
+  first = is.first ∙ by_first (find stands all) (subst (λ (o : Option Child). is_met o x.judged ≡ true) is.first met)
+      ∙ sym (first-more all x);
+  rest = is.rest ∙ sym (filter-append (λ y. not (is_met (find stands part) y.judged)) all (x ∷ [])
+      ∙ ap (λ r. unmet (find stands part) all ++ cond (not r) (x ∷ []) []) met ∙ append-nil (unmet (find stands part) all));
+  fewer = let few = is.fewer in omega (arith, few, length-append all (x ∷ []));
+} where
+  by_first : (first : Option Child) → is_met first x.judged ≡ true → first ≡ first_with first x
+  by_first None h = cc
+  by_first (Some s) h = refl
+
+-- such a child is one, if it goes on
+pub met-child : (rule : RuleKind) (moves : ℕ) (c : Grid) (q : Point) (part : List Child) → AllByRecursion (IsChild rule moves c) part
+    → outcome rule c q ≡ GoesOn → (met : IsMetAt rule c (find stands part) q)
+    → IsChild rule moves c (record { at = q; judged = met.judged })
+met-child rule moves c q part each on met = by_first (find stands part) refl met.met where
+  by_first : (first : Option Child) → find stands part ≡ first → is_met first met.judged ≡ true
+      → IsChild rule moves c (record { at = q; judged = met.judged })
+  by_first None e h = cc
+  by_first (Some s) e h =
+      let own = (found-all (IsChild rule moves c) s part each e).enough in
+      let same = stands-moves s.judged met.judged h in record {
+        on = on;
+        judged = met.is;
+        enough = omega (arith, own, same);
+        stopped = λ open_is. absurd (stands-closed s.judged met.judged h open_is);
+      }
 
 -- ---- a reply that is not kept is met by the first
 
@@ -193,11 +279,10 @@ module _ (rule : RuleKind) (c : Grid) (lawful : IsPosition rule c) (t : List Nod
         moves-some Open = omega arith
 
   pub standing-double : (d : DoublePoint) (nodes : ℕ)
-      → ((rule : RuleKind) (b : Grid) (moves : ℕ) → IsPosition rule b → points_of b ≡ points_of c → IsDoubleWin rule b d → 2 ≤ moves
-      → IsThreatWin rule moves b t win)
+      → ((rule : RuleKind) (b : Grid) (moves : ℕ) → IsPosition rule b → IsDoubleWin rule b d → 2 ≤ moves → IsThreatWin rule moves b t win)
       → stands_for (DoubleWins d nodes) met.judged ≡ true → IsThreatWin rule moves (after c met.at) t win
   standing-double d nodes says h =
       let here = double-stands rule (after c met.at) d nodes met.judged h is.judged in
       let enough = is.enough in
       let two = here.1 in
-      says rule (after c met.at) moves (IsPosition-after rule c met.at lawful is.on) refl here.0 (omega (arith, enough, two))
+      says rule (after c met.at) moves (IsPosition-after rule c met.at lawful is.on) here.0 (omega (arith, enough, two))

@@ -13,12 +13,13 @@ use Rattle.game_rules.proofs.Boards.{and_left, and_right, empties_of-put, is_emp
 use Rattle.game_rules.proofs.Fives.{five-empty}
 use Rattle.game_rules.proofs.PointLists.{other_first}
 use Rattle.game_rules.proofs.Points.{points-found}
-use Rattle.game_rules.proofs.Positions.{GoesOn-empty, mover-then}
+use Rattle.game_rules.proofs.Positions.{GoesOn-empty, mover-other, mover-then}
 use Rattle.game_rules.proofs.Wins.{no_five}
 use Rattle.threat_moves.proofs.Common.{StaysFree}
 use Rattle.threat_game.specs.declared.doubles.DoublePoint.{DoublePoint}
 use Rattle.threat_game.specs.declared.doubles.Kept.{Kept}
-use Rattle.threat_game.proofs.Common.{IsDoubleWin, IsKept, IsStillKept, answer_nodes, has_reply_at, has_reply_beside, IsBeside}
+use Rattle.threat_game.proofs.Common.{IsDoubleWin, IsJudgedDouble, IsKept, IsStillKept, answer_nodes, has_reply_at, has_reply_beside}
+use Rattle.threat_game.proofs.Common.{IsBeside}
 use Rattle.threat_game.proofs.FreeMoves.{not_one, each-goes_on, double-safe, reply-at}
 use Rattle.threat_game.proofs.ReplyLaws.{both-kept}
 
@@ -54,6 +55,24 @@ pub still-goes_on : (rule : RuleKind) (b : Grid) (p : Point) → is_empty b p �
     → foul_of rule b (mover b) p ≡ None → 2 ≤ empties_of b → outcome rule b p ≡ GoesOn
 unfolding outcome
 still-goes_on rule b p empty none free many = search (rules, no_five, not_one)
+
+-- one that is sure wins after a reply beside it that leaves no five point
+pub sure-wins : (rule : RuleKind) (c : Grid) (q : Point) → IsPosition rule c → outcome rule c q ≡ GoesOn → (kept : Kept)
+    → IsKept rule c (other (mover c)) kept → kept.sure ≡ true → IsBeside kept.double q → 3 ≤ empties_of c
+    → has_five rule (after c q) (mover (after c q)) ≡ false → has_five rule (after c q) (mover c) ≡ false
+    → IsJudgedDouble rule (after c q) kept.double (answer_nodes rule (after c q) kept.double)
+sure-wins rule c q lawful on kept is sure beside many none safe =
+    let still = kept-still rule c q lawful on kept is beside in
+    let fewer = empties_of-put c (mover c) q lawful.board (GoesOn-empty rule c q on) in
+    record {
+      no_five = none;
+      wins = record {
+        on = still-goes_on rule (after c q) kept.double.at still.both.empty none (still.free sure) (omega (arith, fewer, many));
+        both = still.both;
+        safe = ap (has_five rule (after c q)) (mover-other rule c q lawful on) ∙ safe;
+      };
+      nodes_are = refl;
+    }
 
 -- where the other side has no fouls and enough points are empty, both replies to a double point that wins are there
 pub both-replies : (rule : RuleKind) (b : Grid) (d : DoublePoint) → IsPosition rule b → IsDoubleWin rule b d

@@ -10,6 +10,8 @@ pub mod TreeLaws
 pub mod Kept
 -- wins by a double point, their nodes, and new double points
 pub mod DoubleLaws
+-- the node of a double point that answers all replies
+mod StandingLaws
 -- moves where each goes on; where an escape meets each of them there is no win
 mod FreeMoves
 -- where new double points can be, and the stones around a point as bits

@@ -13,6 +13,7 @@ use Rattle.game_rules.specs.declared.Outcome.TheVariants.{GoesOn}
 use Rattle.game_rules.specs.declared.Point.{Point}
 use Rattle.game_rules.proofs.Common.{Grid, is_empty, put, points_of, five, is_same_point, IsPosition, outcome, mover, other, after}
 use Rattle.game_rules.proofs.Common.{has_five, five_points, IsBoard, goes_on, WinsByThreats}
+use Rattle.game_rules.proofs.Outcomes.{goes_on-is}
 use Rattle.game_rules.proofs.Boards.{Apart, and_left, and_right, is_empty-on, is_empty-put, put_comm}
 use Rattle.game_rules.proofs.Positions.{GoesOn-empty, IsBoard-put, mover-then}
 use Rattle.game_rules.proofs.Points.{filter-passes, filter-none, is_same_point-apart}
@@ -27,10 +28,11 @@ use Rattle.threat_game.specs.declared.replies.Children.{Children}
 use Rattle.threat_game.specs.declared.replies.Judged.{Judged}
 use Rattle.threat_game.specs.declared.replies.Judged.TheVariants.{Five, DoublePoint as DoubleWins, Last, Open}
 use Rattle.threat_game.proofs.Common.{LeavesBoth, IsBeside, has_reply, IsJudged, IsChild, EscapesBy, HasEscape, AreChildren, AreJudged}
+use Rattle.threat_game.proofs.Common.{AreJudgedInPart, IsMetAt}
 use Rattle.threat_game.proofs.Common.{kept_children, moves_for, one_if, has_reply_at, has_reply_beside, counted_for, is_open, replies_at}
 use Rattle.threat_game.specs.Replies.{StopsDoubles}
 use Rattle.threat_game.proofs.TreeLaws.{children-few}
-use Rattle.threat_game.proofs.Kept.{kept-some, kept-sum}
+use Rattle.threat_game.proofs.Kept.{IsPart, kept-some, kept-sum, met-child, part-kept, part-push, part-skip, stands}
 
 -- ---- stones in another order
 
@@ -144,6 +146,83 @@ step-more rule moves c d same all q left before is so_far judged child more adde
       each = all_push (IsChild rule moves c) all this old.each here;
     })
 
+-- this is judged of some of the replies before the points that are left
+pub record PartSoFar (rule : RuleKind) (moves : ℕ) (c : Grid) (part : List Child) (left : List Point) : Type 0 where
+  pub all : List Child
+  pub so_far : SoFar rule moves c all left
+  pub is : IsPart part all
+  pub each : AllByRecursion (IsChild rule moves c) part
+
+-- none at first
+pub part-none : (rule : RuleKind) (moves : ℕ) (c : Grid) (points : List Point) → points ≡ points_of c → PartSoFar rule moves c [] points
+part-none rule moves c points are = record {
+  all = [];
+  so_far = record { points = ap (filter (λ q. goes_on (outcome rule c q))) are; each = tt };
+  is = record { first = refl; rest = refl; fewer = omega arith };
+  each = tt;
+}
+
+module _ (rule : RuleKind) (moves : ℕ) (c : Grid) (part : List Child) (q : Point) (left before : List Point) (next : before ≡ q ∷ left)
+    (so_far : PartSoFar rule moves c part before) where
+  -- one more is judged
+  pub part-more : (d : Grid) → d ≡ c → (judged : Judged) → IsChild rule moves d (record { at = q; judged = judged }) → (more : List Child)
+      → more ≡ part ++ record { at = q; judged = judged } ∷ [] → PartSoFar rule moves c more left
+  part-more d same judged child more added =
+      let this : Child = record { at = q; judged = judged } in
+      subst (λ (items : List Child). PartSoFar rule moves c items left) (sym added) (record {
+        all = so_far.all ++ this ∷ [];
+        so_far = step-more rule moves c d same so_far.all q left before next so_far.so_far judged child (so_far.all ++ this ∷ []) refl;
+        is = part-push part so_far.all this so_far.is;
+        each = all_push (IsChild rule moves c) part this so_far.each (subst (λ (e : Grid). IsChild rule moves e this) same child);
+      })
+
+  -- the point is no reply
+  pub part-pass : (d : Grid) → d ≡ c → goes_on (outcome rule d q) ≡ false → PartSoFar rule moves c part left
+  part-pass d same off = record {
+    all = so_far.all;
+    so_far = record {
+      points =
+          ap (λ r. map (λ (child : Child). child.at) so_far.all
+          ++ cond r (q ∷ filter (λ q. goes_on (outcome rule c q)) left) (filter (λ q. goes_on (outcome rule c q)) left))
+          (sym off ∙ ap (λ (e : Grid). goes_on (outcome rule e q)) same)
+          ∙ ap (λ (ps : List Point). map (λ (child : Child). child.at) so_far.all ++ filter (λ q. goes_on (outcome rule c q)) ps) (sym next)
+          ∙ so_far.so_far.points;
+      each = so_far.so_far.each;
+    };
+    is = so_far.is;
+    each = so_far.each;
+  }
+
+  -- it is none, or the first wins after it
+  pub part-met : (d : Grid) → d ≡ c → (outcome rule d q ≡ GoesOn → IsMetAt rule d (find stands part) q) → PartSoFar rule moves c part left
+  part-met d same met = by_test (goes_on (outcome rule d q)) refl where
+    by_test : (r : Bool) → goes_on (outcome rule d q) ≡ r → PartSoFar rule moves c part left
+    by_test false off = part-pass d same off
+    by_test true on =
+        let go : outcome rule c q ≡ GoesOn = ap (λ (e : Grid). outcome rule e q) (sym same) ∙ goes_on-is (outcome rule d q) on in
+        let here : IsMetAt rule c (find stands part) q = subst (λ (e : Grid). IsMetAt rule e (find stands part) q) same
+        (met (goes_on-is (outcome rule d q) on)) in
+        let this : Child = record { at = q; judged = here.judged } in
+        let child : IsChild rule moves c this = met-child rule moves c q part so_far.each go here in record {
+          all = so_far.all ++ this ∷ [];
+          so_far = step-more rule moves c c refl so_far.all q left before next so_far.so_far here.judged child (so_far.all ++ this ∷ [])
+              refl;
+          is = part-skip part so_far.all this so_far.is here.met;
+          each = so_far.each;
+        }
+
+-- where no point is left, it is judged of all replies in part
+pub all-in_part : (rule : RuleKind) (moves : ℕ) (c : Grid) (part : List Child) (left : List Point) → left ≡ []
+    → PartSoFar rule moves c part left
+    → AreJudgedInPart rule moves c part
+all-in_part rule moves c part left none so_far = record {
+  judged = so_far.all;
+  are = all-judged rule moves c so_far.all (subst (λ (ps : List Point). SoFar rule moves c so_far.all ps) none so_far.so_far);
+  each = All-from_recursion (IsChild rule moves c) part so_far.each;
+  fewer = so_far.is.fewer;
+  kept = part-kept part so_far.all so_far.is;
+}
+
 -- few are judged, each of which counts at most 3
 pub judged-short : (rule : RuleKind) (moves : ℕ) (c : Grid) → IsBoard c → (judged : List Child) → AreJudged rule moves c judged
     → length judged ≤ 1024
@@ -153,9 +232,13 @@ judged-short rule moves c ok judged are =
     (points_of c) in
     omega (arith, ap length are.points, size, both, points_few c ok)
 
+pub each-three : (rule : RuleKind) (moves : ℕ) (c : Grid) (judged : List Child) → All (IsChild rule moves c) judged
+    → All (λ child. counted_for child.judged ≤ 3) judged
+each-three rule moves c judged each k x low = search (rules, counted-three)
+
 pub judged-three : (rule : RuleKind) (moves : ℕ) (c : Grid) (judged : List Child) → AreJudged rule moves c judged
     → All (λ child. counted_for child.judged ≤ 3) judged
-judged-three rule moves c judged are k x low = search (rules, counted-three)
+judged-three rule moves c judged are = each-three rule moves c judged are.each
 
 some-listed : (g : Point → Bool) (ps : List Point) (items : List Child) → map (λ (child : Child). child.at) items ≡ filter g ps
     → list_any g ps ≡ true → 0 < length items

@@ -10,6 +10,8 @@ use Rattle.game_rules.specs.declared.RuleKind.{RuleKind}
 use Rattle.game_rules.specs.declared.Side.{Side}
 use Rattle.game_rules.specs.declared.Outcome.TheVariants.{GoesOn}
 use Rattle.game_rules.specs.declared.Point.{Point}
+use Rattle.strategy_graph.specs.declared.Node.{Node}
+use Rattle.strategy_graph.specs.declared.Rest.TheVariants.{To}
 use Rattle.threat_game.specs.declared.doubles.DoublePoint.{DoublePoint}
 use Rattle.threat_game.specs.declared.doubles.Kept.{Kept}
 use Rattle.threat_game.specs.declared.doubles.TheConstants.{MOST_KEPT}
@@ -78,6 +80,10 @@ nodes_for (Five w) = 1
 nodes_for (DoubleWins d nodes) = 1 + nodes
 nodes_for (Last p) = 1
 nodes_for Open = 0
+
+-- the node that plays a double point and answers the reply on its first five point by node i, and each other by node j
+abbrev pub standing_node : DoublePoint → ℕ → ℕ → Node
+standing_node d i j = record { attack = d.at; replies = record { at = d.first; next = i } ∷ []; rest = To j }
 
 -- whether a stone on q leaves the double point and its two five points empty
 abbrev pub is_beside : DoublePoint → Point → Bool
@@ -170,6 +176,17 @@ abbrev pub is_met : Option Child → Judged → Bool
 is_met None judged = false
 is_met (Some first) judged = stands_for first.judged judged
 
+-- the first child whose win may stand after other replies, where this is the first of those before, and one more is judged
+abbrev pub first_with : Option Child → Child → Option Child
+first_with None child = if is_standing child.judged then Some child else None
+first_with (Some first) child = Some first
+
+-- what is judged here of the position after the reply q at c is true, and the win after this first reply, if there is one, wins there
+pub record IsMetAt (rule : RuleKind) (c : Grid) (first : Option Child) (q : Point) : Type 0 where
+  pub judged : Judged
+  pub is : IsJudged rule (after c q) judged
+  pub met : is_met first judged ≡ true
+
 -- the child before the others, if there is one
 abbrev pub put_first : Option Child → List Child → List Child
 put_first None children = children
@@ -180,6 +197,15 @@ abbrev pub kept_children : List Child → List Child
 kept_children judged =
     let first = find (λ child. is_standing child.judged) judged in
     put_first first (filter (λ child. not (is_met first child.judged)) judged)
+
+-- This is judged of some of the replies that go on at c, where the attacker has so many more moves: what is kept of it is kept of what is
+-- judged of each of them.
+pub record AreJudgedInPart (rule : RuleKind) (moves : ℕ) (c : Grid) (part : List Child) : Type 0 where
+  pub judged : List Child
+  pub are : AreJudged rule moves c judged
+  pub each : All (IsChild rule moves c) part
+  pub fewer : length part ≤ length judged
+  pub kept : kept_children part ≡ kept_children judged
 
 -- The children are kept of what is judged of each reply that goes on at c, where the attacker has so many more moves. As many positions are
 -- counted as for all of them, and no more than the game of threats has.

@@ -4,26 +4,29 @@
 //! reply took the first.
 #![tactic(auto)]
 
-ghost use Rattle.std.specs.Prelude.{◌≡◌, ◌≤◌, ◌+◌, ◌∷◌, [], ◌&&◌, not, ℕ, false, take, IfOk, IfSome, IfNone, IsTrue};
-ghost use Rattle.game_rules.specs.Grid.{Grid, is_empty, points_of, put};
+ghost use Rattle.std.specs.Prelude.{◌≡◌, ◌≤◌, ◌+◌, ◌∷◌, [], ◌&&◌, not, ℕ, false, take, length, slice_get, Some, IfOk, IfSome, IfNone, IsTrue};
+ghost use Rattle.game_rules.specs.Grid.{Grid, is_empty, put};
 ghost use Rattle.game_rules.specs.Shapes.{is_same_point};
 ghost use Rattle.game_rules.specs.Play.{IsPosition, outcome as outcome_lem, mover, after, goes_on as goes_on_lem};
 ghost use Rattle.game_rules.specs.declared.Outcome.{Outcome};
 ghost use Rattle.game_rules.specs.Games.{five_points, has_five as has_five_lem, is_double_point};
+ghost use Rattle.strategy_graph.specs.Tables.{IsNode};
 ghost use Rattle.strategy_compiler.specs.Growth.{Writes};
 ghost use Rattle.threat_game.specs.Attacks.{LeavesBoth, IsDoubleWin};
 ghost use Rattle.threat_game.specs.NearDoubles.{makes_two};
-ghost use Rattle.threat_game.specs.Replies.{answer_nodes, has_reply_at, has_reply_beside, replies_at, AreKept, IsKeptAt};
+ghost use Rattle.threat_game.specs.Replies.{answer_nodes, has_reply_at, has_reply_beside, replies_at, AreKept, IsKeptAt, standing_node as standing_node_lem};
 ghost use Rattle.threat_game.specs.Wins.{IsThreatWin};
 
 use crate::attacks::{each_goes_on, goes_on, goes_on_where};
+use crate::near_doubles::double_here;
 use foul_judge::Seen;
 use game_rules::RuleKind;
 use row_shapes::Rule;
 use std::alloc::{AllocError, Global};
-use stone_board::{Board, Point, Points, Side};
+use stone_board::{Board, Point, Side};
 use strategy_compiler::{Compiler, SearchError, WrittenWin};
-use threat_moves::{is_new_double_point, stays_free};
+use strategy_graph::{Node, Replies, Reply, Rest};
+use threat_moves::stays_free;
 
 /// So many double points are kept at most to settle replies by.
 const MOST_KEPT: usize = 4;
@@ -107,7 +110,7 @@ fn kept_at<R: Rule>(
     ensures other { IfOk result (λ found. IfNone found (is_double_point R.KIND board.old side p ≡ false)) }
     ensures same { board.new ≡ board.old }
 {
-    if !is_new_double_point::<R>(board, side, p) {
+    if !double_here::<R>(board, side, p) {
         return Ok(None);
     }
     let sure = stays_free::<R>(board, side, p);
@@ -222,26 +225,52 @@ pub fn compile_double<R: Rule, V: Seen<R>>(
     )
 }
 
-/// Compiles the win by a double point with an answer to each point of the board, so that its node wins wherever the double point
-/// wins on a board of this size.
+/// Compiles the win by a double point as one node that answers the reply on the first five point and all others, so that it wins
+/// wherever the double point wins.
 pub fn compile_standing(
     alloc: Global,
-    board: &Board,
     double: DoublePoint,
     compiler: &mut Compiler,
 ) -> Result<WrittenWin, SearchError>
-    ensures win { IfOk result (λ win. (rule : RuleKind) (b : Grid) (moves : ℕ) → IsPosition rule b → points_of b ≡ points_of board.now
-        → IsDoubleWin rule b double → 2 ≤ moves → IsThreatWin rule moves b compiler.new win) }
+    ensures win { IfOk result (λ win. (rule : RuleKind) (b : Grid) (moves : ℕ) → IsPosition rule b → IsDoubleWin rule b double → 2 ≤ moves
+        → IsThreatWin rule moves b compiler.new win) }
     ensures writes { Writes compiler.old compiler.new 3 result }
 {
-    let points = Points::all_of(alloc, board)?;
-    compiler.double(
-        alloc,
-        double.at,
-        double.first,
-        double.second,
-        points.as_slice(),
-    )
+    let at_first = compiler.leaf(double.second)?;
+    let beside = compiler.leaf(double.first)?;
+    let given = standing_node(alloc, double, at_first, beside)?;
+    let node = put_node(compiler, given)?;
+    Ok(WrittenWin { node, moves: 2 })
+}
+
+/// The node that plays a double point, answers the reply on its first five point by the one node, and each other by the other.
+fn standing_node(
+    alloc: Global,
+    double: DoublePoint,
+    at_first: u32,
+    beside: u32,
+) -> Result<Node, AllocError>
+    ensures node { IfOk result (λ node. node ≡ standing_node_lem double at_first beside) }
+{
+    let mut replies = Replies::new(alloc);
+    replies.push(Reply {
+        at: double.first,
+        next: at_first,
+    })?;
+    Ok(Node {
+        attack: double.at,
+        replies,
+        rest: Rest::To(beside),
+    })
+}
+
+/// Puts the node in as it is.
+fn put_node(compiler: &mut Compiler, given: Node) -> Result<u32, SearchError>
+    requires node { IsNode given (length compiler.old) }
+    ensures node { IfOk result (λ i. slice_get compiler.new i ≡ Some given) }
+    ensures writes { Writes compiler.old compiler.new 1 result }
+{
+    Ok(compiler.adopt(given)?)
 }
 
 /// All replies to the double point that go on.

@@ -104,7 +104,7 @@ fn fails_by<R: Rule, V: Seen<R>>(
     found
 }
 
-/// Whether some reply leaves the attacker no win by one more move.
+/// Whether some reply leaves the attacker no win by one more move. Where it has a five point, that reply takes the only one.
 fn has_escape<R: Rule, V: Seen<R>>(
     alloc: Global,
     view: &mut V,
@@ -117,12 +117,27 @@ fn has_escape<R: Rule, V: Seen<R>>(
 {
     let attacker = view.side().other();
     let fives = fives::<R, V>(alloc, view, attacker)?;
+    match fives.as_slice() {
+        [] => Ok(some_escapes::<R, V>(view, board, &fives)),
+        [five] => Ok(escapes_by::<R, V>(view, board, &fives, *five)),
+        [_, _, ..] => Ok(false),
+    }
+}
+
+/// Whether some reply leaves the attacker, which has these five points before it, no win by one more move.
+fn some_escapes<R: Rule, V: Seen<R>>(view: &mut V, board: &mut Board, fives: &Points) -> bool
+    requires copy { board.old ≡ V.position view.old }
+    requires fives { fives.now ≡ five_points_lem R.KIND (V.position view.old) (other (mover (V.position view.old))) }
+    ensures escape { IsTrue result → HasEscape R.KIND 1 (V.position view.old) }
+    ensures same { V.position view.new ≡ V.position view.old }
+    ensures same_board { board.new ≡ board.old }
+{
     for q in view.board().points() {
-        if escapes_by::<R, V>(view, board, &fives, q) {
-            return Ok(true);
+        if escapes_by::<R, V>(view, board, fives, q) {
+            return true;
         }
     }
-    Ok(false)
+    false
 }
 
 /// Whether the reply `q` goes on and leaves the attacker, which has these five points before it, no win by one more move.

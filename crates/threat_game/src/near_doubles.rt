@@ -172,7 +172,7 @@ fn makes_on<R: Rule>(board: &Board, side: Side, axis: Axis, q: Point) -> bool
 }
 
 /// Whether the point is a double point of the side, which has no five point. The board is as before.
-fn double_here<R: Rule>(board: &mut Board, side: Side, q: Point) -> bool
+pub(crate) fn double_here<R: Rule>(board: &mut Board, side: Side, q: Point) -> bool
     requires none { has_five_lem R.KIND board.old side ≡ false }
     ensures double { result ≡ is_double_point R.KIND board.old side q }
     ensures same { board.new ≡ board.old }

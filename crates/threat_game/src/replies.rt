@@ -5,12 +5,13 @@
 //! the attacker has one or two moves left it is seen at once whether a reply escapes.
 //!
 //! A win after one reply mostly wins after others too, since it plays on the same points. So one reply stands for all of them,
-//! and only the others beside it are children.
+//! and only the others beside it are children. Where it is seen without a stone that the win stands after a reply, nothing else is
+//! asked of this reply.
 #![tactic(auto)]
 
 ghost use Rattle.std.specs.Prelude.{◌≡◌, ◌<◌, ◌≤◌, ◌+◌, ℕ, true, false, All, length, IfOk, IfSome, IfNone, IsTrue, is_none, IsErrOf, OnOk, [], ◌∷◌, ◌++◌, not};
 ghost use Rattle.std.specs.List.{find, sum_by};
-ghost use Rattle.game_rules.specs.Grid.{Grid};
+ghost use Rattle.game_rules.specs.Grid.{Grid, is_empty};
 ghost use Rattle.game_rules.specs.Shapes.{is_same_point};
 ghost use Rattle.game_rules.specs.Play.{IsPosition, outcome as outcome_lem, mover, other, after, goes_on as goes_on_lem};
 ghost use Rattle.game_rules.specs.Games.{WinsByThreats, has_five as has_five_lem, five_points as five_points_lem};
@@ -18,10 +19,10 @@ ghost use Rattle.strategy_graph.specs.declared.TheConstants.{MAX_NODES};
 ghost use Rattle.strategy_compiler.specs.Growth.{GrowsBy};
 ghost use Rattle.threat_game.specs.FreeMoves.{EachGoesOn};
 ghost use Rattle.threat_game.specs.Attacks.{has_reply, is_last_move, IsKept, IsStillKept};
-ghost use Rattle.threat_game.specs.Replies.{AreKept, AreReplies, AreStopped, AreJudged, HasEscape, IfEscape, IsChild, IsJudged, IsJudgement, IsBeside, is_beside as is_beside_lem, moves_for, is_open as is_open_lem, is_standing as is_standing_lem, is_same_double as is_same_double_lem, stands_for as stands_for_lem, is_met as is_met_lem, put_first, kept_children, counted_for, nodes_for};
+ghost use Rattle.threat_game.specs.Replies.{AreKept, AreReplies, AreStopped, AreJudgedInPart, HasEscape, IfEscape, IsChild, IsJudged, IsJudgement, IsBeside, is_beside as is_beside_lem, moves_for, is_open as is_open_lem, is_standing as is_standing_lem, is_same_double as is_same_double_lem, stands_for as stands_for_lem, is_met as is_met_lem, IsMetAt, first_with as first_with_lem, put_first, kept_children, counted_for, nodes_for};
 ghost use Rattle.threat_game.specs.Wins.{IsThreatWin};
 
-use crate::attacks::{each_goes_on, fives_by, goes_on_where};
+use crate::attacks::{each_goes_on, fives_by, goes_on_where, is_some_point};
 use crate::doubles::{
     DoublePoint, Kept, answers_to_win, compile_double, compile_standing, first_doubles,
 };
@@ -30,7 +31,7 @@ use crate::last_moves::last_move;
 use crate::near_stones::near_stones;
 use crate::written::{compile_five, compile_last};
 use foul_judge::{Outcome, Seen};
-use row_shapes::{FivePoints, Rule};
+use row_shapes::Rule;
 use std::alloc::{AllocError, Global};
 use stone_board::{Board, Point, Points, Side};
 use strategy_compiler::{Compiler, SearchError, WrittenWin};
@@ -231,7 +232,8 @@ struct BeforeReplies<'a> {
     doubles: &'a [Kept],
 }
 
-/// What is judged of each reply, where the attacker has these five points and these double points before it.
+/// What is judged of the replies, where the attacker has these five points and these double points before them: of each but some after
+/// which the win after the first wins too.
 fn each_reply<R: Rule, V: Seen<R>>(
     alloc: Global,
     view: &mut V,
@@ -249,24 +251,97 @@ fn each_reply<R: Rule, V: Seen<R>>(
     requires doubles { AreKept R.KIND (V.position view.old) (other (mover (V.position view.old))) doubles.now }
     ensures escape { IfOk result (λ found. IfNone found (HasEscape R.KIND moves (V.position view.old))) }
     ensures early { IfOk result (λ found. IfNone found (moves ≤ 2)) }
-    ensures judged { IfOk result (λ found. IfSome found (λ all. AreJudged R.KIND moves (V.position view.old) all.items)) }
+    ensures judged { IfOk result (λ found. IfSome found (λ part. AreJudgedInPart R.KIND moves (V.position view.old) part.items)) }
     ensures same { V.position view.new ≡ V.position view.old }
     ensures same_board { board.new ≡ board.old }
 {
-    let mut all = Vec::new(alloc);
+    let mut part = Vec::new(alloc);
+    let mut first = None;
     let known = BeforeReplies {
         free: each_goes_on::<R, V>(view),
         fives,
         doubles,
     };
     for q in view.board().points() {
-        match judge::<R, V>(alloc, view, board, known, q, moves)? {
-            Judgement::NoReply => {}
-            Judgement::Escape => return Ok(None),
-            Judgement::Known(judged) => all.push(Child { at: q, judged })?,
+        if !is_met_at::<R, V>(view, known, first, q) {
+            match judge::<R, V>(alloc, view, board, known, q, moves)? {
+                Judgement::NoReply => {}
+                Judgement::Escape => return Ok(None),
+                Judgement::Known(judged) => {
+                    let child = Child { at: q, judged };
+                    part.push(child)?;
+                    first = first_with(first, child);
+                }
+            }
         }
     }
-    Ok(Some(all))
+    Ok(Some(part))
+}
+
+/// The first child whose win may stand after other replies, where this is the first of those before, and one more is judged.
+fn first_with(first: Option<Child>, child: Child) -> Option<Child>
+    ensures first { result ≡ first_with_lem first child }
+{
+    if first.is_none() && is_standing(child.judged) {
+        return Some(child);
+    }
+    first
+}
+
+/// Whether the point is no reply, or the win after this first reply is known to win after it too.
+fn is_met_at<R: Rule, V: Seen<R>>(
+    view: &V,
+    known: BeforeReplies,
+    first: Option<Child>,
+    q: Point,
+) -> bool
+    requires lawful { IsPosition R.KIND (V.position view.now) }
+    requires no_five { has_five_lem R.KIND (V.position view.now) (mover (V.position view.now)) ≡ false }
+    requires fives { known.fives.now ≡ five_points_lem R.KIND (V.position view.now) (other (mover (V.position view.now))) }
+    requires doubles { AreKept R.KIND (V.position view.now) (other (mover (V.position view.now))) known.doubles.now }
+    ensures met { IsTrue result → outcome_lem R.KIND (V.position view.now) q ≡ Outcome.GoesOn
+        → IsMetAt R.KIND (V.position view.now) first q }
+{
+    if !view.board().is_empty(q) {
+        return true;
+    }
+    let Some(child) = first else {
+        return false;
+    };
+    match five_beside(known.fives, q) {
+        Some(five) => stands_for(child.judged, Judged::Five(five)),
+        None => is_met_by_double::<R, V>(view, known.doubles, child, q),
+    }
+}
+
+/// Whether the first of the double points is known to win after the reply `q` on an empty point, which leaves the attacker no five
+/// point, and the win after this first reply is by it.
+fn is_met_by_double<R: Rule, V: Seen<R>>(view: &V, doubles: &[Kept], first: Child, q: Point) -> bool
+    requires lawful { IsPosition R.KIND (V.position view.now) }
+    requires empty { IsTrue (is_empty (V.position view.now) q) }
+    requires no_five { has_five_lem R.KIND (V.position view.now) (mover (V.position view.now)) ≡ false }
+    requires none { outcome_lem R.KIND (V.position view.now) q ≡ Outcome.GoesOn
+        → has_five_lem R.KIND (after (V.position view.now) q) (mover (after (V.position view.now) q)) ≡ false }
+    requires doubles { All (IsKept R.KIND (V.position view.now) (other (mover (V.position view.now)))) doubles.now }
+    ensures met { IsTrue result → outcome_lem R.KIND (V.position view.now) q ≡ Outcome.GoesOn
+        → IsMetAt R.KIND (V.position view.now) (Some first) q }
+{
+    let [kept, ..] = doubles else {
+        return false;
+    };
+    if !kept.sure {
+        return false;
+    }
+    if view.board().empties() < 3 {
+        return false;
+    }
+    if !is_beside(kept.double, q) {
+        return false;
+    }
+    if !stands_for(first.judged, Judged::DoublePoint(kept.double, 2)) {
+        return false;
+    }
+    !makes_five::<R, V>(view, q)
 }
 
 /// How many positions of the attacker are counted for one that is judged so.
@@ -393,15 +468,26 @@ fn judge_double<R: Rule, V: Seen<R>>(view: &mut V, q: Point, doubles: &[Kept]) -
         → AreStopped R.KIND (after (V.position view.old) q) q doubles.now }
     ensures same { V.position view.new ≡ V.position view.old }
 {
-    let near = near_stones(view.board(), view.side(), q);
-    if let FivePoints::None = fives_by::<R, V>(view, near, q) {
-        view.play(q);
-        let found = still_double::<R, V>(view, q, doubles);
-        view.undo(q);
-        found
-    } else {
-        Judged::Open
+    if doubles.is_empty() {
+        return Judged::Open;
     }
+    if makes_five::<R, V>(view, q) {
+        return Judged::Open;
+    }
+    view.play(q);
+    let found = still_double::<R, V>(view, q, doubles);
+    view.undo(q);
+    found
+}
+
+/// Whether a stone of the side to move on an empty point leaves it a five point, where it has none before it.
+fn makes_five<R: Rule, V: Seen<R>>(view: &V, q: Point) -> bool
+    requires empty { IsTrue (is_empty (V.position view.now) q) }
+    requires no_five { has_five_lem R.KIND (V.position view.now) (mover (V.position view.now)) ≡ false }
+    ensures five { result ≡ has_five_lem R.KIND (after (V.position view.now) q) (mover (V.position view.now)) }
+{
+    let near = near_stones(view.board(), view.side(), q);
+    is_some_point(fives_by::<R, V>(view, near, q))
 }
 
 /// The first of the double points that wins still after the reply `q`, if one does, where the attacker is to move.
@@ -472,7 +558,7 @@ pub fn settle_child<R: Rule, V: Seen<R>>(
         Judged::Last(attack) => Ok(Some(compile_last(compiler, attack)?)),
         Judged::DoublePoint(double, nodes) => {
             if nodes == 2 {
-                let win = compile_standing(alloc, view.board(), double, compiler)?;
+                let win = compile_standing(alloc, double, compiler)?;
                 return Ok(Some(win));
             }
             view.play(child.at);

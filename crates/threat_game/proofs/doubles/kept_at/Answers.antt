@@ -11,17 +11,17 @@ use Rattle.threat_game.proofs.doubles.kept_at.Goals as goal
 pub stays_free-sure-requires : goal.stays_free-sure-requires
 stays_free-sure-requires g c =
     record {
-      empty = ap (λ (b : Grid). is_empty b c.args.p) c.is_new_double_point.ensures.same
+      empty = ap (λ (b : Grid). is_empty b c.args.p) c.double_here.ensures.same
           ∙ double-empty g.R.Rule.KIND c.args.board.now c.args.side c.args.p
-          (sym c.is_new_double_point.ensures.double ∙ c.if-not-is_new_double_point.false);
+          (sym c.double_here.ensures.double ∙ c.if-not-double_here.false);
     }
 
 pub double_at-requires : goal.double_at-requires
 double_at-requires g c =
     record {
-      empty = ap (λ (b : Grid). is_empty b c.args.p) (c.stays_free-sure.ensures.same ∙ c.is_new_double_point.ensures.same)
+      empty = ap (λ (b : Grid). is_empty b c.args.p) (c.stays_free-sure.ensures.same ∙ c.double_here.ensures.same)
           ∙ double-empty g.R.Rule.KIND c.args.board.now c.args.side c.args.p
-          (sym c.is_new_double_point.ensures.double ∙ c.if-not-is_new_double_point.false);
+          (sym c.double_here.ensures.double ∙ c.if-not-double_here.false);
     }
 
 pub returns-in-Some-clause-kept : goal.returns-in-Some-clause-kept
@@ -31,10 +31,10 @@ returns-in-Some-clause-kept g c =
     let both = rw c.in-Some.is at c.in_ok-double.ensures.both in
     let at = rw c.in-Some.is at c.in_ok-double.ensures.here in
     let fives = rw c.in-Some.is at c.in_ok-double.ensures.fives in
-    let asked : c.is_new_double_point.new.board ≡ b = c.is_new_double_point.ensures.same in
+    let asked : c.double_here.new.board ≡ b = c.double_here.ensures.same in
     let same : c.stays_free-sure.new.board ≡ b = c.stays_free-sure.ensures.same ∙ asked in
     let double : is_double_point rule b c.args.side c.args.p ≡ true =
-    sym c.is_new_double_point.ensures.double ∙ c.if-not-is_new_double_point.false in
+    sym c.double_here.ensures.double ∙ c.if-not-double_here.false in
     record {
       at = at;
       double = double;
@@ -51,9 +51,9 @@ pub returns-in-None-clause-other : goal.returns-in-None-clause-other
 returns-in-None-clause-other g c =
     let rule = g.R.Rule.KIND in
     let b : Grid = c.args.board.now in
-    let same : c.stays_free-sure.new.board ≡ b = c.stays_free-sure.ensures.same ∙ c.is_new_double_point.ensures.same in
+    let same : c.stays_free-sure.new.board ≡ b = c.stays_free-sure.ensures.same ∙ c.double_here.ensures.same in
     let empty : is_empty c.stays_free-sure.new.board c.args.p ≡ true = ap (λ (w : Grid). is_empty w c.args.p) same
-    ∙ double-empty rule b c.args.side c.args.p (sym c.is_new_double_point.ensures.double ∙ c.if-not-is_new_double_point.false) in
+    ∙ double-empty rule b c.args.side c.args.p (sym c.double_here.ensures.double ∙ c.if-not-double_here.false) in
     let two = rw c.in-None.is at c.in_ok-double.ensures.told in
     ap (λ (w : Grid). is_double_point rule w c.args.side c.args.p) (sym same)
     ∙ few-double rule c.stays_free-sure.new.board c.args.side c.args.p

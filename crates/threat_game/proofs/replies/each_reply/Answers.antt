@@ -1,56 +1,109 @@
-use Rattle.std.proofs.Common.{rules, ◌≡◌, sym, ap, subst, ◌∙◌, arith, List, [], ◌∷◌}
+use Rattle.std.proofs.Common.{rules, ◌≡◌, refl, sym, ap, subst, ◌∙◌, arith, find, List, [], ◌∷◌, Option}
 use Rattle.std.proofs.lemmas.Grind.{common_steps}
-use Rattle.game_rules.proofs.Common.{Grid, IsPosition, five_points, has_five, mover, other}
-use Rattle.game_rules.specs.declared.Point.{Point}
-use Rattle.threat_game.proofs.Common.{AreKept, EachGoesOn, EscapesBy, IsJudgement}
-use Rattle.threat_game.proofs.ReplyLaws.{SoFar, all-judged, step-more}
+use Rattle.game_rules.proofs.Common.{Grid, IsPosition, points_of, five_points, has_five, mover, other}
+use Rattle.threat_game.specs.declared.replies.Child.{Child}
+use Rattle.threat_game.proofs.Common.{AreKept, EachGoesOn, EscapesBy, IsJudgement, IsMetAt, first_with}
+use Rattle.threat_game.proofs.Kept.{first-more, stands}
+use Rattle.threat_game.proofs.ReplyLaws.{PartSoFar, all-in_part, part-met, part-more, part-none, part-pass}
 use Rattle.threat_game.proofs.replies.each_reply.Goals as goal
+
+pub loop-q-init : goal.loop-q-init
+loop-q-init g c = record {
+  same = refl;
+  same_board = refl;
+  first = ap (find stands) (sym c.new-part.ensures.items);
+  so_far = subst (λ (part : List Child). PartSoFar g.R.Rule.KIND c.args.moves (g.V.Seen.position c.args.view.now) part
+      c.into_iter-q-iterator.result) (sym c.new-part.ensures.items)
+      (part-none g.R.Rule.KIND c.args.moves (g.V.Seen.position c.args.view.now) c.into_iter-q-iterator.result
+      (c.into_iter-q-iterator.ensures.into_iter_gives ∙ c.points-q-items.ensures.points ∙ ap points_of c.board.ensures.board));
+}
+
+pub is_met_at-requires-clause-lawful : goal.is_met_at-requires-clause-lawful
+is_met_at-requires-clause-lawful g c = subst (λ (b : Grid). IsPosition g.R.Rule.KIND b) (sym c.loop-q.invariant.same) c.requires.lawful
+
+pub is_met_at-requires-clause-no_five : goal.is_met_at-requires-clause-no_five
+is_met_at-requires-clause-no_five g c =
+    ap (λ (b : Grid). has_five g.R.Rule.KIND b (mover b)) c.loop-q.invariant.same ∙ c.requires.no_five
+
+pub is_met_at-requires-clause-fives : goal.is_met_at-requires-clause-fives
+is_met_at-requires-clause-fives g c =
+    c.requires.fives ∙ ap (λ (b : Grid). five_points g.R.Rule.KIND b (other (mover b))) (sym c.loop-q.invariant.same)
+
+pub is_met_at-requires-clause-doubles : goal.is_met_at-requires-clause-doubles
+is_met_at-requires-clause-doubles g c =
+    subst (λ (b : Grid). AreKept g.R.Rule.KIND b (other (mover b)) c.args.doubles.now) (sym c.loop-q.invariant.same) c.requires.doubles
 
 pub loop-q-preserved : goal.loop-q-preserved
 loop-q-preserved g c =
-    let b : Grid = g.V.Seen.position c.args.view.now in
-    let next : c.loop-q.q-iterator ≡ c.in-Some.q ∷ c.next.new.self = first_of (search rules, grind (arith, common_steps)) in (
-      c.judge.ensures.same ∙ c.loop-q.invariant.0,
-      c.judge.ensures.same_board ∙ c.loop-q.invariant.1,
-      step-more g.R.Rule.KIND c.args.moves b (g.V.Seen.position c.loop-q.view) c.loop-q.invariant.0 c.loop-q.all.items c.in-Some.q
-          c.next.new.self c.loop-q.q-iterator next c.loop-q.invariant.2
-          c.in-Known.judged (subst (IsJudgement g.R.Rule.KIND c.args.moves (g.V.Seen.position c.loop-q.view) c.in-Some.q) c.in-Known.is
-          c.in_ok-judge.ensures.judgement) c.push.new.self.items c.in_ok-push-in-Known.ensures.items,
-    )
+    let next : c.loop-q.q-iterator ≡ c.in-Some.q ∷ c.next.new.self = first_of (search rules, grind (arith, common_steps)) in record {
+      same = c.loop-q.invariant.same;
+      same_board = c.loop-q.invariant.same_board;
+      first = c.loop-q.invariant.first;
+      so_far = part-met g.R.Rule.KIND c.args.moves (g.V.Seen.position c.args.view.now) c.loop-q.part.items c.in-Some.q c.next.new.self
+          c.loop-q.q-iterator next c.loop-q.invariant.so_far (g.V.Seen.position c.loop-q.view) c.loop-q.invariant.same
+          (λ on. subst (λ (o : Option Child). IsMetAt g.R.Rule.KIND (g.V.Seen.position c.loop-q.view) o c.in-Some.q)
+          c.loop-q.invariant.first (c.is_met_at.ensures.met c.if-not-is_met_at.false on));
+    }
+
+pub loop-q-preserved-in-NoReply : goal.loop-q-preserved-in-NoReply
+loop-q-preserved-in-NoReply g c =
+    let next : c.loop-q.q-iterator ≡ c.in-Some.q ∷ c.next.new.self = first_of (search rules, grind (arith, common_steps)) in record {
+      same = c.judge.ensures.same ∙ c.loop-q.invariant.same;
+      same_board = c.judge.ensures.same_board ∙ c.loop-q.invariant.same_board;
+      first = c.loop-q.invariant.first;
+      so_far = part-pass g.R.Rule.KIND c.args.moves (g.V.Seen.position c.args.view.now) c.loop-q.part.items c.in-Some.q c.next.new.self
+          c.loop-q.q-iterator next c.loop-q.invariant.so_far (g.V.Seen.position c.loop-q.view) c.loop-q.invariant.same
+          (subst (IsJudgement g.R.Rule.KIND c.args.moves (g.V.Seen.position c.loop-q.view) c.in-Some.q) c.in-NoReply.is
+          c.in_ok-judge.ensures.judgement);
+    }
+
+pub loop-q-preserved-in-Known : goal.loop-q-preserved-in-Known
+loop-q-preserved-in-Known g c =
+    let next : c.loop-q.q-iterator ≡ c.in-Some.q ∷ c.next.new.self = first_of (search rules, grind (arith, common_steps)) in record {
+      same = c.judge.ensures.same ∙ c.loop-q.invariant.same;
+      same_board = c.judge.ensures.same_board ∙ c.loop-q.invariant.same_board;
+      first = c.first_with-first.ensures.first
+          ∙ ap (λ (o : Option Child). first_with o (record { at = c.in-Some.q; judged = c.in-Known.judged })) c.loop-q.invariant.first
+          ∙ sym (first-more c.loop-q.part.items (record { at = c.in-Some.q; judged = c.in-Known.judged }))
+          ∙ ap (find stands) (sym c.in_ok-push-in-Known.ensures.items);
+      so_far = part-more g.R.Rule.KIND c.args.moves (g.V.Seen.position c.args.view.now) c.loop-q.part.items c.in-Some.q c.next.new.self
+          c.loop-q.q-iterator next c.loop-q.invariant.so_far (g.V.Seen.position c.loop-q.view) c.loop-q.invariant.same c.in-Known.judged
+          (subst (IsJudgement g.R.Rule.KIND c.args.moves (g.V.Seen.position c.loop-q.view) c.in-Some.q) c.in-Known.is
+          c.in_ok-judge.ensures.judgement) c.push.new.self.items c.in_ok-push-in-Known.ensures.items;
+    }
 
 pub returns-clause-judged : goal.returns-clause-judged
 returns-clause-judged g c =
-    let b : Grid = g.V.Seen.position c.args.view.now in
     let done : c.loop-q.q-iterator ≡ [] = first_of (search rules, grind (arith, common_steps)) in
-    all-judged g.R.Rule.KIND c.args.moves b c.loop-q.all.items
-    (subst (λ (ps : List Point). SoFar g.R.Rule.KIND c.args.moves b c.loop-q.all.items ps) done c.loop-q.invariant.2)
+    all-in_part g.R.Rule.KIND c.args.moves (g.V.Seen.position c.args.view.now) c.loop-q.part.items c.loop-q.q-iterator done
+    c.loop-q.invariant.so_far
 
 pub judge-requires-clause-lawful : goal.judge-requires-clause-lawful
-judge-requires-clause-lawful g c = subst (λ (b : Grid). IsPosition g.R.Rule.KIND b) (sym c.loop-q.invariant.0) c.requires.lawful
+judge-requires-clause-lawful g c = subst (λ (b : Grid). IsPosition g.R.Rule.KIND b) (sym c.loop-q.invariant.same) c.requires.lawful
 
 pub judge-requires-clause-each : goal.judge-requires-clause-each
-judge-requires-clause-each g c = λ h. subst (λ (b : Grid). EachGoesOn g.R.Rule.KIND b) (sym c.loop-q.invariant.0)
+judge-requires-clause-each g c = λ h. subst (λ (b : Grid). EachGoesOn g.R.Rule.KIND b) (sym c.loop-q.invariant.same)
     (c.each_goes_on.ensures.each h)
 
 pub judge-requires-clause-no_five : goal.judge-requires-clause-no_five
 judge-requires-clause-no_five g c =
-    ap (λ (b : Grid). has_five g.R.Rule.KIND b (mover b)) c.loop-q.invariant.0 ∙ c.requires.no_five
+    ap (λ (b : Grid). has_five g.R.Rule.KIND b (mover b)) c.loop-q.invariant.same ∙ c.requires.no_five
 
 pub judge-requires-clause-copy : goal.judge-requires-clause-copy
-judge-requires-clause-copy g c = c.loop-q.invariant.1 ∙ c.requires.copy ∙ sym c.loop-q.invariant.0
+judge-requires-clause-copy g c = c.loop-q.invariant.same_board ∙ c.requires.copy ∙ sym c.loop-q.invariant.same
 
 pub judge-requires-clause-fives : goal.judge-requires-clause-fives
 judge-requires-clause-fives g c =
-    c.requires.fives ∙ ap (λ (b : Grid). five_points g.R.Rule.KIND b (other (mover b))) (sym c.loop-q.invariant.0)
+    c.requires.fives ∙ ap (λ (b : Grid). five_points g.R.Rule.KIND b (other (mover b))) (sym c.loop-q.invariant.same)
 
 pub judge-requires-clause-doubles : goal.judge-requires-clause-doubles
 judge-requires-clause-doubles g c =
-    subst (λ (b : Grid). AreKept g.R.Rule.KIND b (other (mover b)) c.args.doubles.now) (sym c.loop-q.invariant.0) c.requires.doubles
+    subst (λ (b : Grid). AreKept g.R.Rule.KIND b (other (mover b)) c.args.doubles.now) (sym c.loop-q.invariant.same) c.requires.doubles
 
 pub returns-in-Escape-clause-escape : goal.returns-in-Escape-clause-escape
 returns-in-Escape-clause-escape g c =
     let escape : EscapesBy g.R.Rule.KIND c.args.moves (g.V.Seen.position c.args.view.now) c.in-Some.q =
-    subst (λ (b : Grid). EscapesBy g.R.Rule.KIND c.args.moves b c.in-Some.q) c.loop-q.invariant.0
+    subst (λ (b : Grid). EscapesBy g.R.Rule.KIND c.args.moves b c.in-Some.q) c.loop-q.invariant.same
     (subst (IsJudgement g.R.Rule.KIND c.args.moves (g.V.Seen.position c.loop-q.view) c.in-Some.q) c.in-Escape.is
     c.in_ok-judge.ensures.judgement) in
     record { reply = c.in-Some.q; on = escape.on; no_win = escape.no_win }

@@ -1,10 +1,13 @@
-use Rattle.std.proofs.Common.{◌≡◌}
-use Rattle.threat_game.proofs.ReplyLaws.{SoFar}
+use Rattle.std.proofs.Common.{◌≡◌, find}
+use Rattle.threat_game.proofs.Kept.{stands}
+use Rattle.threat_game.proofs.ReplyLaws.{PartSoFar}
 use Rattle.threat_game.proofs.replies.each_reply.Given as goal
 
--- the view is as before, and the board; what is judged is of the replies before the points left
+-- the view is as before, and the board; what is judged is of the replies before the points left, in part, and this is its first
 abbrev pub invariant-loop-q : goal.invariant-loop-q
-invariant-loop-q g l =
-    (g.V.Seen.position l.view ≡ g.V.Seen.position l.fn.view)
-    × (l.board ≡ l.fn.board)
-    × SoFar g.R.Rule.KIND l.moves (g.V.Seen.position l.fn.view) l.all.items l.q-iterator
+invariant-loop-q g l = record {
+  same : g.V.Seen.position l.view ≡ g.V.Seen.position l.fn.view;
+  same_board : l.board ≡ l.fn.board;
+  first : l.first ≡ find stands l.part.items;
+  so_far : PartSoFar g.R.Rule.KIND l.moves (g.V.Seen.position l.fn.view) l.part.items l.q-iterator;
+}

@@ -3,7 +3,7 @@ use Rattle.threat_game.specs.declared.replies.Judged.{Judged}
 use Rattle.threat_game.proofs.Common.{moves_for, stands_for}
 use Rattle.threat_game.proofs.Kept.{last-stands, standing-double, standing-five, two-stands}
 use Rattle.game_rules.proofs.Undo.{stone_back, lift_back, unwon_back}
-use Rattle.game_rules.proofs.Common.{Grid, after, points_of}
+use Rattle.game_rules.proofs.Common.{Grid, after}
 use Rattle.game_rules.proofs.Positions.{IsPosition-after}
 use Rattle.threat_game.proofs.WrittenLaws.{double-settled, double-wins, five-settled, last-settled}
 use Rattle.threat_game.proofs.replies.settle_child.Goals as goal
@@ -69,7 +69,6 @@ returns-then-nodes-eq2-clause-win g c = λ moves l.
     let least : moves_for c.args.child.judged ≡ 2 = ap moves_for c.in-DoublePoint.is in
     c.in_ok-win-in-DoublePoint.ensures.win g.R.Rule.KIND (after b c.args.child.at) moves
     (IsPosition-after g.R.Rule.KIND b c.args.child.at c.side.ensures.lawful c.requires.on)
-    (ap points_of (sym c.board.ensures.board))
     (double-wins g.R.Rule.KIND b c.args.child.at c.requires.on c.args.child.judged c.requires.judged c.in-DoublePoint.double
     c.in-DoublePoint.nodes
     c.in-DoublePoint.is) (omega (arith, least, l))
@@ -79,7 +78,5 @@ returns-then-nodes-eq2-clause-stands g c = λ moves met stands is.
     let b : Grid = g.V.Seen.position c.args.view.now in
     standing-double g.R.Rule.KIND b c.side.ensures.lawful c.compile_standing.new.compiler c.in_ok-win-in-DoublePoint.win moves met is
     c.in-DoublePoint.double c.in-DoublePoint.nodes
-    (λ rule d n lawful points wins l. c.in_ok-win-in-DoublePoint.ensures.win rule d n lawful
-    (points ∙ ap points_of (sym c.board.ensures.board))
-    wins l)
+    c.in_ok-win-in-DoublePoint.ensures.win
     (subst (λ (j : Judged). stands_for j met.judged ≡ true) c.in-DoublePoint.is stands)

@@ -1,5 +1,5 @@
 use Rattle.threat_game.proofs.ReplyLaws.{escape-has}
-use Rattle.threat_game.proofs.escapes.has_escape.Goals as goal
+use Rattle.threat_game.proofs.escapes.some_escapes.Goals as goal
 
 pub returns-then-escapes_by-clause-escape : goal.returns-then-escapes_by-clause-escape
 returns-then-escapes_by-clause-escape g c =

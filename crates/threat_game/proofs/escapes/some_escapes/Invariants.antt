@@ -1,5 +1,5 @@
 use Rattle.std.proofs.Common.{◌≡◌}
-use Rattle.threat_game.proofs.escapes.has_escape.Given as goal
+use Rattle.threat_game.proofs.escapes.some_escapes.Given as goal
 
 -- the view is as before, and the board
 abbrev pub invariant-loop-q : goal.invariant-loop-q
