@@ -245,6 +245,20 @@ def refused_texts():
         yield Case("a full board", words, position(*FULL), 3, "refused board full\n")
         yield Case("a table for a position", words, text, 3, "refused line 1\n")
         yield Case("a line too many", words, position(*THREE) + "\n", 3, "refused line 6\n")
+    for name, bytes_, line in (
+        ("no bytes", "", 1),
+        ("two sizes that are one", position("renju", "9,9", "", ""), 3),
+        ("stones out of order", position("renju", 9, "1,1 0,1", ""), 4),
+        ("a stone of both", position("renju", 9, "0,1", "0,1"), 5),
+    ):
+        yield Case(f"a position text with {name}", ["foul"], bytes_, 3, f"refused line {line}\n")
+    for name, bytes_, line in (
+        ("a stone off the board", game("renju", 9, "9,0", "", ""), 4),
+        ("no line of moves", game("renju", 9, "", "", "1,1").replace("moves 1,1\n", ""), 6),
+        ("a move off the board, with no side to move", game("renju", 9, "", "0,1", "9,0"), 6),
+        ("two lines of moves", game("renju", 9, "", "", "1,1") + "moves\n", 7),
+    ):
+        yield Case(f"a game text with {name}", ["referee"], bytes_, 3, f"refused line {line}\n")
 
 
 def fouls():
@@ -470,10 +484,16 @@ def images():
     for word in ["quarter", "three-quarter", "diagonal", "antidiagonal"]:
         yield Case(f"image: {word} of a wide board", ["image", word], table(*wide, 1, ["4,2 wins"]), 3, "refused symmetry\n")
         yield Case(f"image: {word} of a high board", ["image", word], table(*high, 1, ["2,4 wins"]), 3, "refused symmetry\n")
-    yield Case(
-        "image: a flip of a wide board", ["image", "flip-x"], table(*wide, 1, ["4,2 wins"]), 0,
-        table("freestyle", "9,5", "5,2 6,2 7,2 8,2", "2,0 4,0 6,0 8,0", 1, ["4,2 wins"]),
-    )
+    for word, black, white, attack in (
+        ("identity", "0,2 1,2 2,2 3,2", "0,0 2,0 4,0 6,0", "1,3"),
+        ("half", "5,2 6,2 7,2 8,2", "2,4 4,4 6,4 8,4", "7,1"),
+        ("flip-x", "5,2 6,2 7,2 8,2", "2,0 4,0 6,0 8,0", "7,3"),
+        ("flip-y", "0,2 1,2 2,2 3,2", "0,4 2,4 4,4 6,4", "1,1"),
+    ):
+        yield Case(
+            f"image: {word} of a wide board", ["image", word], table(*wide, 1, ["1,3 wins"]), 0,
+            table("freestyle", "9,5", black, white, 1, [f"{attack} wins"]),
+        )
     yield Case("image: a text is refused first", ["image", "diagonal"], table(*wide, 2, ["4,2 wins"]), 3, "refused moves 2 1\n")
     yield Case("image: a bad line comes first", ["image", "diagonal"], table(*wide, 1, ["9,2 wins"]), 3, "refused line 8\n")
     yield Case("image: a text of a position", ["image", "identity"], position(*THREE), 3, "refused line 1\n")
@@ -562,7 +582,35 @@ def brains():
         ),
         ("a five point", lines("START 15", *batch("3,3 4,3 5,3 6,3", "0,0 2,0 4,0 6,0")), ("OK", "2,3")),
         ("a position that is uneven", lines("START 15", *batch("3,3 4,3", "")), ("OK", "ERROR bad board")),
-        ("a win by fours", lines("START 15", *batch(THREE[2], THREE[3]), "TURN 3,7"), ("OK", "4,7", "8,7")),
+        (
+            "a win by fours", lines("START 15", *batch(THREE[2], THREE[3]), "TURN 3,7", "TURN 0,14"),
+            ("OK", "4,7", "8,7", "ERROR game over"),
+        ),
+        # No stone makes a win by fours. The eight points round the middle, 7,7, come in reading order from 6,6 on, until a four of the
+        # opponent's has one end.
+        (
+            "a block of a five", lines("START 15", "BEGIN", "TURN 0,0", "TURN 1,0", "TURN 2,0", "TURN 3,0", "TURN 4,0", "END"),
+            ("OK", "7,7", "6,6", "7,6", "8,6", "4,0", "ERROR bad move"),
+        ),
+        (
+            "a point of a batch twice", lines("START 15", "BOARD", "7,7,2", "8,8,1", "7,7,2", "DONE", "DONE", "7,7,2"),
+            ("OK", "ERROR bad board", "ERROR not reading", "UNKNOWN command"),
+        ),
+        # The middle of a board of 9 by 5 is 4,2, and 3,1 is the first point round it.
+        (
+            "boards begun anew",
+            lines(
+                "RESTART", "RECTSTART 9,5", *batch("", "4,2"), "RESTART", "BEGIN", "TURN 3,1", "BOARD", "0,0,2", "RESTART", "DONE", "TURN 4,2",
+                "TURN 9,0",
+            ),
+            ("ERROR no board", "OK", "3,1", "OK", "4,2", "4,1", "OK", "ERROR not reading", "3,1", "ERROR bad move"),
+        ),
+        # Black's stone on 4,4 makes a three in the row and a three in the column.
+        (
+            "a double-three of the opponent",
+            lines("START 15", "INFO rule 4", *batch("14,0 0,14 14,14", "2,4 3,4 4,2 4,3"), "TURN 4,4", "TURN 0,0"),
+            ("OK", "7,7", "ERROR opponent foul", "ERROR game over"),
+        ),
         ("the longest line", 4096 * " " + "\n" + 4097 * " " + "\n", ("ERROR bad arguments",)),
     ]
     for name, text, answers in sessions:
@@ -607,6 +655,11 @@ def book(nodes, *entries):
     return head + "".join(lines(*position(*at).splitlines()[1:], f"moves {moves}", root) for at, moves, root in entries)
 
 
+def cut_off(text, count):
+    """The first lines of a text."""
+    return "".join(text.splitlines(keepends=True)[:count])
+
+
 def books():
     """Books that are checked, refused and held."""
     three, four = (THREE, 2, "root 2"), (("freestyle", 15, "4,7 5,7 6,7 7,7", "0,0 2,0 4,0"), 1, "start rest 1 8,7>0")
@@ -628,6 +681,18 @@ def books():
         ("a table", table(*THREE, 2, THREE_WINS), "refused line 1\n"),
         ("another version", two.replace("book 1", "book 2"), "refused line 1\n"),
         ("a node off every board", book(["32,0 wins"], three), "refused line 3\n"),
+        ("more nodes than the most", two.replace("nodes 3", "nodes 1000001"), "refused line 2\n"),
+        ("a node that names itself", book(["3,7 rest 0"], three), "refused line 3\n"),
+        ("a second node that names itself", book(["8,7 wins", "3,7 rest 1"], three), "refused line 4\n"),
+        ("more entries than the most", two.replace("entries 2", "entries 1001"), "refused line 6\n"),
+        ("no line of its entries", cut_off(two, 6), "refused line 7\n"),
+        ("an unknown rule", two.replace("rule freestyle", "rule go", 1), "refused line 7\n"),
+        ("a size below the least", two.replace("size 15", "size 4", 1), "refused line 8\n"),
+        ("a stone twice", two.replace("black 5,7 6,7", "black 5,7 5,7"), "refused line 9\n"),
+        ("a stone of both", two.replace("2,0 4,0\nmoves 2", "2,0 5,7\nmoves 2"), "refused line 10\n"),
+        ("a number of the first entry's moves with a zero", two.replace("moves 2", "moves 02"), "refused line 11\n"),
+        ("a first root that is not ended", cut_off(two, 12)[:-1], "refused line 12\n"),
+        ("an empty line after an entry", two.replace("root 2\n", "root 2\n\n"), "refused line 13\n"),
         ("other moves than counted", two.replace("moves 1", "moves 2"), "entry 2 refused moves 2 1\n"),
         ("the first entry decides", book(THREE_WINS, (THREE, 9, "root 2"), (FULL, 1, "root 0")), "entry 1 refused moves 9 2\n"),
         ("the position decides", book(THREE_WINS, three, (FULL, 9, "root 0")), "entry 2 refused board full\n"),
@@ -709,16 +774,24 @@ def referees():
     """Games that are judged, and games beside a table."""
     yield Case("referee: no moves", ["referee"], game(*BLOCK_FOULS, ""), 0, "open 0\n")
     yield Case("referee: a foul", ["referee"], game(*BLOCK_FOULS, "6,3 7,3"), 0, "foul overline 2\n")
+    yield Case("referee: a double-three", ["referee"], game("renju", 15, DIAMOND, CORNERS, "7,7"), 0, "foul double-three 1\n")
+    two_fours = game("renju", 15, "2,7 4,7 6,7 8,7", CORNERS, "5,7")
+    yield Case("referee: a double-four", ["referee"], two_fours, 0, "foul double-four 1\n")
     yield Case("referee: a position", ["referee"], position(*THREE), 3, "refused line 1\n")
     yield Case("referee: no line feed at the end", ["referee"], game(*THREE, "4,7")[:-1], 3, "refused line 6\n")
     two_moves = table(*THREE, 2, THREE_WINS)
     for moves, output in (
+        ("", "open 0\ntable follows\n"),
+        ("4,7", "open 1\ntable follows\n"),
+        ("9,9 3,7 8,7", "open 3\ntable departs 1\n"),
         ("4,7 3,7 8,7", "won black 3\ntable follows\n"),
         ("4,7 0,14 8,7", "won black 3\ntable departs 3\n"),
         ("4,7 4,7", "illegal 2\ntable follows\n"),
         ("4,7 3,7 8,7 1,1", "after end 4\ntable follows\n"),
     ):
         yield Case(f"referee t: {moves}", ["referee", "t"], game(*THREE, moves), 0, output, two_moves)
+    for moves, output in (("8,7 3,7", "won black 2\ntable follows\n"), ("1,1 3,7", "won black 2\ntable departs 2\n")):
+        yield Case(f"referee t: the opponent begins, {moves}", ["referee", "t"], game(*FOUR_OF_START, moves), 0, output, FOUR_AND_REPLY)
     yield Case(
         "referee t: a reply that fouls", ["referee", "t"], game(*BLOCK_FOULS, "6,3 7,3"), 0, "foul overline 2\ntable follows\n", BLOCK_WINS,
     )
@@ -1028,6 +1101,10 @@ class Runs:
         self.expect("an input in pieces", self.run(["check", "219"], stdin=pieces.stdout), 0, "accepted in 2 moves, 219 arrivals\n")
         pieces.stdout.close()
         pieces.wait()
+        with open("/dev/zero", "rb") as endless:
+            for command in (*WHOLE_INPUTS, ["brain"]):
+                output = "" if command == ["brain"] else "input too long\n"
+                self.expect("an input without an end that is read", self.run(command, stdin=endless), 11, output)
         self.over_single_bytes()
         with shelf_of(BLOCK_WINS) as shelf:
             self.expect("a closed input of a brain that holds", self.run(["brain", "t"], cwd=shelf, preexec_fn=lambda: os.close(0)), 7, "")

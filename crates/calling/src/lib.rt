@@ -1,10 +1,12 @@
-//! Callers of crates that one may want alone, as `docs/CALLING.md` shows them.
+//! Callers of crates that one may want alone, as `docs/CALLING.md` names them.
 //!
-//! The callers are no code of tests alone: the check of the crate proves them, and refuses wrong ones. A test runs each.
+//! They are no code of tests: the check of the crate proves them, and refuses wrong ones. Tests of another crate run each, so that a
+//! caller is proved once.
 #![tactic(auto)]
 
 mod callers;
-#[cfg(test)]
-mod compared;
 
-pub use callers::TWO_ENTRIES;
+pub use callers::{
+    TWO_ENTRIES, accepted_book, fewest_by_fours, has_sequence, image_that_wins, may_play,
+    moves_by_threats, moves_that_hold, moves_to_win, number_again, won_at, written_again,
+};

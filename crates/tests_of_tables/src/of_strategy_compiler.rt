@@ -145,9 +145,9 @@ fn replies_everywhere(alloc: Global) -> Option<Replies> {
 /// Puts in the wins at 3,7 and at 8,7, and node 2, which plays 4,7, answers 3,7 by the second and every other point by the first.
 /// The first and the last are put in twice, and keep their numbers.
 fn put_two_moves(rt: &impl Abort, compiler: &mut Compiler, answers: &Replies) {
-    for (x, number) in [(3, 0), (8, 1), (3, 0)] {
-        same(rt, put_win(compiler, x, 7), Some(number));
-    }
+    same(rt, put_win(compiler, 3, 7), Some(0));
+    same(rt, put_win(compiler, 8, 7), Some(1));
+    same(rt, put_win(compiler, 3, 7), Some(0));
     same(rt, put(compiler, 4, 7, answers), Some(2));
     same(rt, put(compiler, 4, 7, answers), Some(2));
     same(rt, compiler.len(), 3);
@@ -180,9 +180,9 @@ const RESTS: [(&[u32], (u8, usize)); 4] = [
 
 #[test]
 fn the_rest_is_the_commonest_and_the_earliest_on_a_tie(rt: HostRuntime) {
-    for (numbers, rest) in RESTS {
+    for (numbers, rest) in &RESTS {
         let table = compiled_by(rt.alloc(), numbers).expect(&rt, "a table");
-        same(&rt, rest_and_listed(&table), Some(rest));
+        same(&rt, rest_and_listed(&table), Some(*rest));
     }
 }
 
