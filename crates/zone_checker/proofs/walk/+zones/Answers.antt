@@ -1,0 +1,310 @@
+use Rattle.std.proofs.Common.{rules, ◌≡◌, ◌+◌, ◌<◌, refl, sym, ap, subst, ◌∙◌, arith, List, length}
+use Rattle.std.proofs.Common.{get_or, map}
+use Rattle.std.specs.List.{sum_by}
+use Rattle.std.proofs.lemmas.Result.{err_from_is_err_and}
+use Rattle.std.proofs.lemmas.List.{get_or_default, length-map}
+use Rattle.game_rules.proofs.Common.{Grid, put, other, points_of}
+use Rattle.game_rules.specs.declared.Side.{Side}
+use Rattle.game_rules.specs.declared.Point.{Point}
+use Rattle.strategy_graph.proofs.Filling.{IsTable-lower}
+use Rattle.relevance_zone.specs.Zones.{HasZone}
+use Rattle.zone_checker.specs.Marks.{AreCovered, IsEntered, IsGreatest, kept_back}
+use Rattle.zone_checker.specs.Pairs.{reply_pairs}
+use Rattle.zone_checker.specs.declared.marks.Mark.{Mark}
+use Rattle.zone_checker.specs.Replies.{AreReplied, IsReplied}
+use Rattle.zone_checker.specs.Walks.{IsWithstoodBy, Stopped, Took, asked_of}
+use Rattle.zone_checker.proofs.Counting.{pairs-some, took-pair, took-behind, stopped-then, taken-more, taken-all}
+use Rattle.zone_checker.proofs.Counting.{taken-short, taken-stopped}
+use Rattle.zone_checker.proofs.Replying.{reply-idle, reply-found, reply-took, reply-stopped, replied-more, replied-all, RepliedTo}
+use Rattle.zone_checker.proofs.Steps.{four-fails, replies-greatest}
+use Rattle.zone_checker.proofs.Walking.{taken-fails, restless-fails, left-greatest, left-stopped, behind-few, won-greatest, asked-below}
+use Rattle.zone_checker.proofs.Walking.{answer-lower, lifted-same, stone-there, same_size}
+use Rattle.zone_checker.proofs.walk.+zones.Goals as goal
+
+-- ---- a node
+
+pub node_zone-returns-then-walk-eq0-clause-found : goal.node_zone-returns-then-walk-eq0-clause-found
+node_zone-returns-then-walk-eq0-clause-found g t c =
+    let some = pairs-some c.args.ground.table.now c.args.ground.side c.args.i c.args.walk.now.board in omega (arith, some)
+
+pub node_zone-returns-then-not-is_empty-clause-found : goal.node_zone-returns-then-not-is_empty-clause-found
+node_zone-returns-then-not-is_empty-clause-found g t c = λ z h.
+    taken-fails g.R.Rule.KIND c.args.ground.table.now (IsTable-lower _ c.node-node.ensures.table) c.args.ground.side c.args.i
+    c.args.walk.now.board c.node-node.result.now c.node-node.ensures.node (sym c.is_empty.ensures.empty ∙ c.if-not-is_empty.true) z h
+
+pub node_zone-returns-then-not-is_empty-clause-took : goal.node_zone-returns-then-not-is_empty-clause-took
+node_zone-returns-then-not-is_empty-clause-took g t c =
+    took-pair c.args.ground.table.now c.args.ground.side c.args.i c.args.walk.now.board c.args.walk.now.left (omega arith)
+
+pub node_zone-returns-in_default-clause-took : goal.node_zone-returns-in_default-clause-took
+node_zone-returns-in_default-clause-took g t c =
+    took-pair c.args.ground.table.now c.args.ground.side c.args.i c.args.walk.now.board c.args.walk.now.left (omega arith)
+
+pub node_zone-returns-then-is_five_point-clause-found : goal.node_zone-returns-then-is_five_point-clause-found
+node_zone-returns-then-is_five_point-clause-found g t c =
+    won-greatest g.R.Rule.KIND c.args.ground.table.now (IsTable-lower _ c.node-node.ensures.table) c.args.ground.side c.args.i
+    c.args.walk.now.board c.node-node.result.now c.node-node.ensures.node (sym c.is_five_point.ensures.five ∙ c.if-is_five_point.true)
+    (sym c.is_empty.ensures.empty ∙ c.if-not-is_empty.false) c.in-Ok.marks.items c.enter.new.marks.items c.enter.ensures.entered
+    c.in-Ok.ensures.blanks c.in-Ok.ensures.size
+
+pub node_zone-returns-then-is_five_point-clause-took : goal.node_zone-returns-then-is_five_point-clause-took
+node_zone-returns-then-is_five_point-clause-took g t c =
+    took-pair c.args.ground.table.now c.args.ground.side c.args.i c.args.walk.now.board c.args.walk.now.left (omega arith)
+
+pub node_zone-returns-in_default-rest : goal.node_zone-returns-in_default-rest
+node_zone-returns-in_default-rest g t c = record {
+  found = restless-fails g.R.Rule.KIND c.args.ground.table.now (IsTable-lower _ c.node-node.ensures.table) c.args.ground.side c.args.i
+      c.args.walk.now.board c.node-node.result.now c.node-node.ensures.node (sym c.is_five_point.ensures.five ∙ c.if-is_five_point.false)
+      c.in_default-rest.not-To;
+  same = refl;
+  took = took-pair c.args.ground.table.now c.args.ground.side c.args.i c.args.walk.now.board c.args.walk.now.left (omega arith);
+}
+
+pub node_zone-withstand-withstood-requires : goal.node_zone-withstand-withstood-requires
+node_zone-withstand-withstood-requires g t c =
+    let below = asked-below c.args.ground.table.now c.args.i c.node-node.result.now c.in-To.rest
+    (IsTable-lower _ c.node-node.ensures.table) c.node-node.ensures.node c.in-To.is in
+    let points : c.args.ground.points.now ≡ points_of c.put.new.self = rw c.put.ensures.put c.requires.points in
+    let bound : c.args.i < length c.args.ground.table.now + 1 = let l = c.requires.in_table in omega (arith, l) in
+    search rules
+
+pub node_zone-lift-requires : goal.node_zone-lift-requires
+node_zone-lift-requires g t c = record {
+  stone = stone-there c.args.walk.now.board _ _ c.args.ground.side c.node-node.result.now.attack
+      (sym c.is_empty.ensures.empty ∙ c.if-not-is_empty.false) c.put.ensures.put c.withstand-withstood.ensures.same
+      c.is_empty.ensures.board;
+}
+
+pub node_zone-returns-in-Ok-withstood-clause-same : goal.node_zone-returns-in-Ok-withstood-clause-same
+node_zone-returns-in-Ok-withstood-clause-same g t c =
+    lifted-same c.args.walk.now.board _ _ c.args.ground.side c.node-node.result.now.attack
+    (sym c.is_empty.ensures.empty ∙ c.if-not-is_empty.false) c.put.ensures.put c.withstand-withstood.ensures.same _ c.lift.ensures.lift
+
+pub node_zone-returns-in-Err-clause-same : goal.node_zone-returns-in-Err-clause-same
+node_zone-returns-in-Err-clause-same g t c =
+    lifted-same c.args.walk.now.board _ _ c.args.ground.side c.node-node.result.now.attack
+    (sym c.is_empty.ensures.empty ∙ c.if-not-is_empty.false) c.put.ensures.put c.withstand-withstood.ensures.same _ c.lift.ensures.lift
+
+pub node_zone-returns-in-Ok-withstood-clause-took : goal.node_zone-returns-in-Ok-withstood-clause-took
+node_zone-returns-in-Ok-withstood-clause-took g t c =
+    took-behind _ _ c.args.walk.now.left _
+    (behind-few g.R.Rule.KIND c.args.ground.table.now (IsTable-lower _ c.node-node.ensures.table) c.args.ground.side c.args.i
+    c.args.walk.now.board c.node-node.result.now c.node-node.ensures.node c.in-To.rest c.in-To.is
+    (sym c.is_five_point.ensures.five ∙ c.if-is_five_point.false) c.put.new.self c.put.ensures.put) (omega arith)
+    c.withstand-withstood.ensures.took
+
+pub node_zone-returns-in-Err-clause-took : goal.node_zone-returns-in-Err-clause-took
+node_zone-returns-in-Err-clause-took g t c =
+    took-behind _ _ c.args.walk.now.left _
+    (behind-few g.R.Rule.KIND c.args.ground.table.now (IsTable-lower _ c.node-node.ensures.table) c.args.ground.side c.args.i
+    c.args.walk.now.board c.node-node.result.now c.node-node.ensures.node c.in-To.rest c.in-To.is
+    (sym c.is_five_point.ensures.five ∙ c.if-is_five_point.false) c.put.new.self c.put.ensures.put) (omega arith)
+    c.withstand-withstood.ensures.took
+
+pub node_zone-returns-in-Err-clause-found : goal.node_zone-returns-in-Err-clause-found
+node_zone-returns-in-Err-clause-found g t c =
+    left-stopped g.R.Rule.KIND c.args.ground.table.now (IsTable-lower _ c.node-node.ensures.table) c.args.ground.side c.args.i
+    c.args.walk.now.board c.node-node.result.now c.node-node.ensures.node c.in-To.rest c.in-To.is
+    (sym c.is_five_point.ensures.five ∙ c.if-is_five_point.false) c.put.new.self c.put.ensures.put c.args.walk.now.left c.in-Err.stop
+    (omega arith) c.in-Err.ensures.found
+
+pub node_zone-returns-in-Ok-withstood-clause-found : goal.node_zone-returns-in-Ok-withstood-clause-found
+node_zone-returns-in-Ok-withstood-clause-found g t c =
+    let table = c.args.ground.table.now in
+    let s = c.args.ground.side in
+    let n = c.node-node.result.now in
+    let b = c.args.walk.now.board in
+    let ms = c.in-Ok-withstood.marks.items in
+    let marks = c.enter-in-Ok-withstood.new.marks.items in
+    let empty = sym c.is_empty.ensures.empty ∙ c.if-not-is_empty.false in
+    let back = lifted-same b _ _ s n.attack empty c.put.ensures.put c.withstand-withstood.ensures.same _ c.lift.ensures.lift in
+    let best = subst (λ (d : Grid). IsGreatest (IsWithstoodBy g.R.Rule.KIND table s (asked_of n.replies c.in-To.rest) d) d ms)
+    c.put.ensures.put c.in-Ok-withstood.ensures.found in
+    left-greatest g.R.Rule.KIND table (IsTable-lower _ c.node-node.ensures.table) s c.args.i b n c.node-node.ensures.node c.in-To.rest
+    c.in-To.is (sym c.is_five_point.ensures.five ∙ c.if-is_five_point.false) empty ms marks
+    (subst (λ (d : Grid). IsEntered d n.attack ms marks) back c.enter-in-Ok-withstood.ensures.entered) best
+    (same_size b (put b s n.attack) _ s n.attack empty refl refl ms best.size)
+
+-- ---- a reply
+
+pub reply-returns-in_default-clause-replied : goal.reply-returns-in_default-clause-replied
+reply-returns-in_default-clause-replied g t c =
+    reply-idle g.R.Rule.KIND c.args.ground.table.now c.args.ground.side c.args.asked.replies.now c.args.asked.rest c.args.walk.now.board
+    c.args.passed.now c.requires.passed c.args.q c.args.marks.now.items c.in_default.ensures.walked
+
+pub reply-node_zone-found-requires : goal.reply-node_zone-found-requires
+reply-node_zone-found-requires g t c =
+    let points : c.args.ground.points.now ≡ points_of c.put.new.self = rw c.put.ensures.put c.requires.points in
+    let below = answer-lower c.args.asked.replies.now c.args.asked.rest c.args.asked.bound c.args.q c.requires.below c.in-Some.next
+    c.in-Some.ensures.walked.given in
+    let l : c.in-Some.next < length c.args.ground.table.now = let bound = c.requires.bound in omega (arith, below, bound) in
+    search rules
+
+pub reply-lift-requires : goal.reply-lift-requires
+reply-lift-requires g t c = record {
+  stone = stone-there c.args.walk.now.board _ _ c.other.result c.args.q c.in-Some.ensures.walked.empty c.put.ensures.put
+      c.node_zone-found.ensures.same c.in-Some.ensures.board;
+}
+
+pub reply-returns-in-Err-clause-replied : goal.reply-returns-in-Err-clause-replied
+reply-returns-in-Err-clause-replied g t c =
+    reply-stopped g.R.Rule.KIND c.args.ground.table.now c.args.ground.side c.args.asked.replies.now c.args.asked.rest c.args.walk.now.board
+    c.args.passed.now c.requires.passed c.args.q c.in-Some.next c.in-Some.ensures.walked c.put.new.self
+    (c.put.ensures.put ∙ ap (λ (s : Side). put c.args.walk.now.board s c.args.q) c.other.ensures.other) c.args.walk.now.left c.in-Err.stop
+    c.in-Err.ensures.found
+
+pub reply-returns-in-Err-clause-same : goal.reply-returns-in-Err-clause-same
+reply-returns-in-Err-clause-same g t c =
+    lifted-same c.args.walk.now.board _ _ c.other.result c.args.q c.in-Some.ensures.walked.empty c.put.ensures.put
+    c.node_zone-found.ensures.same _ c.lift.ensures.lift
+
+pub reply-returns-in-Ok-clause-same : goal.reply-returns-in-Ok-clause-same
+reply-returns-in-Ok-clause-same g t c =
+    lifted-same c.args.walk.now.board _ _ c.other.result c.args.q c.in-Some.ensures.walked.empty c.put.ensures.put
+    c.node_zone-found.ensures.same _ c.lift.ensures.lift
+
+pub reply-returns-in-Err-clause-took : goal.reply-returns-in-Err-clause-took
+reply-returns-in-Err-clause-took g t c =
+    reply-took g.R.Rule.KIND c.args.ground.table.now c.args.ground.side c.args.asked.replies.now c.args.asked.rest c.args.walk.now.board
+    c.args.passed.now c.requires.passed c.args.q c.in-Some.next c.in-Some.ensures.walked c.put.new.self
+    (c.put.ensures.put ∙ ap (λ (s : Side). put c.args.walk.now.board s c.args.q) c.other.ensures.other) _ _ c.node_zone-found.ensures.took
+
+pub reply-returns-in-Ok-clause-took : goal.reply-returns-in-Ok-clause-took
+reply-returns-in-Ok-clause-took g t c =
+    reply-took g.R.Rule.KIND c.args.ground.table.now c.args.ground.side c.args.asked.replies.now c.args.asked.rest c.args.walk.now.board
+    c.args.passed.now c.requires.passed c.args.q c.in-Some.next c.in-Some.ensures.walked c.put.new.self
+    (c.put.ensures.put ∙ ap (λ (s : Side). put c.args.walk.now.board s c.args.q) c.other.ensures.other) _ _ c.node_zone-found.ensures.took
+
+pub reply-returns-in-Ok-clause-replied : goal.reply-returns-in-Ok-clause-replied
+reply-returns-in-Ok-clause-replied g t c =
+    let b = c.args.walk.now.board in
+    let old = c.args.marks.now.items in
+    let after = c.put.ensures.put ∙ ap (λ (s : Side). put b s c.args.q) c.other.ensures.other in
+    let best = c.in-Ok.ensures.found in
+    reply-found g.R.Rule.KIND c.args.ground.table.now c.args.ground.side c.args.asked.replies.now c.args.asked.rest b c.args.passed.now
+    c.requires.passed c.args.q c.in-Some.next c.in-Some.ensures.walked c.put.new.self after c.in-Ok.others.items old
+    c.cover.new.marks.items best
+    (subst (λ (ms : List Mark). AreCovered old ms c.cover.new.marks.items) c.deref.ensures.value c.cover.ensures.covered)
+    (same_size b c.put.new.self _ (other c.args.ground.side) c.args.q c.in-Some.ensures.walked.empty after refl _ best.size
+    ∙ sym c.requires.size)
+
+-- ---- all replies
+
+pub reply_all-loop-q-preserved : goal.reply_all-loop-q-preserved
+reply_all-loop-q-preserved g t c =
+    let table = c.args.ground.table.now in
+    let s = c.args.ground.side in
+    let a = asked_of c.args.asked.replies.now c.args.asked.rest in
+    let b = c.args.walk.now.board in
+    let ps = c.args.ground.points.now in
+    let i = c.loop-q.q-index in
+    let left = c.loop-q.walk.left in
+    let q : Point = get_or ps i (record { x = 0; y = 0 }) in
+    let here = λ (d : Point). get_or_default ps i d (record { x = 0; y = 0 }) c.loop-q-test.true in
+    let took = subst (λ (d : Grid). Took (reply_pairs table s a d q) left c.reply.new.walk.left) c.loop-q.invariant.board
+    c.reply.ensures.took in
+    let has = HasZone g.R.Rule.KIND table s in
+    let old = c.loop-q.marks.items in
+    let new = c.reply.new.marks.items in
+    record {
+      board = c.reply.ensures.same ∙ c.loop-q.invariant.board;
+      taken = taken-more (reply_pairs table s a b) ps i q c.args.walk.now.left left c.reply.new.walk.left c.loop-q-test.true here
+          c.loop-q.invariant.taken took;
+      replied = replied-more s a has b c.args.passed.now ps i q c.args.marks.now.items old new c.loop-q.invariant.replied here
+          (subst (λ (d : Grid). IsReplied s a has d c.args.passed.now q old new) c.loop-q.invariant.board c.in_ok-reply.ensures.replied);
+    }
+
+pub reply_all-returns-clause-replied : goal.reply_all-returns-clause-replied
+reply_all-returns-clause-replied g t c =
+    let table = c.args.ground.table.now in
+    let s = c.args.ground.side in
+    let a = asked_of c.args.asked.replies.now c.args.asked.rest in
+    let b = c.args.walk.now.board in
+    let ps = c.args.ground.points.now in
+    let has = HasZone g.R.Rule.KIND table s in
+    let all : c.loop-q.q-index ≡ length ps = omega arith in
+    replied-all s a has b c.args.passed.now ps c.args.marks.now.items c.loop-q.marks.items c.requires.points
+    (subst (λ n. RepliedTo s a has b c.args.passed.now ps n c.args.marks.now.items c.loop-q.marks.items) all c.loop-q.invariant.replied)
+
+pub reply_all-returns-clause-took : goal.reply_all-returns-clause-took
+reply_all-returns-clause-took g t c =
+    taken-all _ c.args.ground.points.now (points_of c.args.walk.now.board) c.loop-q.q-index c.args.walk.now.left c.loop-q.walk.left
+    c.requires.points c.loop-q.invariant.taken
+
+pub reply_all-returns-in_err-reply-clause-replied : goal.reply_all-returns-in_err-reply-clause-replied
+reply_all-returns-in_err-reply-clause-replied g t c =
+    let table = c.args.ground.table.now in
+    let s = c.args.ground.side in
+    let a = asked_of c.args.asked.replies.now c.args.asked.rest in
+    let b = c.args.walk.now.board in
+    let ps = c.args.ground.points.now in
+    let i = c.loop-q.q-index in
+    let left = c.loop-q.walk.left in
+    let q : Point = get_or ps i (record { x = 0; y = 0 }) in
+    let here = λ (d : Point). get_or_default ps i d (record { x = 0; y = 0 }) c.loop-q-test.true in
+    let by = IsWithstoodBy g.R.Rule.KIND table s a in
+    let stop = c.in_err-reply.field-0.0 in
+    let p = err_from_is_err_and c.from_residual.result c.from_residual.ensures.1 in
+    rw (p.1, p.2) (stopped-then (by b) (by b) left c.args.walk.now.left _ _ stop (λ none. none)
+    (taken-short (reply_pairs table s a b) ps (points_of b) i q c.args.walk.now.left left c.requires.points c.loop-q-test.true here
+    c.loop-q.invariant.taken)
+    (subst (λ (d : Grid). Stopped (by d) left (reply_pairs table s a d q) stop) c.loop-q.invariant.board c.in_err-reply.ensures.replied))
+
+pub reply_all-returns-in_err-reply-clause-took : goal.reply_all-returns-in_err-reply-clause-took
+reply_all-returns-in_err-reply-clause-took g t c =
+    let table = c.args.ground.table.now in
+    let s = c.args.ground.side in
+    let a = asked_of c.args.asked.replies.now c.args.asked.rest in
+    let b = c.args.walk.now.board in
+    let ps = c.args.ground.points.now in
+    let i = c.loop-q.q-index in
+    let left = c.loop-q.walk.left in
+    let q : Point = get_or ps i (record { x = 0; y = 0 }) in
+    let here = λ (d : Point). get_or_default ps i d (record { x = 0; y = 0 }) c.loop-q-test.true in
+    let took = subst (λ (d : Grid). Took (reply_pairs table s a d q) left c.reply.new.walk.left) c.loop-q.invariant.board
+    c.reply.ensures.took in
+    taken-stopped (reply_pairs table s a b) ps (points_of b) i q c.args.walk.now.left left c.reply.new.walk.left c.requires.points
+    c.loop-q-test.true here c.loop-q.invariant.taken took
+
+-- ---- the answers of a node
+
+pub withstand-returns-in-Ok-None-clause-found : goal.withstand-returns-in-Ok-None-clause-found
+withstand-returns-in-Ok-None-clause-found g t c =
+    four-fails c.args.ground.side (asked_of c.args.asked.replies.now c.args.asked.rest)
+    (HasZone g.R.Rule.KIND c.args.ground.table.now c.args.ground.side) c.args.walk.now.board
+    (rw c.in-Ok-None.field-0-is at c.in-Ok-None.ensures.opened)
+
+pub withstand-returns-clause-found : goal.withstand-returns-clause-found
+withstand-returns-clause-found g t c =
+    let table = c.args.ground.table.now in
+    let s = c.args.ground.side in
+    let a = asked_of c.args.asked.replies.now c.args.asked.rest in
+    let b = c.args.walk.now.board in
+    let has = HasZone g.R.Rule.KIND table s in
+    let passed = c.in_ok-passed.passed.items in
+    let first = c.cover_back.new.marks.items in
+    let last = c.reply_all.new.marks.items in
+    let best = c.in_ok-passed.ensures.found in
+    let opened = rw c.in-Ok-Some.field-0-is at c.in-Ok-Some.ensures.opened in
+    let covered = subst (λ (ms : List Mark). AreCovered c.in-Ok-Some.marks.items (map kept_back ms) first) c.deref.ensures.value
+    c.cover_back.ensures.covered in
+    let replied = subst (λ (d : Grid). AreReplied s a has d passed (points_of d) first last) c.node_zone.ensures.same
+    (subst (λ (ms : List Mark). AreReplied s a has c.node_zone.new.walk.board ms (points_of c.node_zone.new.walk.board) first last)
+    c.deref-2.ensures.value c.in_ok-reply_all.ensures.replied) in
+    replies-greatest s a has b passed c.in-Ok-Some.marks.items first last c.args.asked.rest c.opened.ensures.board refl best opened covered
+    (length-map passed kept_back ∙ best.size ∙ sym opened.size) replied
+
+pub withstand-returns-in_err-reply_all-clause-found : goal.withstand-returns-in_err-reply_all-clause-found
+withstand-returns-in_err-reply_all-clause-found g t c =
+    let table = c.args.ground.table.now in
+    let s = c.args.ground.side in
+    let a = asked_of c.args.asked.replies.now c.args.asked.rest in
+    let b = c.args.walk.now.board in
+    let by = IsWithstoodBy g.R.Rule.KIND table s a in
+    let left = c.node_zone.new.walk.left in
+    let stop = c.in_err-reply_all.field-0.0 in
+    let took = c.node_zone.ensures.took.most in
+    let p = err_from_is_err_and c.from_residual-in_err-reply_all.result c.from_residual-in_err-reply_all.ensures.1 in
+    rw (p.1, p.2) (stopped-then (by b) (by b) left c.args.walk.now.left _ _ stop (λ none. none) (λ short. omega (arith, took, short))
+    (subst (λ (d : Grid). Stopped (by d) left (sum_by (reply_pairs table s a d) (points_of d)) stop) c.node_zone.ensures.same
+    c.in_err-reply_all.ensures.replied))
