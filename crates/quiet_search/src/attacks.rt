@@ -13,7 +13,7 @@ use foul_judge::{Position, Seen};
 use proof_tree::{Numbers, ProofTree};
 use row_shapes::{FivePoints, Rule};
 use std::alloc::AllocError;
-use stone_board::{Point, Points};
+use stone_board::{Point, Points, Side};
 use strategy_compiler::{Compiler, SearchError};
 
 /// The budget of threats at a leaf of the attacker.
@@ -146,23 +146,34 @@ impl<R: Rule> Finder<R> {
         hint: Option<u32>,
         children: &mut Children,
     ) -> Result<(), AllocError> {
-        let Some(next) = after_move::<R>(view, p)? else {
-            return Ok(());
-        };
-        if next.has_five(self.attacker.other()) {
-            return Ok(());
+        match after_move::<R>(view, p)? {
+            None => Ok(()),
+            Some(next) => add_child(children, &next, self.attacker, proof, Note::open(p, hint)),
         }
-        let more = if next.has_five(self.attacker) {
-            FOUR_PROOF
-        } else {
-            0
-        };
-        let numbers = Numbers {
-            proof: proof.saturating_add(more),
-            disproof: 1,
-        };
-        children.push(numbers, Note::open(p, hint))
     }
+}
+
+/// Adds a child for the move that led to a position, if the defender has no five point there.
+fn add_child<R: Rule>(
+    children: &mut Children,
+    next: &Position<R>,
+    attacker: Side,
+    proof: u32,
+    note: Note,
+) -> Result<(), AllocError> {
+    if next.has_five(attacker.other()) {
+        return Ok(());
+    }
+    let more = if next.has_five(attacker) {
+        FOUR_PROOF
+    } else {
+        0
+    };
+    let numbers = Numbers {
+        proof: proof.saturating_add(more),
+        disproof: 1,
+    };
+    children.push(numbers, note)
 }
 
 /// Whether there is a point and it is this one.

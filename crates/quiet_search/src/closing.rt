@@ -13,8 +13,8 @@ use crate::tree_growth::{link_of, numbers_of, settle_leaf};
 use foul_judge::Seen;
 use proof_tree::{Kind, Link, ProofTree};
 use row_shapes::Rule;
-use std::alloc::AllocError;
-use stone_board::Point;
+use std::alloc::{AllocError, Global};
+use stone_board::{Board, Point};
 use strategy_compiler::{Compiler, SearchError};
 use strategy_graph::{Node, Replies, Reply, Rest};
 
@@ -22,6 +22,43 @@ use strategy_graph::{Node, Replies, Reply, Rest};
 fn listed(answers: &[Reply], p: Point) -> Option<u32> {
     let found = answers.iter().find(|reply| reply.at == p)?;
     Some(found.next)
+}
+
+/// The answers that differ from the rest, in reading order.
+fn listed_replies(
+    alloc: Global,
+    board: &Board,
+    rest: u32,
+    answers: &[Reply],
+) -> Result<Replies, AllocError> {
+    let mut replies = Replies::new(alloc);
+    for at in board.points() {
+        if let Some(next) = listed(answers, at) {
+            if next != rest {
+                replies.push(Reply { at, next })?;
+            }
+        }
+    }
+    Ok(replies)
+}
+
+/// Puts the node of an attack in, if it is one of a table.
+fn adopt_attack(
+    compiler: &mut Compiler,
+    attack: Point,
+    rest: u32,
+    replies: Replies,
+) -> Result<Option<u32>, SearchError> {
+    let len = compiler.len();
+    if rest >= len || !replies.is_rising() || !are_below(replies.as_slice(), len) {
+        return Ok(None);
+    }
+    let number = compiler.adopt(Node {
+        attack,
+        replies,
+        rest: Rest::To(rest),
+    })?;
+    Ok(Some(number))
 }
 
 /// Whether each answer names a node below `len`.
@@ -40,24 +77,8 @@ impl<R: Rule> Finder<R> {
         rest: u32,
         answers: &[Reply],
     ) -> Result<Option<u32>, SearchError> {
-        let mut replies = Replies::new(self.alloc);
-        for at in self.root.board().points() {
-            if let Some(next) = listed(answers, at) {
-                if next != rest {
-                    replies.push(Reply { at, next })?;
-                }
-            }
-        }
-        let len = compiler.len();
-        if rest >= len || !replies.is_rising() || !are_below(replies.as_slice(), len) {
-            return Ok(None);
-        }
-        let number = compiler.adopt(Node {
-            attack,
-            replies,
-            rest: Rest::To(rest),
-        })?;
-        Ok(Some(number))
+        let replies = listed_replies(self.alloc, self.root.board(), rest, answers)?;
+        adopt_attack(compiler, attack, rest, replies)
     }
 
     /// Settles the leaf as won by a node, or as disproved where none was compiled.
@@ -89,19 +110,11 @@ impl<R: Rule> Finder<R> {
         rest: u32,
         answers: &[Reply],
     ) -> Result<(), AllocError> {
-        let note = self.note(leaf);
-        let first = u32::try_from(self.answers.len()).unwrap_or(u32::MAX);
-        let count = u32::try_from(answers.len()).unwrap_or(0);
+        let note = self
+            .note(leaf)
+            .with_rest(rest, self.answers.len(), answers.len());
         self.answers.extend_from_slice(answers)?;
-        self.write(
-            leaf,
-            Note {
-                rest: Some(rest),
-                first,
-                count,
-                ..note
-            },
-        );
+        self.write(leaf, note);
         Ok(())
     }
 

@@ -14,7 +14,7 @@ use foul_judge::{Position, Seen};
 use proof_tree::{Numbers, ProofTree};
 use row_shapes::{FivePoints, Rule};
 use std::alloc::AllocError;
-use stone_board::{Point, Points};
+use stone_board::{Board, Point, Points};
 use strategy_compiler::{Compiler, SearchError};
 
 /// The numbers of the one block of a four.
@@ -58,13 +58,26 @@ impl<R: Rule> Finder<R> {
         ensures small { OnOk result (IsSmall tree.new place.most) }
     {
         let rest = compiler.winning(block)?;
-        if !is_on::<R>(view, block) {
-            let node = self.compile(compiler, place.at, rest, &[])?;
-            return Ok(self.settle_by(tree, place, node));
+        if is_on::<R>(view, block) {
+            let hint = answer_of(compiler, place.hint, block);
+            return self.add_block(tree, place, rest, Note::open(block, hint));
         }
-        let hint = answer_of(compiler, place.hint, block);
-        let mut children = Children::new(self.alloc);
-        children.push(BLOCK, Note::open(block, hint))?;
+        let node = self.compile(compiler, place.at, rest, &[])?;
+        Ok(self.settle_by(tree, place, node))
+    }
+
+    /// Gives the leaf the block of a four as its one child.
+    fn add_block(
+        &mut self,
+        tree: &mut ProofTree,
+        place: Place,
+        rest: u32,
+        block: Note,
+    ) -> Result<Step, SearchError>
+        requires small { IsSmall tree.old place.most }
+        ensures small { OnOk result (IsSmall tree.new place.most) }
+    {
+        let children = Children::one(self.alloc, BLOCK, block)?;
         self.write_rest(place.leaf, rest, &[])?;
         self.expand(tree, &children, place.most)
     }
@@ -121,13 +134,24 @@ impl<R: Rule> Finder<R> {
         if self.serves(compiler, hinted, view.board())? {
             return Ok(hinted);
         }
-        let Some(q) = least_point(view.board(), self.attacker) else {
-            return Ok(None);
-        };
-        let Some(mut passed) = after_move::<R>(view, q)? else {
-            return Ok(None);
-        };
-        self.force(&mut passed, self.width.pass, place.left, compiler)
+        match least_point(view.board(), self.attacker) {
+            None => Ok(None),
+            Some(q) => self.win_after(view, q, compiler, place.left),
+        }
+    }
+
+    /// The node of a win by fours or threats after a reply, if one is found with the budget of a pass.
+    fn win_after(
+        &mut self,
+        view: &Position<R>,
+        q: Point,
+        compiler: &mut Compiler,
+        left: u32,
+    ) -> Result<Option<u32>, SearchError> {
+        match after_move::<R>(view, q)? {
+            None => Ok(None),
+            Some(mut passed) => self.force(&mut passed, self.width.pass, left, compiler),
+        }
     }
 
     /// The replies that may harm the zone of the rest, those first that are tried first; nothing where it has no zone.
@@ -137,11 +161,15 @@ impl<R: Rule> Finder<R> {
         compiler: &Compiler,
         rest: u32,
     ) -> Result<Option<Points>, AllocError> {
-        let Some(zone) = self.zone_at(compiler, rest, view.board())? else {
-            return Ok(None);
-        };
-        let harmful = self.zones.harmful(view.board(), zone)?;
-        let replies = in_order(self.alloc, view.board(), self.attacker, harmful.as_slice())?;
-        Ok(Some(replies))
+        match self.zone_at(compiler, rest, view.board())? {
+            None => Ok(None),
+            Some(zone) => Ok(Some(self.replies_to(view.board(), zone)?)),
+        }
+    }
+
+    /// The replies that may harm the zone, those first that are tried first.
+    fn replies_to(&self, board: &Board, zone: u32) -> Result<Points, AllocError> {
+        let harmful = self.zones.harmful(board, zone)?;
+        in_order(self.alloc, board, self.attacker, harmful.as_slice())
     }
 }

@@ -44,6 +44,30 @@ enum Forced {
     Open,
 }
 
+impl Forced {
+    /// The node that wins, if one does.
+    fn node(self) -> Option<u32> {
+        match self {
+            Forced::Won(node) => Some(node),
+            Forced::Denied | Forced::Open => None,
+        }
+    }
+}
+
+/// Remembers what a search for fours and threats with this budget came to on the board.
+fn keep_forced(
+    memory: &mut Memory,
+    board: &Board,
+    found: Forced,
+    budget: u64,
+) -> Result<(), AllocError> {
+    match found {
+        Forced::Won(node) => memory.keep_won(board, node),
+        Forced::Denied => memory.keep_tried(board, u64::MAX),
+        Forced::Open => memory.keep_tried(board, budget.saturating_add(1)),
+    }
+}
+
 /// What the search keeps beside its tree.
 #[derive(Drop)]
 pub(crate) struct Finder<R: Rule> {
@@ -104,18 +128,27 @@ pub(crate) fn is_on<R: Rule>(view: &mut Position<R>, p: Point) -> bool {
     matches!(view.outcome(p), Outcome::GoesOn)
 }
 
+/// Plays a move, if it goes on, and tells whether it does.
+pub(crate) fn plays<R: Rule>(view: &mut Position<R>, p: Point) -> bool {
+    match view.outcome(p) {
+        Outcome::GoesOn => {
+            view.play(p);
+            true
+        }
+        _ => false,
+    }
+}
+
 /// The position after a move, if the move goes on.
 pub(crate) fn after_move<R: Rule>(
     view: &Position<R>,
     p: Point,
 ) -> Result<Option<Position<R>>, AllocError> {
     let mut next = view.copy()?;
-    match next.outcome(p) {
-        Outcome::GoesOn => {
-            next.play(p);
-            Ok(Some(next))
-        }
-        _ => Ok(None),
+    if plays::<R>(&mut next, p) {
+        Ok(Some(next))
+    } else {
+        Ok(None)
     }
 }
 
@@ -210,27 +243,8 @@ impl<R: Rule> Finder<R> {
             return Ok(None);
         }
         let found = self.search_forced(view, known, budget, left, compiler)?;
-        let board = view.board();
-        match found {
-            Forced::Won(node) => {
-                self.memory.keep_won(board, node)?;
-                Ok(Some(node))
-            }
-            Forced::Denied => {
-                self.keep_tried(board, u64::MAX)?;
-                Ok(None)
-            }
-            Forced::Open => {
-                self.keep_tried(board, budget.saturating_add(1))?;
-                Ok(None)
-            }
-        }
-    }
-
-    /// Remembers how hard fours and threats were searched on the board.
-    fn keep_tried(&mut self, board: &Board, tried: u64) -> Result<(), AllocError> {
-        let known = self.memory.find(board);
-        self.memory.keep(board, Known { tried, ..known })
+        keep_forced(&mut self.memory, view.board(), found, budget)?;
+        Ok(found.node())
     }
 
     /// The same where nothing is known: first fours, where they were not searched, then threats.

@@ -50,7 +50,7 @@ impl Memory {
     }
 
     /// Remembers this of the board.
-    pub(crate) fn keep(&mut self, board: &Board, known: Known) -> Result<(), AllocError> {
+    fn keep(&mut self, board: &Board, known: Known) -> Result<(), AllocError> {
         self.table.keep(PackedPosition::of(board), 0, known)
     }
 
@@ -64,6 +64,12 @@ impl Memory {
                 ..known
             },
         )
+    }
+
+    /// Remembers how hard fours and threats were searched on the board.
+    pub(crate) fn keep_tried(&mut self, board: &Board, tried: u64) -> Result<(), AllocError> {
+        let known = self.find(board);
+        self.keep(board, Known { tried, ..known })
     }
 
     /// Remembers that all moves tried on the board were disproved in this round.

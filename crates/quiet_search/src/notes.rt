@@ -30,4 +30,14 @@ impl Note {
             win: None,
         }
     }
+
+    /// The note with the rest of a node of the defender, and so many answers from a first one on.
+    pub(crate) fn with_rest(self, rest: u32, first: usize, count: usize) -> Note {
+        Note {
+            rest: Some(rest),
+            first: u32::try_from(first).unwrap_or(u32::MAX),
+            count: u32::try_from(count).unwrap_or(0),
+            ..self
+        }
+    }
 }

@@ -44,6 +44,24 @@ impl Met {
         }
     }
 
+    /// Takes what a reply comes to, after an attack with this hint, and tells whether the attack stands.
+    fn take(&mut self, judged: Judged, q: Point, hint: Option<u32>) -> Result<bool, AllocError> {
+        match judged {
+            Judged::No => {}
+            Judged::Denies => return Ok(false),
+            Judged::By(next) => self.add_answer(Reply { at: q, next })?,
+            Judged::Open(like) => {
+                let hinted = if hint.is_some() {
+                    like
+                } else {
+                    Some(self.rest)
+                };
+                self.children.push(OPEN, Note::open(q, hinted))?;
+            }
+        }
+        Ok(true)
+    }
+
     /// Adds the answer to one reply.
     fn add_answer(&mut self, answer: Reply) -> Result<(), AllocError> {
         self.answers.push(answer)?;
@@ -81,23 +99,30 @@ impl<R: Rule> Finder<R> {
         replies: &[Point],
     ) -> Result<Option<Met>, SearchError> {
         let mut met = Met::new(self.alloc, rest);
-        add_node(&mut met.serving, rest)?;
+        if self.meet_each(view, compiler, place, &mut met, replies)? {
+            Ok(Some(met))
+        } else {
+            Ok(None)
+        }
+    }
+
+    /// Meets one reply after another, and tells whether none of them denies the attack.
+    fn meet_each(
+        &mut self,
+        view: &mut Position<R>,
+        compiler: &mut Compiler,
+        place: Place,
+        met: &mut Met,
+        replies: &[Point],
+    ) -> Result<bool, SearchError> {
+        add_node(&mut met.serving, met.rest)?;
         for q in replies {
-            match self.judge(view, compiler, place, &mut met.serving, *q)? {
-                Judged::No => {}
-                Judged::Denies => return Ok(None),
-                Judged::By(next) => met.add_answer(Reply { at: *q, next })?,
-                Judged::Open(hint) => {
-                    let hinted = if place.hint.is_some() {
-                        hint
-                    } else {
-                        Some(rest)
-                    };
-                    met.children.push(OPEN, Note::open(*q, hinted))?;
-                }
+            let judged = self.judge(view, compiler, place, &mut met.serving, *q)?;
+            if !met.take(judged, *q, place.hint)? {
+                return Ok(false);
             }
         }
-        Ok(Some(met))
+        Ok(true)
     }
 
     /// What a reply comes to.
@@ -110,13 +135,36 @@ impl<R: Rule> Finder<R> {
         q: Point,
     ) -> Result<Judged, SearchError> {
         match view.outcome(q) {
-            Outcome::GoesOn => {}
-            Outcome::Fouls(_) => return Ok(Judged::No),
-            _ => return Ok(Judged::Denies),
+            Outcome::GoesOn => self.judge_after(view, compiler, place, serving, q),
+            Outcome::Fouls(_) => Ok(Judged::No),
+            _ => Ok(Judged::Denies),
         }
-        let Some(mut next) = after_move::<R>(view, q)? else {
-            return Ok(Judged::Denies);
-        };
+    }
+
+    /// What a reply comes to that goes on.
+    fn judge_after(
+        &mut self,
+        view: &Position<R>,
+        compiler: &mut Compiler,
+        place: Place,
+        serving: &mut Vec<u32>,
+        q: Point,
+    ) -> Result<Judged, SearchError> {
+        match after_move::<R>(view, q)? {
+            None => Ok(Judged::Denies),
+            Some(mut next) => self.judge_at(&mut next, compiler, place, serving, q),
+        }
+    }
+
+    /// What a reply comes to at the position after it.
+    fn judge_at(
+        &mut self,
+        next: &mut Position<R>,
+        compiler: &mut Compiler,
+        place: Place,
+        serving: &mut Vec<u32>,
+        q: Point,
+    ) -> Result<Judged, SearchError> {
         let known = self.memory.find(next.board());
         if let Some(node) = known.won {
             return Ok(Judged::By(node));
@@ -125,7 +173,7 @@ impl<R: Rule> Finder<R> {
             return Ok(Judged::Denies);
         }
         let hint = answer_of(compiler, place.hint, q);
-        match self.answer_to(&mut next, compiler, hint, place.left, serving)? {
+        match self.answer_to(next, compiler, hint, place.left, serving)? {
             None => Ok(Judged::Open(hint)),
             Some(node) => {
                 self.memory.keep_won(next.board(), node)?;

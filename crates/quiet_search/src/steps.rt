@@ -4,7 +4,7 @@
 ghost use Rattle.std.specs.Prelude.{◌≡◌, OnOk};
 ghost use Rattle.quiet_search.specs.Trees.{IsSmall};
 
-use crate::finder::{Finder, after_move};
+use crate::finder::{Finder, plays};
 use crate::notes::Note;
 use crate::tree_growth::{grow_leaf, is_decided, link_of, numbers_of, settle_leaf};
 use foul_judge::Position;
@@ -59,6 +59,13 @@ impl Children {
             numbers: Vec::new(alloc),
             notes: Vec::new(alloc),
         }
+    }
+
+    /// One child.
+    pub(crate) fn one(alloc: Global, numbers: Numbers, note: Note) -> Result<Children, AllocError> {
+        let mut children = Children::new(alloc);
+        children.push(numbers, note)?;
+        Ok(children)
     }
 
     /// Whether there are none.
@@ -194,16 +201,22 @@ impl<R: Rule> Finder<R> {
     /// The position at the first node of a way up to the root, if all its moves go on.
     pub(crate) fn reach(&self, way: &[u32]) -> Result<Option<Position<R>>, AllocError> {
         let mut view = self.root.copy()?;
+        if self.plays_down(&mut view, way) {
+            Ok(Some(view))
+        } else {
+            Ok(None)
+        }
+    }
+
+    /// Plays the moves of a way up to the root, the last of the way first, and tells whether all go on.
+    fn plays_down(&self, view: &mut Position<R>, way: &[u32]) -> bool {
         for k in 0..way.len() {
             let i = way[way.len() - 1 - k];
-            if i != 0 {
-                match after_move::<R>(&view, self.note(i).at)? {
-                    None => return Ok(None),
-                    Some(next) => view = next,
-                }
+            if i != 0 && !plays::<R>(view, self.note(i).at) {
+                return false;
             }
         }
-        Ok(Some(view))
+        true
     }
 
     /// Settles a leaf as won by a node.

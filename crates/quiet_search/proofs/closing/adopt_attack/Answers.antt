@@ -5,11 +5,11 @@ use Rattle.std.specs.List.{list_all}
 use Rattle.strategy_graph.specs.declared.Reply.{Reply}
 use Rattle.strategy_graph.proofs.Common.{is_rising}
 use Rattle.quiet_search.proofs.FitNodes.{fit-node}
-use Rattle.quiet_search.proofs.finder.Finder.compile.Goals as goal
+use Rattle.quiet_search.proofs.closing.adopt_attack.Goals as goal
 
 pub adopt-requires : goal.adopt-requires
-adopt-requires g c =
-    let rs : List Reply = c.loop-at.replies in
+adopt-requires c =
+    let rs : List Reply = c.args.replies in
     let k = length c.args.compiler.now in
     let low : c.args.rest < k = omega arith in
     let rising : is_rising rs ≡ true = search rules in
