@@ -8,10 +8,11 @@
 
 use crate::zone_frames::Frame;
 use crate::zones::Zones;
+use foul_judge::foul_at;
 use row_shapes::{Rule, is_five_point};
 use std::alloc::AllocError;
 use stone_board::{Board, Point, Side};
-use strategy_graph::{Node, Rest};
+use strategy_graph::{Node, Replies, Rest};
 
 /// So many pairs of a node and a board are looked at for one question.
 const MOST_PAIRS: u32 = 20_000;
@@ -101,6 +102,9 @@ impl<R: Rule> Zones<R> {
             return Ok(Entered::Told(told));
         }
         let node = &nodes[place];
+        if fouls::<R>(board, self.side, node.attack) {
+            return Ok(Entered::Told(None));
+        }
         if is_five_point::<R>(board, self.side, node.attack) {
             let zone = self.push_blank()?;
             self.enter(board, zone, node.attack);
@@ -204,27 +208,52 @@ impl<R: Rule> Zones<R> {
         &self,
         nodes: &[Node],
         frame: Frame,
-        board: &Board,
+        board: &mut Board,
     ) -> Option<(u32, Point, usize)> {
         let own = frame.node as usize;
         if own >= nodes.len() {
             return None;
         }
-        let replies = &nodes[own].replies;
         let passed = frame.passed?;
         let width = board.width();
         for place in frame.place..self.size {
             let q = point_of(width, place);
-            if board.is_empty(q) {
-                if let Some(listed) = replies.find(q) {
-                    return Some((listed, q, place + 1));
-                }
-                if self.is_harmed(board, passed, q) {
-                    return Some((frame.rest, q, place + 1));
-                }
+            if let Some(asked) = self.asked_after(
+                &nodes[own].replies,
+                frame.rest,
+                passed,
+                board,
+                q,
+            ) {
+                return Some((asked, q, place + 1));
             }
         }
         None
+    }
+
+    /// The node that is asked after a reply: the one that is listed for it, or that of the rest where the reply harms the zone which
+    /// follows a pass. None is asked after a reply that can't be played or fouls.
+    fn asked_after(
+        &self,
+        replies: &Replies,
+        rest: u32,
+        passed: u32,
+        board: &mut Board,
+        q: Point,
+    ) -> Option<u32> {
+        if !board.is_empty(q) {
+            return None;
+        }
+        let asked = match replies.find(q) {
+            Some(listed) => listed,
+            None if self.is_harmed(board, passed, q) => rest,
+            None => return None,
+        };
+        if fouls::<R>(board, self.side.other(), q) {
+            None
+        } else {
+            Some(asked)
+        }
     }
 
     /// Takes the attack of a frame's node off the board, and keeps what became of its zone.
@@ -245,6 +274,11 @@ impl<R: Rule> Zones<R> {
         }
         self.keep(board, frame.node, zone)
     }
+}
+
+/// Whether the side's stone on the point fouls.
+fn fouls<R: Rule>(board: &mut Board, side: Side, p: Point) -> bool {
+    R::has_fouls(side) && board.is_empty(p) && foul_at::<R>(board, p).is_some()
 }
 
 /// The point at a place in reading order, on a board of this width.
