@@ -2,15 +2,16 @@
 -- final point depends on a gain only if both are on one line: the stone on the gain plays no part in the runs through any other point. A
 -- threat keeps the lines on which its gain is not, but for what it fills. So where a point makes two five points after it, and is on no
 -- line with its gain, it did so before.
-use Rattle.std.proofs.Common.{◌≡◌, ℕ, ◌+◌, ◌<◌, false, ◌||◌, List, ◌∷◌, drop, length, get_or, sym, ap, ◌∙◌, add-one, drop-cons, suc, ◌-◌}
-use Rattle.std.proofs.Common.{Bool, true, cond, ◌&&◌, not, [], refl, subst, arith, nat_le, is_none, ◌++◌, Result, Ok, Err, IfOk, filter}
+use Rattle.std.proofs.Common.{rules, ◌≡◌, ℕ, ◌+◌, ◌<◌, false, ◌||◌, List, ◌∷◌, drop, length, get_or, sym, ap}
+use Rattle.std.proofs.Common.{◌∙◌, add-one, drop-cons, suc, ◌-◌, Bool, true, cond, ◌&&◌, not, [], refl, arith, nat_le}
+use Rattle.std.proofs.Common.{is_none, ◌++◌, Result, IfOk, filter}
 use Rattle.std.proofs.lemmas.Bool.{false_from_ne_true, and_from, or_right}
 use Rattle.std.proofs.lemmas.Bool.Decides.{nat_tests}
-use Rattle.game_rules.specs.declared.RuleKind.{RuleKind}
-use Rattle.game_rules.specs.declared.Side.{Side}
-use Rattle.game_rules.specs.declared.Point.{Point}
-use Rattle.game_rules.proofs.Common.{Grid, is_double_point, has_five, IsBoard, is_on, is_empty, is_stone_of, cell_at, put, lift, five}
-use Rattle.game_rules.proofs.Common.{foul_of, has_fouls, five_points, is_aligned, points_of, is_same_point, other}
+use Rattle.threat_space.proofs.Common.{RuleKind, Side, Point, Grid, has_five, IsBoard, is_empty, points_of, other, Threat, with_stone}
+use Rattle.threat_space.proofs.Common.{with_stones, is_final_point, played, played_all, final_depends, all_needed, is_sequence, has_point}
+use Rattle.threat_space.proofs.Common.{may_make_two, HasPairsAfter, EndsNear, HasPairsOf, HasFarPairs}
+use Rattle.game_rules.proofs.Common.{is_double_point, is_on, is_stone_of, cell_at, put, lift, five, foul_of, has_fouls, five_points}
+use Rattle.game_rules.proofs.Common.{is_aligned}
 use Rattle.game_rules.proofs.Wins.{no_five}
 use Rattle.game_rules.proofs.Boards.{and_left, and_right, is_empty-on}
 use Rattle.game_rules.proofs.Positions.{IsBoard-lift, put-lift}
@@ -19,13 +20,9 @@ use Rattle.game_rules.proofs.Cells.{side_there}
 use Rattle.game_rules.proofs.Points.{points-found, is_same_point-itself, is_same_point-same}
 use Rattle.stone_board.specs.Steps.{holds_stone}
 use Rattle.row_shapes.specs.FivePoints.{in_short}
-use Rattle.threat_moves.specs.declared.threat_list.Threat.{Threat}
 use Rattle.threat_moves.proofs.GainLaws.{several}
 use Rattle.threat_moves.proofs.ThreatLists.{last_added}
 use Rattle.threat_moves.proofs.Common.{is_several}
-use Rattle.threat_space.specs.Sequences.{with_stone, with_stones, is_final_point, played, played_all, final_depends, all_needed}
-use Rattle.threat_space.specs.Sequences.{is_sequence}
-use Rattle.threat_space.specs.Lines.{has_point, may_make_two, HasPairsAfter, EndsNear, HasPairsOf, HasFarPairs}
 
 -- the point that stands where there is none
 abbrev pub zero_point : Point
@@ -33,8 +30,7 @@ zero_point = record { x = 0; y = 0 }
 
 pub put-next : (b : Grid) (s : Side) (ps : List Point) (i : ℕ) → i < length ps
     → with_stones b s (drop i ps) ≡ with_stones (with_stone b s (get_or ps i zero_point)) s (drop (i + 1) ps)
-put-next b s ps i low = ap (with_stones b s)
-    (drop-cons ps i zero_point low ∙ ap (λ k. get_or ps i zero_point ∷ drop k ps) (sym (add-one i)))
+put-next b s ps i low = search (rules, drop-cons, add-one)
 
 -- where the side has no five point, a final point is a double point
 pub new-final : (rule : RuleKind) (b : Grid) (s : Side) (p : Point) → has_five rule b s ≡ false
@@ -59,7 +55,7 @@ module _ (rule : RuleKind) (b : Grid) (s : Side) (g f : Point) (ok : IsBoard b) 
   keeps =
       let stone = side_there (cell_at b g) (and_right (is_on b g) _ there) in
       let again : put less stone.0 g ≡ b = put-lift b stone.0 g (ap (λ r. r && is_stone_of stone.0 (cell_at b g)) on_g ∙ stone.1) in
-      subst (λ (c : Grid). KeepsLines c less s f) again (put-kept less stone.0 s g f (IsBoard-lift b g ok) on_g off)
+      rw again at (put-kept less stone.0 s g f (IsBoard-lift b g ok) on_g off)
 
   double_kept : is_double_point rule b s f ≡ true → is_double_point rule less s f ≡ true
   unfolding is_double_point
@@ -75,23 +71,14 @@ module _ (rule : RuleKind) (b : Grid) (s : Side) (g f : Point) (ok : IsBoard b) 
 
   final_less : is_final_point rule b s f ≡ true → is_final_point rule less s f ≡ true
   unfolding is_final_point
-  final_less h =
-      let double : is_double_point rule b s f ≡ true = sym (new-final rule b s f none) ∙ h in
-      ap (λ r. five rule less s f || r) (double_kept double) ∙ or_true (five rule less s f) where
-        or_true : (r : Bool) → (r || true) ≡ true
-        or_true true = refl
-        or_true false = refl
+  final_less h = search (rules, new-final, double_kept)
 
 -- ---- the final point of a list
 
 final_empty : (rule : RuleKind) (b : Grid) (s : Side) (f : Point) → has_five rule b s ≡ false → is_final_point rule b s f ≡ true
     → is_empty b f ≡ true
 unfolding is_double_point
-final_empty rule b s f none h =
-    let double : is_double_point rule b s f ≡ true = sym (new-final rule b s f none) ∙ h in
-    and_left (is_empty b f) _
-    (and_left (is_empty b f && not (five rule b s f)) _
-    (and_left (is_empty b f && not (five rule b s f) && is_none (foul_of rule b s f)) _ double))
+final_empty rule b s f none h = search (rules, new-final, and_left)
 
 -- a final point that is on no line with a gain does not depend on it
 far_final : (rule : RuleKind) (b : Grid) (s : Side) (g f : Point) → IsBoard b → is_aligned g f ≡ false → has_fouls rule s ≡ false
@@ -107,9 +94,7 @@ module _ (rule : RuleKind) (s : Side) (f : Point) where
   last_needed : (b : Grid) (ts : List Threat) (t : Threat) → 0 < length ts → t ≡ get_or ts (length ts - 1) t
       → all_needed rule s f b ts ≡ true → final_depends rule (played_all b s ts) s t.gain f ≡ true
   last_needed b [] t some is h = absurd (omega (arith, some))
-  last_needed b (u ∷ []) t some is h =
-      let first : final_depends rule (played b s u) s u.gain f ≡ true = and_left (final_depends rule (played b s u) s u.gain f) _ h in
-      ap (λ (v : Threat). final_depends rule (played b s u) s v.gain f) is ∙ first
+  last_needed b (u ∷ []) t some is h = search rules
   last_needed b (u ∷ v ∷ us) t some is h =
       let place : length (u ∷ v ∷ us) - 1 ≡ suc (length (v ∷ us) - 1) = omega arith in
       last_needed (played b s u) (v ∷ us) t (omega arith) (is ∙ ap (λ k. get_or (u ∷ v ∷ us) k t) place) (and_right _ _ h)
@@ -133,30 +118,15 @@ ends-aligned rule s start b ts t ok is some last free none f off = false_from_ne
 final-pair : (rule : RuleKind) (b : Grid) (s : Side) (f : Point) → has_five rule b s ≡ false → is_final_point rule b s f ≡ true
     → may_make_two rule b s f ≡ true
 unfolding is_double_point
-final-pair rule b s f none h =
-    let double : is_double_point rule b s f ≡ true = sym (new-final rule b s f none) ∙ h in
-    let two : nat_le 2 (length (five_points rule (put b s f) s)) ≡ true =
-    and_right (is_empty b f && not (five rule b s f) && is_none (foul_of rule b s f)) _ double in
-    both (is_empty b f) (has_five rule b s) _ (final_empty rule b s f none h) (several (five_points rule (put b s f) s) ∙ two) where
-      both : (r t u : Bool) → r ≡ true → u ≡ true → (r && (t || u)) ≡ true
-      both true true u e k = refl
-      both true false u e k = k
-      both false t u e k = e
+final-pair rule b s f none h = search (rules, new-final, and_right, final_empty, several)
 
 -- a list with a final point that is on no line with its last gain, and is none of the pairs, is no sequence
 pub ends-near : (rule : RuleKind) (s : Side) (start b : Grid) (ts : List Threat) (t : Threat) (far : List Point) → IsBoard b
     → b ≡ played_all start s ts → 0 < length ts → t ≡ get_or ts (length ts - 1) t → has_five rule b s ≡ false
     → (has_fouls rule s ≡ true → HasFarPairs rule b s t.gain far) → EndsNear rule s start ts t.gain far
 unfolding is_sequence
-ends-near rule s start b ts t far ok is some last none pairs f off not_far = by_fouls (has_fouls rule s) refl where
-  by_fouls : (r : Bool) → has_fouls rule s ≡ r → is_sequence rule s start ts f ≡ false
-  by_fouls false free = ends-aligned rule s start b ts t ok is some last free none f off
-  by_fouls true fouls = false_from_ne_true _ (λ h.
-      let final : is_final_point rule b s f ≡ true = ap (λ (c : Grid). is_final_point rule c s f) is
-      ∙ and_left (is_final_point rule (played_all start s ts) s f) _ h in
-      let there : has_point far f ≡ true = pairs fouls none f off (final-pair rule b s f none final) in
-      let bad : false ≡ true = sym not_far ∙ there in
-      cc)
+ends-near rule s start b ts t far ok is some last none pairs f off not_far =
+    search (rules, ends-aligned, false_from_ne_true, and_left, final-pair)
 
 -- ---- the board after a threat
 
@@ -190,51 +160,27 @@ module _ (s : Side) (f : Point) where
 -- so a point that makes two five points after a threat, and is on no line with its gain, did so before it
 pair_kept : (rule : RuleKind) (b c : Grid) (s : Side) (f : Point) → KeepsLines c b s f → has_five rule c s ≡ false → is_empty c f ≡ true
     → is_several (in_short (five_points rule (put c s f) s)) ≡ true → may_make_two rule b s f ≡ true
-pair_kept rule b c s f keeps none open_f h =
-    let two : nat_le 2 (length (five_points rule (put c s f) s)) ≡ true = sym (several (five_points rule (put c s f) s)) ∙ h in
-    let more = more_fives rule c b s f keeps none open_f in
-    let still : nat_le 2 (length (five_points rule (put b s f) s)) ≡ true = grind (arith, nat_tests) in
-    and_from (is_empty b f) _ (open_kept rule c b s f keeps none open_f)
-    (or_right (has_five rule b s) _ (several (five_points rule (put b s f) s) ∙ still))
+pair_kept rule b c s f keeps none open_f h = search (rules, several, more_fives, and_from, open_kept, or_right)
 
 -- ---- lists of such points
 
 -- what a list has of the board before a threat, it has far from the gain of the board after it
 pub far-pairs : (rule : RuleKind) (b : Grid) (s : Side) (t : Threat) (far : List Point) → IsBoard b → has_fouls rule s ≡ true
     → HasPairsOf rule b s far → HasFarPairs rule (played b s t) s t.gain far
-far-pairs rule b s t far ok fouls pairs none p off two =
-    let open_p : is_empty (played b s t) p ≡ true = and_left (is_empty (played b s t) p) _ two in
-    let here : is_several (in_short (five_points rule (put (played b s t) s p) s)) ≡ true = second (has_five rule (played b s t) s) _ none
-    (and_right (is_empty (played b s t) p) _ two) in
-    pairs fouls p (pair_kept rule b (played b s t) s p (played-kept s p b t ok off) none open_p here) where
-      second : (r t : Bool) → r ≡ false → (r || t) ≡ true → t ≡ true
-      second r t e h = sym (ap (λ v. v || t) e) ∙ h
+far-pairs rule b s t far ok fouls pairs none p off two = search (rules, and_left, and_right, pair_kept, played-kept)
 
 pub pairs-after : (rule : RuleKind) (b : Grid) (s : Side) (path longer : List Threat) (t : Threat) (far : List Point) → IsBoard b
     → HasPairsOf rule b s far → longer ≡ path ++ t ∷ [] → HasPairsAfter rule (played b s t) s longer far
 pairs-after rule b s path longer t far ok pairs is fouls u some last =
     let same : u ≡ t = last ∙ ap (λ (ts : List Threat). get_or ts (length ts - 1) u) is ∙ last_added path t u in
-    subst (λ (v : Threat). HasFarPairs rule (played b s t) s v.gain far) (sym same) (far-pairs rule b s t far ok fouls pairs)
+    rw same (far-pairs rule b s t far ok fouls pairs)
 
 -- a point that passes a test and is one of a list is one of those that pass it
 passes_too : (h : Point → Bool) (xs : List Point) (p : Point) → h p ≡ true → has_point xs p ≡ true → has_point (filter h xs) p ≡ true
 passes_too h [] p pass there = there
-passes_too h (x ∷ xs) p pass there = by_same (is_same_point x p) refl there (passes_too h xs p pass) where
-  by_same : (r : Bool) → is_same_point x p ≡ r → (r || has_point xs p) ≡ true → (has_point xs p ≡ true → has_point (filter h xs) p ≡ true)
-      → has_point (cond (h x) (x ∷ filter h xs) (filter h xs)) p ≡ true
-  by_same true e k rest =
-      let pass_x : h x ≡ true = ap h (is_same_point-same x p e) ∙ pass in
-      rw (pass_x, e) refl
-  by_same false e k rest = by_test (h x) (rest k) where
-    by_test : (r : Bool) → has_point (filter h xs) p ≡ true → has_point (cond r (x ∷ filter h xs) (filter h xs)) p ≡ true
-    by_test true there = rw (e, there) refl
-    by_test false there = there
+passes_too h (x ∷ xs) p pass there = search (rules, is_same_point-same, passes_too h xs p pass)
 
 -- so the points of a board that pass the test are all pairs
 pub filtered-pairs : {E : Type 0} (rule : RuleKind) (b : Grid) (s : Side) (r : Result (List Point) E)
     → IfOk r (λ found. found ≡ filter (may_make_two rule b s) (points_of b)) → IfOk r (λ found. HasPairsOf rule b s found)
-filtered-pairs rule b s (Err e) h = h
-filtered-pairs rule b s (Ok found) is = λ fouls p two.
-    let on : is_on b p ≡ true = is_empty-on b p (and_left (is_empty b p) _ two) in
-    subst (λ (ps : List Point). has_point ps p ≡ true) (sym is)
-    (passes_too (may_make_two rule b s) (points_of b) p two (points-found b (λ q. is_same_point q p) p on (is_same_point-itself p)))
+filtered-pairs rule b s r h = search (rules, is_empty-on, and_left, passes_too, points-found, is_same_point-itself)

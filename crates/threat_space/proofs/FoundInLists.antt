@@ -1,31 +1,22 @@
 -- The lists that a search looks at, one after another: lists in two parts, lists by threats and by length.
-use Rattle.std.proofs.Common.{◌≡◌, ◌≢◌, ℕ, zero, suc, ◌+◌, ◌-◌, ◌≤◌, ◌<◌, Bool, true, false, cond, List, [], ◌∷◌, ◌++◌, map, drop, length}
-use Rattle.std.proofs.Common.{get_or, nat_eq, refl, sym, ap, ◌∙◌, arith, append_assoc, add-one, Option, Some, None, is_some, nat_le}
+use Rattle.std.proofs.Common.{rules, ◌≡◌, ◌≢◌, ℕ, zero, suc, ◌+◌, ◌-◌, ◌≤◌, ◌<◌, Bool, true, false, cond}
+use Rattle.std.proofs.Common.{List, [], ◌∷◌, ◌++◌, map, drop, length, get_or, nat_eq, refl, sym, ap, ◌∙◌, arith}
+use Rattle.std.proofs.Common.{append_assoc, add-one, Option, is_some, nat_le}
 use Rattle.std.specs.List.{flat_map, range_with_len}
-use Rattle.std.proofs.lemmas.List.{append-nil}
 use Rattle.std.proofs.lemmas.Bool.Decides.{nat_tests}
-use Rattle.game_rules.specs.Grid.{Grid, is_empty}
-use Rattle.game_rules.specs.declared.RuleKind.{RuleKind}
-use Rattle.game_rules.specs.declared.Side.{Side}
-use Rattle.game_rules.specs.declared.Point.{Point}
-use Rattle.threat_moves.specs.declared.threat_list.Threat.{Threat}
-use Rattle.threat_moves.specs.Threats.{threats_at, threats_of}
+use Rattle.threat_space.proofs.Common.{Grid, is_empty, RuleKind, Side, Point, Threat, threats_at, threats_of, FoundInLists, NoSequence}
+use Rattle.threat_space.proofs.Common.{played, played_all, lists_from, lists_of, lists_up_to, final_of, first_with, pair_or, count_up_to}
+use Rattle.threat_space.proofs.Common.{answer_with, space_answer, found_or, looked, looked_on, answer_of}
 use Rattle.threat_moves.proofs.GainLaws.{taken-no_gain, no_gain-threats}
 use Rattle.threat_moves.proofs.ThreatLists.{drop-at, Final, Lists, after_path, map-append, path-longer, path-none, no_lists, map-none}
 use Rattle.threat_space.specs.declared.answer.SpaceAnswer.TheVariants.{Spent as OutOfBudget}
-use Rattle.threat_space.specs.declared.walk.FoundInLists.{FoundInLists}
-use Rattle.threat_space.specs.declared.walk.FoundInLists.TheVariants.{NoSequence, Spent}
-use Rattle.threat_space.specs.Sequences.{played, played_all, lists_from, lists_of, lists_up_to, final_of, first_with, pair_or, count_up_to}
-use Rattle.threat_space.specs.Sequences.{answer_with, space_answer}
-use Rattle.threat_space.specs.Looking.{found_or, looked, looked_on, answer_of}
+use Rattle.threat_space.specs.declared.walk.FoundInLists.TheVariants.{Spent}
 
 -- ---- lists in two parts
 
 append_by : (r : Bool) (ts : List Threat) (o : Option Point) (a b : FoundInLists) (later : ℕ → FoundInLists) → a ≡ looked_on b later
     → cond r Spent (found_or ts o a) ≡ looked_on (cond r Spent (found_or ts o b)) later
-append_by true ts o a b later e = refl
-append_by false ts None a b later e = e
-append_by false ts (Some f) a b later e = refl
+append_by r ts o a b later e = search rules
 
 pub looked-append : (final : Final) (n : ℕ) (xs ys : Lists)
     → looked final n (xs ++ ys) ≡ looked_on (looked final n xs) (λ m. looked final m ys)
@@ -33,8 +24,7 @@ looked-append final n [] ys = refl
 looked-append final n (ts ∷ xs) ys = append_by (nat_eq n 0) ts (final ts) _ _ (λ m. looked final m ys) (looked-append final (n - 1) xs ys)
 
 pub on-ends : (a : FoundInLists) (later : ℕ → FoundInLists) → ((m : ℕ) → a ≢ NoSequence m) → looked_on a later ≡ a
-on-ends (NoSequence m) later h = absurd (h m refl)
-on-ends _ later h = refl
+on-ends a later h = search rules
 
 -- ---- lists by threats
 
@@ -47,26 +37,17 @@ module _ (final : Final) (path : List Threat) (lists : Grid → Lists) (s : Side
   abbrev pub from_threat : ℕ → Threat → FoundInLists
   from_threat n t = looked final n (after_path (path ++ t ∷ []) (lists (played b s t)))
 
-  pub threat-step : (n : ℕ) (t : Threat) (ts : List Threat) → from_threats n (t ∷ ts) ≡ looked_on (from_threat n t) (λ m. from_threats m ts)
-  threat-step n t ts =
-      ap (looked final n) (map-append (λ ts. path ++ ts) (map (λ more. t ∷ more) (lists (played b s t))) (lists_from lists s b ts)
-      ∙ ap (λ (xs : Lists). xs ++ after_path path (lists_from lists s b ts)) (path-longer path t (lists (played b s t))))
-      ∙ looked-append final n (after_path (path ++ t ∷ []) (lists (played b s t))) (after_path path (lists_from lists s b ts))
-
   -- one threat of a list
   pub threat-next : (n i : ℕ) (ts : List Threat) (t : Threat) → i < length ts → t ≡ get_or ts i t
       → from_threats n (drop i ts) ≡ looked_on (from_threat n t) (λ m. from_threats m (drop (i + 1) ts))
-  threat-next n i ts t low at =
-      ap (from_threats n) (drop-at i ts t low at)
-      ∙ threat-step n t (drop (i + 1) ts)
+  threat-next n i ts t low at = search (rules, drop-at, map-append, after_path, path-longer, looked-append)
 
 -- ---- threats by gains
 
 module _ (rule : RuleKind) (s : Side) (b : Grid) (p : Point) (ps qs : List Point) (e : ps ≡ p ∷ qs) where
   -- a gain that is not empty has no threats
   pub taken-none : is_empty b p ≡ false → flat_map (threats_at rule b s) qs ≡ flat_map (threats_at rule b s) ps
-  taken-none taken = sym (ap (flat_map (threats_at rule b s)) e ∙ ap (λ (ts : List Threat). ts ++ flat_map (threats_at rule b s) qs)
-      (no_gain-threats rule b s p (taken-no_gain rule b s p taken)))
+  taken-none taken = search (rules, no_gain-threats, taken-no_gain)
 
   -- the threats of one gain more
   pub more-threats : (ts us : List Threat) → us ≡ ts ++ threats_at rule b s p
@@ -74,10 +55,8 @@ module _ (rule : RuleKind) (s : Side) (b : Grid) (p : Point) (ps qs : List Point
   more-threats ts us longer =
       let rest : List Threat = flat_map (threats_at rule b s) qs in
       let here : us ++ rest ≡ (ts ++ threats_at rule b s p) ++ rest = ap (λ (vs : List Threat). vs ++ rest) longer in
-      let along : (ts ++ threats_at rule b s p) ++ rest ≡ ts ++ (threats_at rule b s p ++ rest) =
-      append_assoc ts (threats_at rule b s p) rest in
-      let all : ts ++ (threats_at rule b s p ++ rest) ≡ ts ++ flat_map (threats_at rule b s) ps =
-      ap (λ (vs : List Point). ts ++ flat_map (threats_at rule b s) vs) (sym e) in
+      let along = append_assoc ts (threats_at rule b s p) rest in
+      let all = ap (λ (vs : List Point). ts ++ flat_map (threats_at rule b s) vs) (sym e) in
       here ∙ along ∙ all
 
 -- ---- lists of some number of threats
@@ -85,19 +64,15 @@ module _ (rule : RuleKind) (s : Side) (b : Grid) (p : Point) (ps qs : List Point
 module _ (rule : RuleKind) (s : Side) (b : Grid) where
   pub lists-none : (k : ℕ) (path : List Threat) → k ≡ 0 → after_path path (lists_of rule s k b) ≡ path ∷ []
   unfolding lists_of
-  lists-none zero path e = ap (λ (ts : List Threat). ts ∷ []) (append-nil path)
-  lists-none (suc k) path e = absurd (omega arith)
+  lists-none k path e = search rules
 
   pub lists-zero : (k : ℕ) → k ≡ 0 → lists_of rule s k b ≡ [] ∷ []
   unfolding lists_of
-  lists-zero zero e = refl
-  lists-zero (suc k) e = absurd (omega arith)
+  lists-zero k e = search rules
 
   pub lists-more : (k : ℕ) → 0 < k → lists_of rule s k b ≡ lists_from (lists_of rule s (k - 1)) s b (threats_of rule b s)
   unfolding lists_of
-  lists-more zero some = absurd (omega arith)
-  lists-more (suc k) some = let less : k ≡ suc k - 1 =
-      omega arith in ap (λ j. lists_from (lists_of rule s j) s b (threats_of rule b s)) less
+  lists-more k some = search rules
 
 pub played-more : (b : Grid) (s : Side) (ts : List Threat) (t : Threat) → played_all b s (ts ++ t ∷ []) ≡ played (played_all b s ts) s t
 played-more b s [] t = refl
@@ -110,28 +85,14 @@ module _ (rule : RuleKind) (final : Final) (s : Side) (b : Grid) where
   abbrev pub from_length : ℕ → ℕ → ℕ → FoundInLists
   from_length n k more = looked final n (flat_map (λ i. lists_of rule s i b) (range_with_len k more))
 
-  pub length-step : (n k more : ℕ) → from_length n k (suc more) ≡ looked_on (looked final n (lists_of rule s k b))
-      (λ m. from_length m (k + 1) more)
-  length-step n k more = looked-append final n (lists_of rule s k b) (flat_map (λ i. lists_of rule s i b) (range_with_len (k + 1) more))
-
   pub length-next : (n k more : ℕ) → 0 < more → from_length n k more ≡ looked_on (looked final n (after_path [] (lists_of rule s k b)))
       (λ m. from_length m (k + 1) (more - 1))
-  length-next n k zero some = absurd (omega arith)
-  length-next n k (suc more) some =
-      let less : more ≡ suc more - 1 = omega arith in
-      length-step n k more
-      ∙ ap (λ (xs : Lists). looked_on (looked final n xs) (λ m. from_length m (k + 1) more)) (sym (path-none (lists_of rule s k b)))
-      ∙ ap (λ j. looked_on (looked final n (after_path [] (lists_of rule s k b))) (λ m. from_length m (k + 1) j)) less
+  length-next n k more some = search (rules, looked-append, path-none, after_path)
 
 -- what is left of a budget is no more than it
 left_by : (r : Bool) (ts : List Threat) (o : Option Point) (a : FoundInLists) (n m : ℕ) → cond r Spent (found_or ts o a) ≡ NoSequence m
     → (a ≡ NoSequence m → m ≤ n - 1) → nat_eq n 0 ≡ r → m < n
-left_by true ts o a n m h k e = cc
-left_by false ts (Some f) a n m h k e = cc
-left_by false ts None a n m h k e =
-    let less : m ≤ n - 1 = k h in
-    let some : n ≢ 0 = grind (arith, nat_tests) in
-    omega arith
+left_by r ts o a n m h k e = search rules
 
 left : (final : Final) (n m : ℕ) (xs : Lists) → looked final n xs ≡ NoSequence m → m ≤ n
 left final n m [] h = let same : NoSequence n ≡ NoSequence m = h in let e : n ≡ m = cc in omega arith
@@ -169,9 +130,7 @@ none-later rule s b (suc more) k h =
 
 pub length-ends : (rule : RuleKind) (final : Final) (s : Side) (b : Grid) (n k more : ℕ)
     → looked final n (after_path [] (lists_of rule s k b)) ≡ NoSequence n → from_length rule final s b n k more ≡ NoSequence n
-length-ends rule final s b n k more h =
-    ap (looked final n) (none-later rule s b more k
-    (sym (path-none (lists_of rule s k b)) ∙ all-left final n (after_path [] (lists_of rule s k b)) h))
+length-ends rule final s b n k more h = search (rules, none-later, path-none, all-left, after_path)
 
 -- ---- the answer
 
@@ -179,31 +138,12 @@ first_by : (ts : List Threat) (o : Option Point) (r : Bool) (n m : ℕ) (a : Fou
     → nat_eq n 0 ≡ r
     → answer_of a ≡ cond (nat_le m (n - 1)) (answer_with later) OutOfBudget
     → answer_of (cond r Spent (found_or ts o a)) ≡ cond (nat_le (1 + cond (is_some o) 0 m) n) (answer_with (pair_or ts o later)) OutOfBudget
-first_by ts o true n m a later e h =
-    let none : n ≡ 0 = grind (arith, nat_tests) in
-    let over : nat_le (1 + cond (is_some o) 0 m) n ≡ false = grind (arith, nat_tests) in
-    rw over refl
-first_by ts (Some f) false n m a later e h =
-    let some : n ≢ 0 = grind (arith, nat_tests) in
-    let within : nat_le (1 + 0) n ≡ true = grind (arith, nat_tests) in
-    rw within refl
-first_by ts None false n m a later e h = h ∙ by_test (nat_le m (n - 1)) refl where
-  by_test : (r : Bool) → nat_le m (n - 1) ≡ r → cond r (answer_with later) OutOfBudget ≡ cond (nat_le (1 + m) n) (answer_with later)
-      OutOfBudget
-  by_test true k =
-      let some : n ≢ 0 = grind (arith, nat_tests) in
-      let within : nat_le (1 + m) n ≡ true = grind (arith, nat_tests) in
-      rw within refl
-  by_test false k =
-      let some : n ≢ 0 = grind (arith, nat_tests) in
-      let over : nat_le (1 + m) n ≡ false = grind (arith, nat_tests) in
-      rw over refl
+first_by ts o r n m a later e h = search rules
 
 answer-is : (final : Final) (n : ℕ) (xs : Lists) → answer_of (looked final n xs) ≡ cond (nat_le (count_up_to final xs) n)
     (answer_with (first_with final xs)) OutOfBudget
 answer-is final n [] = let within : nat_le 0 n ≡ true = grind (arith, nat_tests) in rw within refl
-answer-is final n (ts ∷ xs) = first_by ts (final ts) (nat_eq n 0) n (count_up_to final xs) (looked final (n - 1) xs) (first_with final xs)
-    refl (answer-is final (n - 1) xs)
+answer-is final n (ts ∷ xs) = search (first_by, answer-is final (n - 1) xs)
 
 -- the answer by all lists of at most so many threats
 pub answer-all : (rule : RuleKind) (s : Side) (k n : ℕ) (b : Grid) (a : FoundInLists)
@@ -233,26 +173,17 @@ module _ (rule : RuleKind) (final : Final) (path : List Threat) (lists : Grid �
 pub threats-all : (rule : RuleKind) (final : Final) (path : List Threat) (s : Side) (b : Grid) (n k : ℕ) (ts : List Threat) → 0 < k
     → ts ≡ threats_of rule b s
     → from_threats final path (lists_of rule s (k - 1)) s b n ts ≡ looked final n (after_path path (lists_of rule s k b))
-threats-all rule final path s b n k ts some e =
-    ap (from_threats final path (lists_of rule s (k - 1)) s b n) e
-    ∙ ap (λ (ls : Lists). looked final n (after_path path ls)) (sym (lists-more rule s b k some))
+threats-all rule final path s b n k ts some e = search (rules, after_path, lists-more)
 
 module _ (rule : RuleKind) (final : Final) (s : Side) (b : Grid) where
   pub length-goes_on : (n k more less : ℕ) → 0 < more → less + 1 ≡ more → (a : FoundInLists)
       → a ≡ looked final n (after_path [] (lists_of rule s k b)) → (m : ℕ) → a ≡ NoSequence m
       → from_length rule final s b n k more ≡ from_length rule final s b m (k + 1) less
-  length-goes_on n k more less some one a found m h =
-      let same : more - 1 ≡ less = omega arith in
-      length-next rule final s b n k more some
-      ∙ ap (λ x. looked_on x (λ m. from_length rule final s b m (k + 1) (more - 1))) (sym found ∙ h)
-      ∙ ap (from_length rule final s b m (k + 1)) same
+  length-goes_on n k more less some one a found m h = search (rules, length-next)
 
   pub length-stops : (n k more : ℕ) → 0 < more → (a : FoundInLists) → a ≡ looked final n (after_path [] (lists_of rule s k b))
       → ((m : ℕ) → a ≢ NoSequence m) → from_length rule final s b n k more ≡ a
-  length-stops n k more some a found h =
-      length-next rule final s b n k more some
-      ∙ ap (λ x. looked_on x (λ m. from_length rule final s b m (k + 1) (more - 1))) (sym found)
-      ∙ on-ends a (λ m. from_length rule final s b m (k + 1) (more - 1)) h
+  length-stops n k more some a found h = search (rules, length-next, on-ends)
 
   pub length-none : (n k more : ℕ) → more ≡ 0 → from_length rule final s b n k more ≡ NoSequence n
   length-none n k more e = ap (from_length rule final s b n k) e

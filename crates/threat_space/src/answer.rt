@@ -4,7 +4,7 @@
 //! the count of lists says so.
 #![tactic(auto)]
 
-ghost use Rattle.std.specs.Prelude.{◌≡◌, ◌≤◌, IfOk};
+ghost use Rattle.std.specs.Prelude.{◌≡◌, ◌≤◌, [], IfOk};
 ghost use Rattle.threat_space.specs.declared.TheConstants.{MAX_LENGTH};
 ghost use Rattle.threat_space.specs.Sequences.{space_answer};
 
@@ -55,13 +55,31 @@ pub fn threat_space<R: Rule>(
         path: Threats::new(alloc),
         memory: BarrenBoards::<R>::new(alloc, side),
     };
+    first_found::<R>(&origin, board, &mut trail, length, budget)
+}
+
+/// The same with a walk from its first board, on whose path is nothing yet.
+fn first_found<R: Rule>(
+    origin: &Origin,
+    board: &mut Board,
+    trail: &mut Trail<R>,
+    length: u32,
+    budget: u64,
+) -> Result<SpaceAnswer, AllocError>
+    requires length_fits { length ≤ MAX_LENGTH }
+    requires start { origin.now.start.now ≡ board.old }
+    requires path { trail.old.path ≡ [] }
+    requires side { trail.old.memory.side ≡ origin.now.side }
+    ensures answer { IfOk result (λ answer. answer ≡ space_answer R.KIND origin.now.side length budget board.old) }
+    ensures same { board.new ≡ board.old }
+{
     let mut left = budget;
     for count in 0..length + 1 {
         let to_come = ToCome {
             more: count,
             far: &[],
         };
-        let walked = walk::<R>(&origin, board, &to_come, &mut trail, left)?;
+        let walked = walk::<R>(origin, board, &to_come, trail, left)?;
         let found = walked.found;
         match found {
             FoundInLists::Sequence(threats, last) => return Ok(SpaceAnswer::Sequence(

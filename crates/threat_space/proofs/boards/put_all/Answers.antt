@@ -1,6 +1,5 @@
 use Rattle.std.proofs.Common.{◌+◌, drop, sym, ap, ◌∙◌}
-use Rattle.game_rules.specs.Grid.{Grid}
-use Rattle.threat_space.specs.Sequences.{with_stones}
+use Rattle.threat_space.proofs.Common.{Grid, with_stones}
 use Rattle.threat_space.proofs.FarFinals.{put-next}
 use Rattle.threat_space.proofs.boards.put_all.Goals as goal
 

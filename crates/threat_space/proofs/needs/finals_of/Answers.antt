@@ -1,13 +1,11 @@
 use Rattle.std.proofs.Common.{◌≡◌, ap, sym, refl, ◌∙◌, find}
-use Rattle.game_rules.specs.Grid.{points_of}
-use Rattle.threat_space.specs.Sequences.{is_sequence}
+use Rattle.threat_space.proofs.Common.{is_sequence}
 use Rattle.threat_space.proofs.BarrenLists.{first-of, found-here, found-later, not-needed, none-ends}
 use Rattle.threat_space.proofs.needs.finals_of.Goals as goal
 
 pub loop-p-init : goal.loop-p-init
 loop-p-init g c =
-    let points : c.into_iter-p-iterator.result ≡ points_of c.args.start.now =
-    c.into_iter-p-iterator.ensures.into_iter_gives ∙ c.points-p-items.ensures.points in
+    let points = c.into_iter-p-iterator.ensures.into_iter_gives ∙ c.points-p-items.ensures.points in
     record {
       same = refl;
       first = first-of g.R.Rule.KIND c.args.side c.args.start.now c.args.threats.now c.into_iter-p-iterator.result points;

@@ -1,7 +1,5 @@
 use Rattle.std.proofs.Common.{◌≡◌, true, List, find}
-use Rattle.game_rules.proofs.Common.{Grid, points_of}
-use Rattle.threat_moves.specs.declared.threat_list.Threat.{Threat}
-use Rattle.threat_space.proofs.Common.{is_sequence, final_of, played_all, EndsAlike}
+use Rattle.threat_space.proofs.Common.{Grid, points_of, Threat, is_sequence, final_of, played_all, EndsAlike}
 use Rattle.threat_space.proofs.needs.finals_of.Given as goal
 
 -- the board is as before; the first of the points left with which the list is a sequence is the first of all, and so it is of each list

@@ -1,6 +1,5 @@
 use Rattle.std.proofs.Common.{◌≡◌, ◌++◌, filter}
-use Rattle.game_rules.specs.Grid.{points_of}
-use Rattle.threat_space.specs.Lines.{may_make_two}
+use Rattle.threat_space.proofs.Common.{points_of, may_make_two}
 use Rattle.threat_space.proofs.pairs.all_pairs.Given as goal
 
 -- the points found, and those of the points left, are all

@@ -1,67 +1,51 @@
 use Rattle.std.proofs.Common.{rules, ◌≡◌, ◌+◌, ◌-◌, ◌*◌, ◌<◌, ◌++◌, true, false, List, [], ◌∷◌, length, ap}
-use Rattle.std.proofs.Common.{sym, subst, ◌∙◌, arith, IfOk, Option}
+use Rattle.std.proofs.Common.{sym, ◌∙◌, arith, Option}
 use Rattle.std.proofs.lemmas.List.{drop_all}
-use Rattle.game_rules.proofs.Common.{Grid, IsBoard}
+use Rattle.threat_space.proofs.Common.{Grid, Point, Side, Threat, final_of, lists_of, played, played_all, HasPairsOf}
+use Rattle.threat_space.proofs.Common.{HasPairsAfter, looked, BarrenMemory}
 use Rattle.game_rules.proofs.Boards.{and_left, and_right}
-use Rattle.game_rules.specs.declared.Point.{Point}
-use Rattle.game_rules.specs.declared.Side.{Side}
-use Rattle.threat_moves.specs.declared.threat_list.Threat.{Threat}
 use Rattle.threat_moves.proofs.ThreatLists.{after_path, shorter}
-use Rattle.threat_space.proofs.Common.{final_of, lists_from, lists_of, played, played_all, HasPairsOf, HasPairsAfter, looked, AreBarren}
-use Rattle.threat_space.proofs.Common.{IsBarren, BarrenMemory}
 use Rattle.threat_space.proofs.FarFinals.{pairs-after}
 use Rattle.threat_space.proofs.BarrenLists.{barren-all, barren-any, barren-found, barren-kept, barren-next, barren-none}
-use Rattle.threat_space.proofs.FoundInLists.{from_threats, from_threat, lists-none, lists-zero, played-more, threats-all, threat-goes_on}
+use Rattle.threat_space.proofs.FoundInLists.{from_threats, lists-none, lists-zero, played-more, threats-all, threat-goes_on}
 use Rattle.threat_space.proofs.FoundInLists.{threat-ends}
 use Rattle.threat_space.proofs.walk.+walk.Goals as goal
 
 pub walk-returns-then-to_come-eq0-clause-looked : goal.walk-returns-then-to_come-eq0-clause-looked
 walk-returns-then-to_come-eq0-clause-looked g t c =
-    subst (λ (ls : List (List Threat)). IfOk c.look_at.result
-    (λ walked. walked.found ≡ looked (final_of g.R.Rule.KIND c.args.origin.now.side c.args.origin.now.start.now) c.args.budget ls))
-    (sym (lists-none g.R.Rule.KIND c.args.origin.now.side c.args.board.now c.args.to_come.now.more c.args.trail.now.path
-    c.if-to_come-eq0.true))
-    c.look_at.ensures.looked
+    rw (lists-none g.R.Rule.KIND c.args.origin.now.side c.args.board.now c.args.to_come.now.more c.args.trail.now.path
+    c.if-to_come-eq0.true) c.look_at.ensures.looked
 
 pub walk-returns-then-to_come-eq0-clause-barren : goal.walk-returns-then-to_come-eq0-clause-barren
 walk-returns-then-to_come-eq0-clause-barren g t c =
-    subst (λ (ls : List (List Threat)). IfOk c.look_at.result
-    (λ walked. walked.barren ≡ true → AreBarren g.R.Rule.KIND c.args.origin.now.side c.args.board.now c.args.trail.now.path ls))
-    (sym (lists-zero g.R.Rule.KIND c.args.origin.now.side c.args.board.now c.args.to_come.now.more c.if-to_come-eq0.true))
+    rw (lists-zero g.R.Rule.KIND c.args.origin.now.side c.args.board.now c.args.to_come.now.more c.if-to_come-eq0.true)
     c.look_at.ensures.barren
 
 -- a board that is remembered
 pub walk-returns-in-Some-clause-looked : goal.walk-returns-in-Some-clause-looked
 walk-returns-in-Some-clause-looked g t c =
-    let barren : IsBarren g.R.Rule.KIND c.args.origin.now.side c.args.board.now c.args.to_come.now.more c.in-Some.count =
-    subst (λ (s : Side). IsBarren g.R.Rule.KIND s c.args.board.now c.args.to_come.now.more c.in-Some.count) c.requires.side
-    c.in-Some.ensures.barren in
+    let barren = rw c.requires.side at c.in-Some.ensures.barren in
     c.passed.ensures.passed ∙ sym (barren c.args.origin.now.start.now c.args.trail.now.path c.requires.played c.args.budget)
 
 pub walk-returns-in-Some-clause-barren : goal.walk-returns-in-Some-clause-barren
 walk-returns-in-Some-clause-barren g t c barren =
     barren-found g.R.Rule.KIND c.args.origin.now.side c.args.board.now c.args.trail.now.path c.args.to_come.now.more c.in-Some.count
-    (subst (λ (s : Side). IsBarren g.R.Rule.KIND s c.args.board.now c.args.to_come.now.more c.in-Some.count) c.requires.side
-    c.in-Some.ensures.barren)
+    (rw c.requires.side at c.in-Some.ensures.barren)
 
 pub walk-walk_from-requires : goal.walk-walk_from-requires
 walk-walk_from-requires g t c κs within =
     let same : c.all_threats.new.board ≡ c.args.board.now = c.all_threats.ensures.same in
-    let played : c.all_threats.new.board ≡ played_all c.args.origin.now.start.now c.args.origin.now.side c.args.trail.now.path =
-    same ∙ c.requires.played in
+    let played = same ∙ c.requires.played in
     let less : 2 * (c.args.to_come.now.more - 1) + 1 < 2 * c.args.to_come.now.more = let some =
     c.if-to_come-eq0.false in omega (arith, some) in
-    let board : IsBoard c.all_threats.new.board = subst IsBoard (sym same) c.all_threats.ensures.board in
+    let board = rw (← same) at c.all_threats.ensures.board in
     let one : c.args.to_come.now.more - 1 ≡ 0 → c.args.to_come.now.more ≡ 1 = λ e. let some =
     c.if-to_come-eq0.false in omega (arith, some, e) in
-    let pairs : c.args.to_come.now.more - 1 ≡ 0 → 0 < length c.as_slice-2.result.now → HasPairsOf g.R.Rule.KIND c.all_threats.new.board
-    c.args.origin.now.side c.as_slice.result.now = λ e some.
-    let count : 0 < c.len.result = subst (λ n. 0 < n)
-    (ap (λ (ts : List Threat). length ts) c.as_slice-2.ensures.items ∙ sym c.len.ensures.length) some in
-    subst (λ (ps : List Point). HasPairsOf g.R.Rule.KIND c.all_threats.new.board c.args.origin.now.side ps) (sym c.as_slice.ensures.items)
-    (c.in_ok-far.ensures.pairs (one e) count) in
-    let side : c.find.new.self.side ≡ c.args.origin.now.side = ap (λ (m : BarrenMemory). m.side) c.find.ensures.entries
-    ∙ c.requires.side in
+    let pairs : c.args.to_come.now.more - 1 ≡ 0 → 0 < length c.as_slice-2.result.now
+    → HasPairsOf g.R.Rule.KIND c.all_threats.new.board c.args.origin.now.side c.as_slice.result.now = λ e some.
+    let count = rw (ap (λ (ts : List Threat). length ts) c.as_slice-2.ensures.items ∙ sym c.len.ensures.length) at some in
+    rw c.as_slice.ensures.items (c.in_ok-far.ensures.pairs (one e) count) in
+    let side : c.find.new.self.side ≡ c.args.origin.now.side = ap (λ (m : BarrenMemory). m.side) c.find.ensures.entries ∙ c.requires.side in
     search rules
 
 -- what is found with all threats of the board is what is found of all its lists
@@ -70,8 +54,7 @@ walk-returns-clause-looked g t c =
     let some : 0 < c.args.to_come.now.more = let more = c.if-to_come-eq0.false in omega (arith, more) in
     let final : List Threat → Option Point = final_of g.R.Rule.KIND c.args.origin.now.side c.args.origin.now.start.now in
     let lists : Grid → List (List Threat) = lists_of g.R.Rule.KIND c.args.origin.now.side (c.args.to_come.now.more - 1) in
-    let found : c.in_ok-walked.walked.found ≡ from_threats final c.args.trail.now.path lists c.args.origin.now.side c.all_threats.new.board
-    c.args.budget c.as_slice-2.result.now = c.in_ok-walked.ensures.looked in
+    let found = c.in_ok-walked.ensures.looked in
     found
     ∙ ap (λ (w : Grid). from_threats final c.args.trail.now.path lists c.args.origin.now.side w c.args.budget c.as_slice-2.result.now)
     c.all_threats.ensures.same
@@ -86,8 +69,7 @@ walk-returns-clause-barren g t c barren =
     barren-any g.R.Rule.KIND s c.args.board.now (lists_of g.R.Rule.KIND s c.args.to_come.now.more c.args.board.now) c.args.trail.now.path
     (barren-all g.R.Rule.KIND s c.args.board.now c.args.to_come.now.more c.as_slice-2.result.now some
     (c.as_slice-2.ensures.items ∙ c.in_ok-threats.ensures.threats)
-    (subst (λ (w : Grid). AreBarren g.R.Rule.KIND s w [] (lists_from lists s w c.as_slice-2.result.now)) c.all_threats.ensures.same
-    (c.in_ok-walked.ensures.barren barren)))
+    (rw c.all_threats.ensures.same at (c.in_ok-walked.ensures.barren barren)))
 
 -- what is remembered of it
 pub walk-remember-requires : goal.walk-remember-requires
@@ -98,26 +80,17 @@ walk-remember-requires g t c = record {
       let same : c.all_threats.new.board ≡ c.args.board.now = c.all_threats.ensures.same in
       let final : List Threat → Option Point = final_of g.R.Rule.KIND s c.args.origin.now.start.now in
       let lists : Grid → List (List Threat) = lists_of g.R.Rule.KIND s (c.args.to_come.now.more - 1) in
-      let found : c.in_ok-walked.walked.found ≡ from_threats final c.args.trail.now.path lists s c.all_threats.new.board
-      c.args.budget c.as_slice-2.result.now = c.in_ok-walked.ensures.looked in
-      let all : c.in_ok-walked.walked.found ≡ looked final c.args.budget (after_path c.args.trail.now.path
-      (lists_of g.R.Rule.KIND s c.args.to_come.now.more c.args.board.now)) = found
-      ∙ ap (λ (w : Grid). from_threats final c.args.trail.now.path lists s w c.args.budget c.as_slice-2.result.now) same
+      let found = c.in_ok-walked.ensures.looked in
+      let all = found ∙ ap (λ (w : Grid). from_threats final c.args.trail.now.path lists s w c.args.budget c.as_slice-2.result.now) same
       ∙ threats-all g.R.Rule.KIND final c.args.trail.now.path s c.args.board.now c.args.budget c.args.to_come.now.more
       c.as_slice-2.result.now some (c.as_slice-2.ensures.items ∙ c.in_ok-threats.ensures.threats) in
-      let here : AreBarren g.R.Rule.KIND s c.args.board.now [] (lists_of g.R.Rule.KIND s c.args.to_come.now.more c.args.board.now) =
-      barren-all g.R.Rule.KIND s c.args.board.now c.args.to_come.now.more c.as_slice-2.result.now some
-      (c.as_slice-2.ensures.items ∙ c.in_ok-threats.ensures.threats)
-      (subst (λ (w : Grid). AreBarren g.R.Rule.KIND s w [] (lists_from lists s w c.as_slice-2.result.now)) same
-      (c.in_ok-walked.ensures.barren barren)) in
-      let side : s ≡ c.walk_from.new.trail.memory.side =
-      sym (c.walk_from.ensures.side ∙ ap (λ (m : BarrenMemory). m.side) c.find.ensures.entries ∙ c.requires.side) in
+      let here = barren-all g.R.Rule.KIND s c.args.board.now c.args.to_come.now.more c.as_slice-2.result.now some
+      (c.as_slice-2.ensures.items ∙ c.in_ok-threats.ensures.threats) (rw same at (c.in_ok-walked.ensures.barren barren)) in
+      let side = sym (c.walk_from.ensures.side ∙ ap (λ (m : BarrenMemory). m.side) c.find.ensures.entries ∙ c.requires.side) in
       let kept = barren-kept g.R.Rule.KIND s c.args.board.now c.args.origin.now.start.now c.args.trail.now.path c.args.to_come.now.more
       c.args.budget left c.in_ok-walked.walked.found c.requires.played here all none in (
         kept.0,
-        subst (λ (w : Grid). IsBarren g.R.Rule.KIND c.walk_from.new.trail.memory.side w c.args.to_come.now.more (c.args.budget - left))
-            (sym same)
-            (subst (λ (r : Side). IsBarren g.R.Rule.KIND r c.args.board.now c.args.to_come.now.more (c.args.budget - left)) side kept.1),
+        rw same (rw side at kept.1),
       );
 }
 
@@ -125,20 +98,15 @@ pub walk_from-walk-requires : goal.walk_from-walk-requires
 walk_from-walk-requires g t c κs within =
     let longer : c.lengthen.new.path ≡ c.args.trail.now.path ++ c.threat-item.result ∷ [] =
     c.in_ok-lengthen.ensures.longer ∙ ap (λ (p : List Threat). p ++ c.threat-item.result ∷ []) c.loop-threat.invariant.path in
-    let played : c.in_ok-next.next ≡ played_all c.args.origin.now.start.now c.args.origin.now.side c.lengthen.new.path =
-    c.in_ok-next.ensures.played
-    ∙ ap (λ (w : Grid). played w c.args.origin.now.side c.threat-item.result) c.requires.played
+    let played = c.in_ok-next.ensures.played ∙ ap (λ (w : Grid). played w c.args.origin.now.side c.threat-item.result) c.requires.played
     ∙ sym (played-more c.args.origin.now.start.now c.args.origin.now.side c.args.trail.now.path c.threat-item.result)
     ∙ ap (played_all c.args.origin.now.start.now c.args.origin.now.side) (sym longer) in
     let less : 2 * c.args.to_come.now.more < 2 * c.args.to_come.now.more + 1 = omega arith in
     let some : 0 < length c.args.threats.now = let low = c.loop-threat-test.true in omega (arith, low) in
     let pairs : c.args.to_come.now.more ≡ 0 → HasPairsAfter g.R.Rule.KIND c.in_ok-next.next c.args.origin.now.side c.lengthen.new.path
-    c.args.to_come.now.far.now = λ e.
-    subst (λ (w : Grid). HasPairsAfter g.R.Rule.KIND w c.args.origin.now.side c.lengthen.new.path c.args.to_come.now.far.now)
-    (sym c.in_ok-next.ensures.played)
+    c.args.to_come.now.far.now = λ e. rw c.in_ok-next.ensures.played
     (pairs-after g.R.Rule.KIND c.args.board.now c.args.origin.now.side c.args.trail.now.path c.lengthen.new.path c.threat-item.result
-    c.args.to_come.now.far.now
-    c.requires.board (c.requires.far e some) longer) in
+    c.args.to_come.now.far.now c.requires.board (c.requires.far e some) longer) in
     let side = c.loop-threat.invariant.side in
     search rules
 
@@ -150,23 +118,20 @@ walk_from-loop-threat-preserved g t c =
     let final : List Threat → Option Point = final_of g.R.Rule.KIND s c.args.origin.now.start.now in
     let longer : c.lengthen.new.path ≡ c.args.trail.now.path ++ c.threat-item.result ∷ [] =
     c.in_ok-lengthen.ensures.longer ∙ ap (λ (p : List Threat). p ++ c.threat-item.result ∷ []) c.loop-threat.invariant.path in
-    let found : c.in_ok-walked.walked.found ≡ from_threat final c.args.trail.now.path lists s b c.loop-threat.left
-    c.threat-item.result =
-    c.in_ok-walked.ensures.looked
-    ∙ ap (λ (p : List Threat). looked final c.loop-threat.left (after_path p (lists c.in_ok-next.next))) longer
+    let found = c.in_ok-walked.ensures.looked ∙ ap
+    (λ (p : List Threat). looked final c.loop-threat.left (after_path p (lists c.in_ok-next.next))) longer
     ∙ ap (λ (w : Grid). looked final c.loop-threat.left (after_path (c.args.trail.now.path ++ c.threat-item.result ∷ []) (lists w)))
     c.in_ok-next.ensures.played in
     record {
       path = c.drop_last.ensures.dropped ∙ shorter c.args.trail.now.path c.walk.new.trail.path c.threat-item.result
           (c.in_ok-walked.ensures.path ∙ longer);
-      rest = sym (threat-goes_on g.R.Rule.KIND final c.args.trail.now.path lists s b c.loop-threat.left
-          c.loop-threat.threat-index
+      rest = sym (threat-goes_on g.R.Rule.KIND final c.args.trail.now.path lists s b c.loop-threat.left c.loop-threat.threat-index
           c.args.threats.now c.threat-item.result c.loop-threat-test.true c.threat-item.is c.in_ok-walked.walked.found found
           c.in-NoSequence.rest c.in-NoSequence.is) ∙ c.loop-threat.invariant.rest;
       barren = λ barren rest. c.loop-threat.invariant.barren (and_left c.loop-threat.barren c.in_ok-walked.walked.barren barren)
           (barren-next g.R.Rule.KIND s b lists c.args.trail.now.path c.lengthen.new.path c.loop-threat.threat-index c.args.threats.now
           c.threat-item.result c.loop-threat-test.true c.threat-item.is longer
-          (subst (λ (w : Grid). AreBarren g.R.Rule.KIND s w c.lengthen.new.path (lists w)) c.in_ok-next.ensures.played
+          (rw c.in_ok-next.ensures.played at
           (c.in_ok-walked.ensures.barren (and_right c.loop-threat.barren c.in_ok-walked.walked.barren barren))) rest);
       side = c.walk.ensures.side ∙ c.loop-threat.invariant.side;
     }
@@ -178,10 +143,8 @@ walk_from-returns-in_default g t c =
     let final : List Threat → Option Point = final_of g.R.Rule.KIND c.args.origin.now.side c.args.origin.now.start.now in
     let longer : c.lengthen.new.path ≡ c.args.trail.now.path ++ c.threat-item.result ∷ [] =
     c.in_ok-lengthen.ensures.longer ∙ ap (λ (p : List Threat). p ++ c.threat-item.result ∷ []) c.loop-threat.invariant.path in
-    let found : c.in_ok-walked.walked.found ≡ from_threat final c.args.trail.now.path lists c.args.origin.now.side b c.loop-threat.left
-    c.threat-item.result =
-    c.in_ok-walked.ensures.looked
-    ∙ ap (λ (p : List Threat). looked final c.loop-threat.left (after_path p (lists c.in_ok-next.next))) longer
+    let found = c.in_ok-walked.ensures.looked ∙ ap
+    (λ (p : List Threat). looked final c.loop-threat.left (after_path p (lists c.in_ok-next.next))) longer
     ∙ ap (λ (w : Grid). looked final c.loop-threat.left (after_path (c.args.trail.now.path ++ c.threat-item.result ∷ []) (lists w)))
     c.in_ok-next.ensures.played in
     record {
@@ -200,5 +163,5 @@ walk_from-returns-clause-barren g t c barren =
     let s : Side = c.args.origin.now.side in
     let lists : Grid → List (List Threat) = lists_of g.R.Rule.KIND s c.args.to_come.now.more in
     c.loop-threat.invariant.barren barren
-    (subst (λ (ts : List Threat). AreBarren g.R.Rule.KIND s c.args.board.now [] (lists_from lists s c.args.board.now ts))
-    (sym (drop_all c.loop-threat.threat-index c.args.threats.now c.loop-threat-test.false)) (barren-none g.R.Rule.KIND s c.args.board.now))
+    (rw (drop_all c.loop-threat.threat-index c.args.threats.now c.loop-threat-test.false)
+    (barren-none g.R.Rule.KIND s c.args.board.now))

@@ -1,15 +1,12 @@
 use Rattle.std.proofs.Common.{◌≡◌, ◌++◌, List, false, ap, sym, ◌∙◌}
-use Rattle.game_rules.specs.Grid.{Grid, is_empty}
-use Rattle.threat_moves.specs.declared.threat_list.Threat.{Threat}
-use Rattle.threat_moves.specs.Threats.{threats_at}
+use Rattle.threat_space.proofs.Common.{Grid, is_empty, Threat, threats_at}
 use Rattle.threat_space.proofs.FoundInLists.{more-threats, taken-none}
 use Rattle.threat_space.proofs.walk.all_threats.Goals as goal
 
 -- the threats of one gain more
 pub loop-gain-preserved-then-is_empty : goal.loop-gain-preserved-then-is_empty
 loop-gain-preserved-then-is_empty g c =
-    let here : c.as_slice.result.now ≡ threats_at g.R.Rule.KIND c.args.board.now c.args.side c.in-Some.gain =
-    c.as_slice.ensures.items ∙ c.in_ok-more.ensures.threats
+    let here = c.as_slice.ensures.items ∙ c.in_ok-more.ensures.threats
     ∙ ap (λ (w : Grid). threats_at g.R.Rule.KIND w c.args.side c.in-Some.gain) c.loop-gain.invariant.same in
     record {
       same = c.threats_at.ensures.same ∙ c.loop-gain.invariant.same;

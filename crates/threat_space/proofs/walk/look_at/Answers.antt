@@ -1,11 +1,7 @@
-use Rattle.std.proofs.Common.{List, subst}
-use Rattle.threat_moves.specs.declared.threat_list.Threat.{Threat}
-use Rattle.threat_space.specs.Barren.{HasNoFinal}
 use Rattle.threat_space.proofs.BarrenLists.{barren-end}
 use Rattle.threat_space.proofs.walk.look_at.Goals as goal
 
 pub returns-in-None-clause-barren : goal.returns-in-None-clause-barren
 returns-in-None-clause-barren g c barren =
     barren-end g.R.Rule.KIND c.args.origin.now.side c.args.board.now c.args.path.now
-    (subst (λ (ts : List Threat). HasNoFinal g.R.Rule.KIND c.args.origin.now.side c.args.board.now ts) c.as_slice.ensures.items
-    (c.in_ok-finals.ensures.barren barren))
+    (rw c.as_slice.ensures.items at (c.in_ok-finals.ensures.barren barren))

@@ -1,7 +1,6 @@
-use Rattle.std.proofs.Common.{refl, ap, subst, IfSome}
-use Rattle.game_rules.specs.declared.Side.{Side}
+use Rattle.std.proofs.Common.{refl, ap}
+use Rattle.threat_space.proofs.Common.{BarrenMemory}
 use Rattle.position_table.specs.Lateness.{Late}
-use Rattle.threat_space.specs.Barren.{BarrenMemory, IsBarren}
 use Rattle.threat_space.proofs.BarrenLists.{memory-barren, memory-looked}
 use Rattle.threat_space.proofs.barren.BarrenBoards.find.Goals as goal
 
@@ -13,7 +12,6 @@ invariant_of-self g c =
 
 pub returns-clause-barren : goal.returns-clause-barren
 returns-clause-barren g c =
-    subst (λ (s : Side). IfSome c.find.result (IsBarren g.R.Rule.KIND s c.args.board.now c.args.more))
-    (ap (λ (m : BarrenMemory). m.side) c.self.view_is)
+    rw (ap (λ (m : BarrenMemory). m.side) c.self.view_is) at
     (memory-barren g.R.Rule.KIND (record { side = c.self.inside.side; late = c.self.inside.table }) c.args.board.now c.args.more
     c.width.ensures.board c.self.invariant c.find.result c.find.ensures.value)

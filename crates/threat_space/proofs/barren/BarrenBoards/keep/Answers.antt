@@ -1,8 +1,6 @@
-use Rattle.std.proofs.Common.{refl, sym, ap, subst}
-use Rattle.game_rules.specs.declared.Side.{Side}
-use Rattle.position_table.specs.Packing.{packed}
+use Rattle.std.proofs.Common.{refl, sym, ap}
+use Rattle.threat_space.proofs.Common.{packed, BarrenMemory}
 use Rattle.position_table.proofs.Lateness.{late-kept}
-use Rattle.threat_space.specs.Barren.{BarrenMemory, IsBarren}
 use Rattle.threat_space.proofs.BarrenLists.{memory-kept}
 use Rattle.threat_space.proofs.barren.BarrenBoards.keep.Goals as goal
 
@@ -10,7 +8,6 @@ pub invariant_of-self : goal.invariant_of-self
 invariant_of-self g c =
     memory-kept g.R.Rule.KIND (record { side = c.self.inside.side; late = c.self.inside.table }) c.args.board.now c.args.more
     c.width.ensures.board c.self.invariant (record { side = c.self.inside.side; late = c.keep.new.self }) c.args.count refl
-    (subst (λ (s : Side). IsBarren g.R.Rule.KIND s c.args.board.now c.args.more c.args.count)
-    (ap (λ (m : BarrenMemory). m.side) (sym c.self.view_is)) c.requires.barren)
-    (late-kept (packed c.args.board.now, c.args.more) c.args.count c.keep.result c.self.inside.table c.keep.new.self
-    c.keep.ensures.kept c.keep.ensures.refused)
+    (rw (ap (λ (m : BarrenMemory). m.side) (sym c.self.view_is)) at c.requires.barren)
+    (late-kept (packed c.args.board.now, c.args.more) c.args.count c.keep.result c.self.inside.table c.keep.new.self c.keep.ensures.kept
+    c.keep.ensures.refused)

@@ -1,7 +1,7 @@
 use Rattle.std.proofs.Common.{◌≡◌, ◌+◌, ◌-◌, []}
 use Rattle.threat_space.specs.Sequences.{final_of}
 use Rattle.threat_space.proofs.FoundInLists.{from_length}
-use Rattle.threat_space.proofs.answer.threat_space.Given as goal
+use Rattle.threat_space.proofs.answer.first_found.Given as goal
 
 -- the board is as before, the path empty, and what is remembered is of the side; what is found with the lengths left is what is found with
 -- all
@@ -9,8 +9,9 @@ abbrev pub invariant-loop-count : goal.invariant-loop-count
 invariant-loop-count g l = record {
   same : l.board ≡ l.fn.board;
   path : l.trail.path ≡ [];
-  side : l.trail.memory.side ≡ l.fn.side;
-  rest : from_length g.R.Rule.KIND (final_of g.R.Rule.KIND l.fn.side l.fn.board) l.fn.side l.fn.board l.left l.count
+  side : l.trail.memory.side ≡ l.fn.origin.side;
+  rest : from_length g.R.Rule.KIND (final_of g.R.Rule.KIND l.fn.origin.side l.fn.board) l.fn.origin.side l.fn.board l.left l.count
       (l.length + 1 - l.count)
-      ≡ from_length g.R.Rule.KIND (final_of g.R.Rule.KIND l.fn.side l.fn.board) l.fn.side l.fn.board l.budget 0 (l.length + 1);
+      ≡ from_length g.R.Rule.KIND (final_of g.R.Rule.KIND l.fn.origin.side l.fn.board) l.fn.origin.side l.fn.board l.budget 0
+      (l.length + 1);
 }
