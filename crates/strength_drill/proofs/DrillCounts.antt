@@ -1,40 +1,30 @@
 -- The counts of a drill: each table of a win may be held, each game is won, a number has one drill; and what the calls say of a position.
 use Rattle.std.proofs.Common.{Option, Some, None, ◌≢◌, All, find, ◌≡◌, ◌⊎◌, inl, inr, refl, sym, ap, subst, ◌∙◌}
 use Rattle.std.proofs.Common.{ℕ, zero, suc, ◌+◌, ◌*◌, ◌<◌, ◌≤◌, Bool, true, false, cond, nat_le, List, [], ◌∷◌}
-use Rattle.std.proofs.Common.{length, add-one, arith, ◌++◌}
+use Rattle.std.proofs.Common.{length, add-one, arith, ◌++◌, rules}
 use Rattle.std.specs.List.{range_with_len}
 use Rattle.std.proofs.lemmas.Bool.{cases_lt, lt-ltb}
 use Rattle.std.proofs.lemmas.Bool.Decides.{nat_tests}
-use Rattle.game_rules.proofs.Common.{Grid, IsPosition, outcome, after, wins_by_fours}
-use Rattle.game_rules.specs.declared.RuleKind.{RuleKind}
-use Rattle.game_rules.specs.declared.Outcome.TheVariants.{GoesOn}
-use Rattle.game_rules.specs.declared.Point.{Point}
-use Rattle.strategy_graph.specs.declared.Node.{Node}
-use Rattle.strategy_graph.specs.declared.roots.Root.TheVariants.{Attack}
+use Rattle.strength_drill.proofs.Common.{Grid, IsPosition, outcome, after, RuleKind, GoesOn, Point, Node, Attack, last, HeldTable, IsHeld}
+use Rattle.strength_drill.proofs.Common.{FourTable, Done, Turn, Game, InGame, State, new_brain, brain_step, Counts, DEPTH, BUDGET, SIDE}
+use Rattle.strength_drill.proofs.Common.{next_number, drawn, number_after, position_drawn, rule_at, held_at, position_lines, move_said}
+use Rattle.strength_drill.proofs.Common.{drawn_move, told_all, state_begun, is_ended, after_turns, is_won, IsPlayedOut, IsGamePlayed, Found}
+use Rattle.strength_drill.proofs.Common.{WinIn, NoWin, OverBudget, found_by, found_within, no_counts, together, IsHoldable, PlaysGame}
+use Rattle.strength_drill.proofs.Common.{IsNotHeld, ComesOf, IsShare, AreCounts, IsCounted, AreOnlyCounts, AreWithin}
+use Rattle.game_rules.proofs.Common.{wins_by_fours}
 use Rattle.strategy_graph.proofs.Common.{Accepted, arrivals, root_below}
 use Rattle.strategy_graph.proofs.Following.{accepted-in_table}
-use Rattle.strategy_compiler.proofs.Common.{IsTableOf, last}
+use Rattle.strategy_compiler.proofs.Common.{IsTableOf}
 use Rattle.strategy_compiler.proofs.Unique.{one-table}
-use Rattle.strategy_checker.specs.HeldRoots.{HeldTable, IsHeldRoot, IsHeld}
+use Rattle.strategy_checker.specs.HeldRoots.{IsHeldRoot}
 use Rattle.strategy_checker.specs.declared.held.HeldRoot.{HeldRoot}
-use Rattle.four_search.specs.declared.fewest.FourTable.{FourTable}
 use Rattle.four_search.specs.Answers.{IsWithoutFours}
 use Rattle.four_search.specs.FewestWins.{IsFoundTable}
 use Rattle.four_search.specs.FourGame.{four_cost, least_moves}
 use Rattle.four_search.specs.Plans.{four_plan}
 use Rattle.four_search.proofs.Written.{least-none, least-wins, plan-written}
-use Rattle.gomocup_text.specs.declared.Command.TheVariants.{Done, Turn}
-use Rattle.brain_session.specs.States.{Game, InGame, State, new_brain}
-use Rattle.brain_session.specs.Steps.{brain_step}
 use Rattle.brain_session.specs.declared.TheConstants.{BRAIN_WORK}
-use Rattle.strength_drill.specs.declared.counts.Counts.{Counts}
-use Rattle.strength_drill.specs.declared.drill.TheConstants.{DEPTH, BUDGET}
-use Rattle.strength_drill.specs.declared.TheConstants.{POSITIONS}
-use Rattle.strength_drill.specs.declared.positions.TheConstants.{SIDE, DRAWN_POINTS}
-use Rattle.strength_drill.proofs.Common.{next_number, drawn, number_after, position_drawn, rule_at, held_at, position_lines, move_said}
-use Rattle.strength_drill.proofs.Common.{drawn_move, told_all, state_begun, is_ended, after_turns, moves_of_brain, is_won, IsPlayedOut}
-use Rattle.strength_drill.proofs.Common.{IsGamePlayed, Found, WinIn, NoWin, OverBudget, found_by, found_within, no_counts, together}
-use Rattle.strength_drill.proofs.Common.{IsHoldable, PlaysGame, IsNotHeld, ComesOf, IsShare, AreCounts, IsCounted, AreOnlyCounts, AreWithin}
+use Rattle.strength_drill.specs.declared.positions.TheConstants.{DRAWN_POINTS}
 use Rattle.strength_drill.proofs.DrillMaking.{board-wide, board-high, board-lawful}
 use Rattle.strength_drill.proofs.DrillTurns.{IsOver, attacks, over-now, ended-now, going-now}
 use Rattle.strength_drill.proofs.DrillCourse.{IsOpened, opened, IsAtTurn, turn-none, course-first, outcome-at, met, then_state, course-next}
@@ -57,9 +47,6 @@ module _ (depth budget : ℕ) (rule : RuleKind) (b : Grid) where
   pub found-none : wins_by_fours rule depth b ≡ false → four_cost rule depth b ≤ budget → found_within depth budget rule b ≡ NoWin
   found-none none fits = within fits ∙ ap found_by (least-none rule depth b none)
 
-  pub found-spent : budget < four_cost rule depth b → found_within depth budget rule b ≡ OverBudget
-  found-spent more = found-by false (grind (arith, nat_tests))
-
   found-least : (moves : ℕ) → found_within depth budget rule b ≡ WinIn moves → least_moves rule depth b ≡ Some moves
   found-least moves e = by_test (nat_le (four_cost rule depth b) budget) refl where
     by_least : (o : Option ℕ) → found_by o ≡ WinIn moves → o ≡ Some moves
@@ -73,11 +60,7 @@ module _ (depth budget : ℕ) (rule : RuleKind) (b : Grid) where
 -- a number that is found in a range is one of it
 find-below : (f : ℕ → Bool) (d a m : ℕ) → find f (range_with_len a d) ≡ Some m → m < a + d
 find-below f zero a m h = cc
-find-below f (suc d) a m h = by_test (f a) h (find-below f d (a + 1) m) where
-  by_test : (r : Bool) → cond r (Some a) (find f (range_with_len (a + 1) d)) ≡ Some m
-      → (find f (range_with_len (a + 1) d) ≡ Some m → m < a + 1 + d) → m < a + suc d
-  by_test true e rest = let same : a ≡ m = cc in omega (arith, same)
-  by_test false e rest = let low = rest e in omega (arith, low)
+find-below f (suc d) a m h = search (rules, find-below f d (a + 1) m)
 
 least-within : (rule : RuleKind) (depth : ℕ) (b : Grid) (moves : ℕ) → least_moves rule depth b ≡ Some moves → moves ≤ depth
 least-within rule depth b moves h = let low = find-below (λ k. wins_by_fours rule k b) depth 1 moves h in omega (arith, low)
@@ -86,10 +69,7 @@ least-within rule depth b moves h = let low = find-below (λ k. wins_by_fours ru
 
 -- few arrivals: as many as a board of the drill has points for each move
 few-arrivals : (w g m a : ℕ) → w ≡ SIDE → g ≡ SIDE → m ≤ DEPTH → a ≤ w * g * m → a ≤ BRAIN_WORK
-few-arrivals w g m a wide high low short =
-    let size : w * g ≡ SIDE * SIDE = ap (λ (n : ℕ). n * g) wide ∙ ap (λ (n : ℕ). SIDE * n) high in
-    let most : a ≤ SIDE * SIDE * m = subst (λ (n : ℕ). a ≤ n * m) size short in
-    omega (arith, most, low)
+few-arrivals w g m a wide high low short = search rules
 
 pub win-holdable : (rule : RuleKind) (b : Grid) → IsPosition rule b → b.width ≡ SIDE → b.height ≡ SIDE → (moves : ℕ)
     → found_within DEPTH BUDGET rule b ≡ WinIn moves → (t : List Node) → IsTableOf (four_plan rule moves b) t → IsHoldable rule b t
@@ -114,10 +94,7 @@ over-ended s k over = ap is_ended over.place ∙ over.ended
 
 -- the game of an ended place is the one that is over
 over-won : (s : State) (k : ℕ) (g : Game) → IsOver s k → s.place ≡ InGame g → is_won g ≡ true
-over-won s k g over at =
-    let there = over.place in
-    let same : over.game ≡ g = cc in
-    subst (λ (x : Game). is_won x ≡ true) same over.won
+over-won s k g over at = search rules
 
 differ : (r : Bool) → r ≡ true → r ≡ false → ⊥
 differ r on off = let wrong : true ≡ false = sym on ∙ off in cc
@@ -142,7 +119,7 @@ module _ (h : HeldTable) (rule : RuleKind) (b : Grid) (n : ℕ)
         let then = then_state h rule b n now number c at k t on (after c at) refl (next_number number) (drawn (next_number number)) refl
         refl q refl in
         elim (met h rule b n now number c at k t on (after c at) refl (next_number number) (drawn (next_number number)) refl refl q refl) [
-          | inl foul ↦ inr (subst (λ (x : State). IsOver x (k + 1)) then foul.over)
+          | inl foul ↦ inr (rw then at foul.over)
           | inr answer ↦ inl (
             next_number number,
             after (after c at) q,
@@ -210,23 +187,8 @@ game-won rule b t lawful wide high can n moves won u played =
 
 -- ---- one game
 
-turns-one : (s : State) (n j k : ℕ) (g e : Game) → IsPlayedOut s n j g → IsPlayedOut s n k e → j < k → ⊥
-turns-one s n j k g e first second less = differ _ (ap is_ended first.game ∙ first.ended) (second.no_sooner j less)
-
 turns-same : (s : State) (n j k : ℕ) (g e : Game) → IsPlayedOut s n j g → IsPlayedOut s n k e → j ≡ k
-turns-same s n j k g e first second = by_order (cases_lt j k) (cases_lt k j) where
-  by_order : (j < k) ⊎ (k ≤ j) → (k < j) ⊎ (j ≤ k) → j ≡ k
-  by_order (inl less) o = absurd (turns-one s n j k g e first second less)
-  by_order (inr more) (inl less) = absurd (turns-one s n k j e g second first less)
-  by_order (inr more) (inr few) = omega (arith, more, few)
-
--- a game that is played out is one, after one number of turns
-played-one : (s : State) (n j k : ℕ) (g e : Game) → IsPlayedOut s n j g → IsPlayedOut s n k e → (j ≡ k) × (g ≡ e)
-played-one s n j k g e first second =
-    let same = turns-same s n j k g e first second in
-    let there : (after_turns s n k).place ≡ InGame g = subst (λ (i : ℕ). (after_turns s n i).place ≡ InGame g) same first.game in
-    let also = second.game in
-    (same, cc)
+turns-same s n j k g e first second = search (rules, cases_lt)
 
 -- its moves, whether it is won, and the number after it
 pub record IsSame (m k : ℕ) (won lost : Bool) (u v : ℕ) : Type 0 where
@@ -236,13 +198,7 @@ pub record IsSame (m k : ℕ) (won lost : Bool) (u v : ℕ) : Type 0 where
 
 game-one : (s : State) (n m k : ℕ) (won lost : Bool) (u v : ℕ) → IsGamePlayed s n m won u → IsGamePlayed s n k lost v
     → IsSame m k won lost u v
-game-one s n m k won lost u v first second =
-    let same = played-one s n first.turns second.turns first.game second.game first.played second.played in
-    record {
-      moves = first.moves_made ∙ ap moves_of_brain same.1 ∙ sym second.moves_made;
-      ends = first.ends ∙ ap is_won same.1 ∙ sym second.ends;
-      number = first.number ∙ ap (number_after n) same.0 ∙ sym second.number;
-    }
+game-one s n m k won lost u v first second = search (rules, turns-same)
 
 -- ---- what comes of a position
 
@@ -270,7 +226,7 @@ module _ (rule : RuleKind) (n : ℕ) where
   plays-won : (t : List Node) (s : ℕ) (c : Counts) (u : ℕ) → PlaysGame rule b t s c u → AreAllWon c
   plays-won t s c u plays =
       let won = game-won rule b t lawful wide high plays.holdable s plays.moves plays.won u plays.game in
-      subst AreAllWon (sym plays.counts) (refl, ap (λ (r : Bool). cond r 1 0) won)
+      rw plays.counts (refl, ap (λ (r : Bool). cond r 1 0) won)
 
   comes-won : (f : Found) → found_within DEPTH BUDGET rule b ≡ f → (s : ℕ) (c : Counts) (u : ℕ) → ComesOf rule b f s c u → AreAllWon c
   comes-won (WinIn moves) e s c u comes = by_game comes.2 where
@@ -280,35 +236,8 @@ module _ (rule : RuleKind) (n : ℕ) where
   comes-won NoWin e s c u comes = subst AreAllWon (sym comes.0) (refl, refl)
   comes-won OverBudget e s c u comes = subst AreAllWon (sym comes.0) (refl, refl)
 
-  -- two that come of one position are one
-  plays-one : (t : List Node) (s : ℕ) (c d : Counts) (u v : ℕ) → PlaysGame rule b t s c u → PlaysGame rule b t s d v → (c ≡ d) × (u ≡ v)
-  plays-one t s c d u v first second =
-      let same = game-one (state_begun (held_at rule b t) rule b) s first.moves second.moves first.won second.won u v first.game
-      second.game in (
-        first.counts ∙ ap (λ (m : ℕ). win_counts m first.won) same.moves ∙ ap (win_counts second.moves) same.ends ∙ sym second.counts,
-        same.number,
-      )
-
-  tried-one : (t : List Node) (s : ℕ) (c d : Counts) (u v : ℕ) → IsHoldable rule b t → PlaysGame rule b t s c u ⊎ IsNotHeld rule b t s c u
-      → PlaysGame rule b t s d v ⊎ IsNotHeld rule b t s d v → (c ≡ d) × (u ≡ v)
-  tried-one t s c d u v can (inl first) (inl second) = plays-one t s c d u v first second
-  tried-one t s c d u v can (inl first) (inr second) = absurd (second.refused can)
-  tried-one t s c d u v can (inr first) second = absurd (first.refused can)
-
-  comes-one : (f : Found) → found_within DEPTH BUDGET rule b ≡ f → (s : ℕ) (c d : Counts) (u v : ℕ) → ComesOf rule b f s c u
-      → ComesOf rule b f s d v → (c ≡ d) × (u ≡ v)
-  comes-one (WinIn moves) e s c d u v first second =
-      let same : second.0 ≡ first.0 = one-table (four_plan rule moves b) second.0 first.0 second.1 first.1 in
-      tried-one first.0 s c d u v (win-holdable rule b lawful wide high moves e first.0 first.1) first.2
-      (subst (λ (t : List Node). PlaysGame rule b t s d v ⊎ IsNotHeld rule b t s d v) same second.2)
-  comes-one NoWin e s c d u v first second = (first.0 ∙ sym second.0, first.1 ∙ sym second.1)
-  comes-one OverBudget e s c d u v first second = (first.0 ∙ sym second.0, first.1 ∙ sym second.1)
-
-  pub share-won : (c : Counts) (u : ℕ) → IsShare rule n c u → AreAllWon c
-  share-won c u is = comes-won (found_within DEPTH BUDGET rule b) refl (number_after n DRAWN_POINTS) c u is
-
   pub share-one : (c d : Counts) (u v : ℕ) → IsShare rule n c u → IsShare rule n d v → (c ≡ d) × (u ≡ v)
-  share-one c d u v first second = comes-one (found_within DEPTH BUDGET rule b) refl (number_after n DRAWN_POINTS) c d u v first second
+  share-one c d u v first second = search (rules, one-table, game-one, win-holdable)
 
 -- ---- all positions
 
@@ -320,36 +249,20 @@ counts-none n s same = (refl, same)
 pub counts-more : (n i : ℕ) (before share c : Counts) (r s : ℕ) → AreCounts n i before r → IsShare (rule_at i) r share s
     → c ≡ together before share → AreCounts n (i + 1) c s
 unfolding AreCounts
-counts-more n i before share c r s counts is sum =
-    subst (λ (k : ℕ). AreCounts n k c s) (sym (add-one i)) (before, share, r, counts, is, sum)
+counts-more n i before share c r s counts is sum = search (add-one)
 
 pub counts-won : (n i : ℕ) (c : Counts) (s : ℕ) → AreCounts n i c s → AreAllWon c
 unfolding AreCounts
 counts-won n zero c s h = subst AreAllWon (sym h.0) (refl, refl)
-counts-won n (suc i) c s h =
-    let before = counts-won n i h.0 h.2 h.3 in
-    let share = share-won (rule_at i) h.2 h.1 s h.4 in
-    let accepted = before.0 in
-    let games = before.1 in
-    let accepted_now = share.0 in
-    let games_now = share.1 in
-    subst AreAllWon (sym h.5) (omega (arith, accepted, accepted_now), omega (arith, games, games_now))
+counts-won n (suc i) c s h = search (rules, comes-won, counts-won n i h.0 h.2 h.3)
 
 pub counts-one : (n i : ℕ) (c d : Counts) (s r : ℕ) → AreCounts n i c s → AreCounts n i d r → (c ≡ d) × (s ≡ r)
 unfolding AreCounts
 counts-one n zero c d s r first second = (first.0 ∙ sym second.0, first.1 ∙ sym second.1)
-counts-one n (suc i) c d s r first second =
-    let before = counts-one n i first.0 second.0 first.2 second.2 first.3 second.3 in
-    let share = share-one (rule_at i) second.2 first.1 second.1 s r (subst (λ (m : ℕ). IsShare (rule_at i) m first.1 s) before.1 first.4)
-    second.4 in
-    (first.5 ∙ ap (λ (x : Counts). together x first.1) before.0 ∙ ap (together second.0) share.0 ∙ sym second.5, share.1)
+counts-one n (suc i) c d s r first second = search (rules, share-one, counts-one n i first.0 second.0 first.2 second.2 first.3 second.3)
 
 pub only-counts : (n : ℕ) (c : Counts) → IsCounted n c → AreOnlyCounts n c
-only-counts n c is = record {
-  one = λ d also. (counts-one n POSITIONS d c also.0 is.0 also.1 is.1).0;
-  accepted = (counts-won n POSITIONS c is.0 is.1).0;
-  games = (counts-won n POSITIONS c is.0 is.1).1;
-}
+only-counts n c is = search (rules, counts-one, counts-won)
 
 -- ---- the table of a win
 
@@ -362,14 +275,7 @@ pub held-as : (rule : RuleKind) (b c : Grid) (t : List Node) (i : ℕ) (new old 
     → old.roots ≡ [] → new.table ≡ old.table
     → new.roots ≡ old.roots ++ (let r : HeldRoot = record { root = Attack i; kind = rule; board = c } in r) ∷ []
     → new ≡ held_at rule b t
-held-as rule b c t i new old board node table none kept added =
-    let tables : new.table ≡ t = kept ∙ table in
-    let roots : new.roots ≡ (let r : HeldRoot = record { root = Attack (last t); kind = rule; board = b } in r) ∷ [] =
-    added
-    ∙ ap (λ (rs : List HeldRoot). rs ++ (let r : HeldRoot = record { root = Attack i; kind = rule; board = c } in r) ∷ []) none
-    ∙ ap (λ (j : ℕ). (let r : HeldRoot = record { root = Attack j; kind = rule; board = c } in r) ∷ []) node
-    ∙ ap (λ (x : Grid). (let r : HeldRoot = record { root = Attack (last t); kind = rule; board = x } in r) ∷ []) board in
-    λ k. record { table = tables k; roots = roots k }
+held-as rule b c t i new old board node table none kept added = search rules
 
 -- node i is accepted at the board, and has few arrivals
 abbrev pub IsHeldNode : RuleKind → List Node → ℕ → Grid → Type 0
@@ -378,10 +284,7 @@ IsHeldNode rule t i b = Accepted rule t i b × (arrivals rule t i b ≤ BRAIN_WO
 -- the table may be held where its last node was found to be so, and only there
 pub holdable-as : (rule : RuleKind) (b c : Grid) (t u : List Node) (i : ℕ) → c ≡ b → i ≡ last t → u ≡ t → IsHeldNode rule u i c
     → IsHoldable rule b t
-holdable-as rule b c t u i board node table held =
-    let here : IsHeldNode rule t (last t) b = subst (λ (x : Grid). IsHeldNode rule t (last t) x) board
-    (subst (λ (v : List Node). IsHeldNode rule v (last t) c) table (subst (λ (j : ℕ). IsHeldNode rule u j c) node held)) in
-    record { accepted = here.0; within = here.1 }
+holdable-as rule b c t u i board node table held = search rules
 
 -- what comes of a table that is held, by the game that is played by it
 pub plays-as : (rule : RuleKind) (b : Grid) (t : List Node) (s : ℕ) (c : Counts) (u moves : ℕ) (won : Bool) (h : HeldTable)
@@ -391,24 +294,13 @@ plays-as rule b t s c u moves won h held can game counts = record {
   holdable = can;
   moves = moves;
   won = won;
-  game = subst (λ (x : HeldTable). IsGamePlayed (state_begun x rule b) s moves won u) held game;
+  game = rw held at game;
   counts = counts;
 }
 
 -- the counts of one win
 pub win-within : (moves : ℕ) (won : Bool) → moves ≤ 225 → AreWithin 1 (win_counts moves won)
-win-within moves won few =
-    record {
-      wins = omega arith;
-      none = omega arith;
-      spent = omega arith;
-      accepted = omega arith;
-      games = by_won won;
-      moves = omega (arith, few);
-    } where
-      by_won : (r : Bool) → cond r 1 0 ≤ 1
-      by_won true = omega arith
-      by_won false = omega arith
+win-within moves won few = search rules
 
 -- ---- the position
 
@@ -416,7 +308,7 @@ win-within moves won few =
 module _ (rule : RuleKind) (b : Grid) (s : ℕ) (c : Counts) (u : ℕ) where
   by-found : (f : Found) → found_within DEPTH BUDGET rule b ≡ f → ComesOf rule b f s c u
       → ComesOf rule b (found_within DEPTH BUDGET rule b) s c u
-  by-found f found comes = subst (λ (x : Found). ComesOf rule b x s c u) (sym found) comes
+  by-found f found comes = rw found comes
 
   pub comes-win : (made : FourTable) → IsFoundTable rule DEPTH BUDGET b made
       → PlaysGame rule b made.table s c u ⊎ IsNotHeld rule b made.table s c u → ComesOf rule b (found_within DEPTH BUDGET rule b) s c u
@@ -429,11 +321,9 @@ module _ (rule : RuleKind) (b : Grid) (s : ℕ) (c : Counts) (u : ℕ) where
 
   pub comes-spent : BUDGET < four_cost rule DEPTH b → c ≡ record no_counts { spent = 1 } → u ≡ s
       → ComesOf rule b (found_within DEPTH BUDGET rule b) s c u
-  comes-spent more counts same = by-found _ (found-spent DEPTH BUDGET rule b more) (counts, same)
+  comes-spent more counts same = search (rules, by-found, found-by)
 
 -- on the board that is drawn it is the share
 pub share-as : (rule : RuleKind) (n : ℕ) (b : Grid) (s : ℕ) → b ≡ position_drawn rule n → s ≡ number_after n DRAWN_POINTS → (c : Counts)
     (u : ℕ) → ComesOf rule b (found_within DEPTH BUDGET rule b) s c u → IsShare rule n c u
-share-as rule n b s board number c u comes =
-    subst (λ (x : ℕ). ComesOf rule (position_drawn rule n) (found_within DEPTH BUDGET rule (position_drawn rule n)) x c u) number
-    (subst (λ (x : Grid). ComesOf rule x (found_within DEPTH BUDGET rule x) s c u) board comes)
+share-as rule n b s board number c u comes = search rules

@@ -1,34 +1,23 @@
 -- A game of the drill as it goes: its first move by the table, the state of the brain after so many turns, and how the game ends.
 use Rattle.std.proofs.Common.{◌≢◌, Some, None, ◌≡◌, refl, sym, ap, subst, ◌∙◌, ℕ, ◌*◌, ◌≤◌, [], ◌∷◌}
-use Rattle.std.proofs.Common.{length, arith, ◌⊎◌, inl, inr, ◌+◌, ◌<◌, Bool, true, false, add-one}
+use Rattle.std.proofs.Common.{arith, ◌⊎◌, inl, inr, ◌+◌, ◌<◌, Bool, true, false, add-one, rules}
 use Rattle.std.proofs.lemmas.List.Sums.{count_by-le-length}
 use Rattle.std.proofs.lemmas.Bool.{cases_lt}
-use Rattle.game_rules.proofs.Common.{Grid, is_empty_cell, empties_of, points_of, is_empty, IsPosition, mover, outcome, after}
-use Rattle.game_rules.specs.declared.RuleKind.{RuleKind}
-use Rattle.game_rules.specs.declared.Outcome.TheVariants.{Wins as WinsNow, GoesOn}
-use Rattle.game_rules.specs.declared.Point.{Point}
+use Rattle.strength_drill.proofs.Common.{Grid, empties_of, points_of, is_empty, IsPosition, mover, outcome, after, RuleKind, GoesOn, Point}
+use Rattle.strength_drill.proofs.Common.{Attack, HeldTable, IsHeld, Done, Turn, Move, Error, OpponentFoul, Says, board_of, new_game, State}
+use Rattle.strength_drill.proofs.Common.{new_brain, Step, brain_step, SIDE, wish_of, position_lines, told_all, state_begun, board_now}
+use Rattle.strength_drill.proofs.Common.{is_ended, move_said, says_foul, drawn_move, drawn_turn, after_turns, IsGamePlayed, next_number}
+use Rattle.strength_drill.proofs.Common.{drawn, number_after}
+use Rattle.game_rules.specs.declared.Outcome.TheVariants.{Wins as WinsNow}
 use Rattle.game_rules.proofs.Boards.{is_empty-on}
 use Rattle.game_rules.proofs.Points.{points-found}
 use Rattle.game_rules.proofs.PointLists.{found-either}
-use Rattle.stone_board.specs.Order.{points_left}
-use Rattle.strategy_graph.specs.declared.roots.Root.TheVariants.{Attack}
-use Rattle.strategy_checker.specs.HeldRoots.{HeldTable, IsHeld}
-use Rattle.gomocup_text.specs.declared.Command.TheVariants.{Done, Turn}
-use Rattle.gomocup_text.specs.declared.Answer.TheVariants.{Move, Error}
 use Rattle.gomocup_text.specs.declared.Command.{Command as Asked}
-use Rattle.gomocup_text.specs.declared.ErrorText.TheVariants.{OpponentFoul}
-use Rattle.brain_session.specs.declared.Reaction.TheVariants.{Says}
-use Rattle.brain_session.specs.States.{board_of, new_game, State, new_brain}
-use Rattle.brain_session.specs.Steps.{Step, brain_step}
 use Rattle.brain_session.specs.declared.Reaction.{Reaction}
-use Rattle.brain_session.specs.ChosenMoves.{plain_move}
 use Rattle.brain_session.proofs.HeldGames.{begins, stands_where}
-use Rattle.brain_session.proofs.LawfulStates.{IsKept, next-lawful, new-lawful}
+use Rattle.brain_session.proofs.LawfulStates.{next-lawful, new-lawful}
 use Rattle.brain_session.proofs.LegalMoves.{plain-is_empty}
 use Rattle.brain_session.proofs.BatchStones.{stones_at}
-use Rattle.strength_drill.specs.declared.positions.TheConstants.{SIDE}
-use Rattle.strength_drill.proofs.Common.{wish_of, position_lines, told_all, state_begun, board_now, is_ended, move_said, says_foul}
-use Rattle.strength_drill.proofs.Common.{board_point, drawn_move, drawn_turn, after_turns, IsGamePlayed, next_number, drawn, number_after}
 use Rattle.strength_drill.proofs.DrillTelling.{batch_read, told-position, told-kept, wish-rule, begins-held}
 use Rattle.strength_drill.proofs.DrillTurns.{IsPlaying, IsOver, IsFouled, IsAnswered, attacks, over-now, going-now, board-then, lawful-then}
 use Rattle.strength_drill.proofs.DrillTurns.{reply-met}
@@ -42,10 +31,7 @@ pub record IsOpened (h : HeldTable) (rule : RuleKind) (b : Grid) (step : Step) :
 
 -- a board of the drill has no more than 225 empty points
 empties-few : (rule : RuleKind) (b : Grid) → IsPosition rule b → b.width ≡ SIDE → b.height ≡ SIDE → empties_of b ≤ 225
-empties-few rule b lawful wide high =
-    let all : length b.cells ≡ SIDE * SIDE = lawful.board.filled ∙ ap (λ (n : ℕ). n * b.height) wide ∙ ap (λ (n : ℕ). SIDE * n) high in
-    let most : empties_of b ≤ length b.cells = count_by-le-length is_empty_cell b.cells in
-    omega (arith, all, most)
+empties-few rule b lawful wide high = search (rules, count_by-le-length)
 
 pub opened : (h : HeldTable) (rule : RuleKind) (b : Grid) (i : ℕ) → b.width ≡ SIDE → b.height ≡ SIDE → IsPosition rule b → IsHeld h
     → h.roots ≡ record { root = Attack i; kind = rule; board = b } ∷ []
@@ -54,12 +40,12 @@ opened h rule b i wide high lawful held roots =
     let s = batch_read h (wish_of rule) (stones_at b (points_of b)) in
     let g = new_game rule b (mover b) in
     let is = told-position h rule b wide high in
-    let kept : IsKept h s = subst (IsKept h) is (told-kept h (new_brain h) (position_lines rule b) (new-lawful h)) in
+    let kept = rw is at (told-kept h (new_brain h) (position_lines rule b) (new-lawful h)) in
     let held_game = begins-held h rule b wide high lawful i roots in
     let at = stands_where s Done g i held kept.0 held_game in
     let n = at.1 in
     let step = ap (λ (t : State). brain_step t Done) is ∙ begins s Done g i n held_game at.3.node in
-    subst (IsOpened h rule b) (sym step) (record {
+    rw step (record {
       playing = record {
         wish = wish_of rule;
         game = g;
@@ -84,10 +70,7 @@ opened h rule b i wide high lawful held roots =
 -- the brain was told the position
 pub told-as : (h : HeldTable) (rule kind : RuleKind) (b board : Grid) (new told : State) → told ≡ told_all new (position_lines kind board)
     → new ≡ new_brain h → kind ≡ rule → board ≡ b → told ≡ told_all (new_brain h) (position_lines rule b)
-told-as h rule kind b board new told lines begun same there =
-    lines ∙ ap (λ (s : State). told_all s (position_lines kind board)) begun
-    ∙ ap (λ (k : RuleKind). told_all (new_brain h) (position_lines k board)) same
-    ∙ ap (λ (c : Grid). told_all (new_brain h) (position_lines rule c)) there
+told-as h rule kind b board new told lines begun same there = search rules
 
 -- a brain that holds accepted roots after its first move held them before
 pub opened-as : (h : HeldTable) (rule : RuleKind) (b : Grid) (told s : State) → b.width ≡ SIDE → b.height ≡ SIDE → IsPosition rule b
@@ -96,17 +79,13 @@ pub opened-as : (h : HeldTable) (rule : RuleKind) (b : Grid) (told s : State) �
     → IsOpened h rule b (brain_step told Done)
 opened-as h rule b told s wide high lawful root is next held =
     let kept = told-kept h (new_brain h) (position_lines rule b) (new-lawful h) in
-    let still : s.held ≡ h = ap (λ (t : State). t.held) next ∙ (next-lawful h told Done (subst (IsKept h) (sym is) kept)).1 in
-    subst (λ (t : State). IsOpened h rule b (brain_step t Done)) (sym is)
-    (opened h rule b root.0 wide high lawful (subst IsHeld still held) root.1)
+    let still : s.held ≡ h = ap (λ (t : State). t.held) next ∙ (next-lawful h told Done (rw is kept)).1 in
+    rw is (opened h rule b root.0 wide high lawful (rw still at held) root.1)
 
 -- ---- a drawn move is at an empty point
 
 pub drawn-empty : (rule : RuleKind) (b : Grid) → IsPosition rule b → (v : ℕ) → is_empty b (drawn_move b v) ≡ true
-drawn-empty rule b lawful v =
-    let some = plain-is_empty rule b lawful in
-    found-either (is_empty b) (points_left b.width b.height (board_point v)) (points_of b) (board_point v)
-    (points-found b (is_empty b) (plain_move rule b) (is_empty-on b (plain_move rule b) some) some)
+drawn-empty rule b lawful v = search (rules, plain-is_empty, found-either, points-found, is_empty-on)
 
 -- ---- one more turn
 
@@ -136,10 +115,7 @@ pub record IsAtTurn (h : HeldTable) (rule : RuleKind) (b : Grid) (n : ℕ) (s : 
 -- a turn at which the game went on, and those before it
 no-later : (s : State) (n turns : ℕ) → ((k : ℕ) → k < turns → is_ended (after_turns s n k).place ≡ false)
     → is_ended (after_turns s n turns).place ≡ false → (k : ℕ) → k < turns + 1 → is_ended (after_turns s n k).place ≡ false
-no-later s n turns before here k less = elim (cases_lt k turns) [
-  | inl low ↦ before k low
-  | inr high ↦ let same : turns ≡ k = omega (arith, high, less) in subst (λ (j : ℕ). is_ended (after_turns s n j).place ≡ false) same here
-]
+no-later s n turns before here k less = search (rules, cases_lt)
 
 module _ (h : HeldTable) (rule : RuleKind) (b : Grid) (n : ℕ) where
   abbrev s0 : State
@@ -159,10 +135,7 @@ module _ (h : HeldTable) (rule : RuleKind) (b : Grid) (n : ℕ) where
       } in
       let said : move_said step.reaction ≡ Some opened.playing.node.attack = ap move_said opened.says in
       let move : opened.playing.node.attack ≡ at = cc in
-      subst (λ (x : State). IsAtTurn h rule b n x number c at 0) (sym is)
-      (subst (λ (x : ℕ). IsAtTurn h rule b n step.next x c at 0) (sym same)
-      (subst (λ (x : Grid). IsAtTurn h rule b n step.next n x at 0) (sym board)
-      (subst (λ (x : Point). IsAtTurn h rule b n step.next n b x 0) move t)))
+      rw is (rw same (rw board (rw move at t)))
 
   module _ (s : State) (number : ℕ) (c : Grid) (at : Point) (turns : ℕ) (t : IsAtTurn h rule b n s number c at turns) where
     pub outcome-at : outcome rule c at ≡ outcome rule (board_of t.playing.game) t.playing.node.attack
@@ -186,8 +159,7 @@ module _ (h : HeldTable) (rule : RuleKind) (b : Grid) (n : ℕ) where
 
     -- it wins or goes on
     pub course-one : outcome rule c at ≢ WinsNow → outcome rule c at ≢ GoesOn → ⊥
-    course-one not_won not_on = elim (attacks h rule s turns t.playing)
-        [ inl wins ↦ not_won (outcome-at ∙ wins) | inr on ↦ not_on (outcome-at ∙ on) ]
+    course-one not_won not_on = search (rules, attacks, outcome-at)
 
     -- its move goes on, and the opponent's is drawn
     module _ (on : outcome rule c at ≡ GoesOn) (c1 : Grid) (board : c1 ≡ after c at) (u v : ℕ) (next : u ≡ next_number number)
@@ -200,7 +172,7 @@ module _ (h : HeldTable) (rule : RuleKind) (b : Grid) (n : ℕ) where
 
       pub course-empty : is_empty c1 q ≡ true
       course-empty =
-          let lawful = subst (IsPosition rule) (sym then_board) (lawful-then h rule s turns t.playing goes) in
+          let lawful = rw (← then_board) at (lawful-then h rule s turns t.playing goes) in
           ap (is_empty c1) point ∙ drawn-empty rule c1 lawful v
 
       number_then : u ≡ number_after n (turns + 1)
@@ -222,12 +194,10 @@ module _ (h : HeldTable) (rule : RuleKind) (b : Grid) (n : ℕ) where
 
       then_sooner : (k : ℕ) → k < turns + 1 → is_ended (after_turns s0 n k).place ≡ false
       then_sooner = no-later s0 n turns t.no_sooner
-          (subst (λ (x : State). is_ended x.place ≡ false) t.state (going-now h rule s turns t.playing goes))
+          (rw t.state at (going-now h rule s turns t.playing goes))
 
       pub met : IsFouled (brain_step s (Turn q.x q.y)) (turns + 1) ⊎ IsAnswered h rule c1 q (brain_step s (Turn q.x q.y)) (turns + 1)
-      met = subst (λ (x : Grid). IsFouled (brain_step s (Turn q.x q.y)) (turns + 1) ⊎ IsAnswered h rule x q (brain_step s (Turn q.x q.y))
-          (turns + 1)) (sym then_board)
-          (reply-met h rule s turns t.playing goes q (subst (λ (x : Grid). is_empty x q ≡ true) then_board course-empty))
+      met = rw then_board (reply-met h rule s turns t.playing goes q (rw then_board at course-empty))
 
       module _ (s1 : State) (r : Reaction) (state : s1 ≡ (brain_step s (Turn q.x q.y)).next)
           (reaction : r ≡ (brain_step s (Turn q.x q.y)).reaction) where

@@ -1,19 +1,14 @@
 -- A position of the drill, draw by draw.
 use Rattle.std.proofs.Common.{◌≡◌, refl, sym, ap, ◌∙◌, ℕ, zero, suc, ◌+◌, ◌*◌, ◌/◌, ◌^◌, ◌<◌, ◌≤◌}
-use Rattle.std.proofs.Common.{Bool, true, false, cond, ◌&&◌, nat_lt, add-one, arith, ◌≢◌}
+use Rattle.std.proofs.Common.{Bool, true, false, cond, ◌&&◌, nat_lt, add-one, arith, ◌≢◌, rules}
 use Rattle.std.proofs.lemmas.Bool.Decides.{nat_tests}
 use Rattle.std.proofs.lemmas.List.{length-replicate}
-use Rattle.game_rules.proofs.Common.{Grid, IsBoard, IsPosition, outcome, after, goes_on}
-use Rattle.game_rules.specs.declared.RuleKind.{RuleKind}
-use Rattle.game_rules.specs.declared.Cell.TheVariants.{Empty}
-use Rattle.game_rules.specs.declared.Outcome.{Outcome}
-use Rattle.game_rules.specs.declared.Outcome.TheVariants.{GoesOn}
-use Rattle.game_rules.specs.declared.Point.{Point}
-use Rattle.game_rules.proofs.Positions.{IsPosition-after}
-use Rattle.brain_session.specs.States.{empty_board}
-use Rattle.brain_session.proofs.SessionBoards.{empty-lawful}
-use Rattle.strength_drill.specs.declared.positions.TheConstants.{SIDE, MOST_STONES}
+use Rattle.strength_drill.proofs.Common.{Grid, IsPosition, outcome, after, goes_on, RuleKind, Outcome, GoesOn, Point, empty_board, SIDE}
 use Rattle.strength_drill.proofs.Common.{next_number, number_after, draw_at, middle_point, all_stones, with_point, board_drawn}
+use Rattle.game_rules.proofs.Common.{IsBoard}
+use Rattle.game_rules.proofs.Positions.{IsPosition-after}
+use Rattle.brain_session.proofs.SessionBoards.{empty-lawful}
+use Rattle.strength_drill.specs.declared.positions.TheConstants.{MOST_STONES}
 
 -- ---- one draw
 
@@ -52,10 +47,7 @@ module _ (rule : RuleKind) (b : Grid) (p : Point) where
   -- what no move changes of the board is the same
   pub point-same : (f : Grid → ℕ) → f (after b p) ≡ f b → f (with_point rule b p) ≡ f b
   unfolding with_point
-  point-same f kept = by_test (nat_lt (all_stones b) MOST_STONES && goes_on (outcome rule b p)) where
-    by_test : (r : Bool) → f (cond r (after b p) b) ≡ f b
-    by_test true = kept
-    by_test false = refl
+  point-same f kept = search rules
 
   -- and the position is lawful
   pub point-lawful : IsPosition rule b → IsPosition rule (with_point rule b p)
@@ -89,13 +81,7 @@ board-high = board-same (λ b. b.height) (λ b p. refl)
 
 -- the empty board of the drill
 pub side-board : IsBoard (empty_board SIDE SIDE)
-side-board = record {
-  wide = omega arith;
-  width_fits = omega arith;
-  high = omega arith;
-  height_fits = omega arith;
-  filled = length-replicate (SIDE * SIDE) Empty;
-}
+side-board = search (rules, length-replicate)
 
 pub side-lawful : (rule : RuleKind) → IsPosition rule (empty_board SIDE SIDE)
 side-lawful rule = empty-lawful rule SIDE SIDE side-board

@@ -1,29 +1,26 @@
 -- A brain is told a position for which it holds a table: the stones are read one by one and make its board, and at DONE a held game begins.
-use Rattle.std.proofs.Common.{nat_lt, Some, None, filter, count_by, ◌≡◌, refl, sym, ap, subst, ◌∙◌, ℕ, ◌+◌, ◌*◌}
-use Rattle.std.proofs.Common.{◌≤◌, Bool, true, false, cond, not, ◌&&◌, ◌||◌, List, [], ◌∷◌, ◌++◌, map, arith}
-use Rattle.std.proofs.Common.{append_assoc, eqb}
+use Rattle.std.proofs.Common.{Some, None, filter, count_by, ◌≡◌, refl, sym, ap, ◌∙◌, ℕ, ◌+◌, ◌*◌, ◌≤◌, Bool}
+use Rattle.std.proofs.Common.{true, false, cond, not, ◌&&◌, ◌||◌, List, [], ◌∷◌, ◌++◌, map, arith, rules, append_assoc}
+use Rattle.std.proofs.Common.{eqb, subst}
 use Rattle.std.specs.List.{list_any}
 use Rattle.std.specs.Option.{option_or}
 use Rattle.std.proofs.lemmas.Bool.{or_right}
 use Rattle.std.proofs.lemmas.List.{append-nil}
-use Rattle.game_rules.proofs.Common.{Grid, is_on, is_empty, holds, points_of, stones_of, is_same_point, mover, other, IsPosition}
-use Rattle.game_rules.specs.declared.Point.{Point}
-use Rattle.game_rules.specs.declared.RuleKind.{RuleKind}
-use Rattle.game_rules.specs.declared.RuleKind.TheVariants.{Freestyle, Exact, Renju}
+use Rattle.strength_drill.proofs.Common.{Grid, is_empty, points_of, mover, IsPosition, Point, RuleKind, Attack, HeldTable, Done}
+use Rattle.strength_drill.proofs.Common.{empty_board, new_game, State, new_brain, Step, rule_of, brain_step, SIDE, wish_of, stone_line}
+use Rattle.strength_drill.proofs.Common.{stone_lines, position_lines, told_all}
+use Rattle.game_rules.proofs.Common.{is_on, holds, stones_of, is_same_point, other}
 use Rattle.game_rules.proofs.Points.{is_same_point-itself}
 use Rattle.game_rules.proofs.Places.{place, Rising, rows-rising, rising-first, listed_on}
 use Rattle.game_rules.proofs.Cells.{On}
 use Rattle.foul_judge.specs.Lawful.{refusal}
 use Rattle.foul_judge.proofs.Lawfulness.{none_from_lawful}
-use Rattle.strategy_graph.specs.declared.roots.Root.TheVariants.{Attack}
-use Rattle.strategy_checker.specs.HeldRoots.{HeldTable}
 use Rattle.gomocup_text.specs.declared.Command.{Command as Asked}
-use Rattle.gomocup_text.specs.declared.Command.TheVariants.{Done}
 use Rattle.brain_session.specs.declared.batch.BatchStone.{BatchStone}
-use Rattle.brain_session.specs.States.{empty_board, new_game, Fresh, Batch, State, new_brain}
+use Rattle.brain_session.specs.States.{Fresh, Batch}
 use Rattle.brain_session.specs.Batches.{with_batch_stones, spoiled, has_stone_at, colour_in, game_from}
 use Rattle.brain_session.specs.declared.Reaction.TheVariants.{Silent}
-use Rattle.brain_session.specs.Steps.{Step, Chooses, rule_of, row_of, brain_step}
+use Rattle.brain_session.specs.Steps.{Chooses, row_of}
 use Rattle.brain_session.specs.ChosenMoves.{same_rule, same_board, first_node}
 use Rattle.brain_session.specs.HeldGames.{BeginsHeldGame}
 use Rattle.brain_session.proofs.BatchGames.{batch-counts, batch-colour}
@@ -31,8 +28,6 @@ use Rattle.brain_session.proofs.PlayedMoves.{same_board-itself}
 use Rattle.brain_session.proofs.LawfulStates.{BatchFits, IsKept, next-lawful, new-lawful}
 use Rattle.brain_session.proofs.BatchStones.{stone_at, stones_at, Before, before-none, before-more, before-push, before-apart}
 use Rattle.brain_session.proofs.BatchStones.{same_rule-itself, next, stones-make}
-use Rattle.strength_drill.specs.declared.positions.TheConstants.{SIDE}
-use Rattle.strength_drill.proofs.Common.{wish_of, stone_line, stone_lines, position_lines, told_all}
 
 -- ---- boards with the same cells
 
@@ -50,8 +45,7 @@ with_known : (own on taken : Bool) (stones : List BatchStone) (p : Point) → on
     (let b : Batch = record { stones = stones ++ record { at = p; own = eqb (cond own 1 2) 1 } ∷ []; bad = false } in b)
     (spoiled (record { stones = stones; bad = false }))
     ≡ record { stones = stones ++ record { at = p; own = own } ∷ []; bad = false }
-with_known true on taken stones p e f = rw (e, f) refl
-with_known false on taken stones p e f = rw (e, f) refl
+with_known own on taken stones p e f = search rules
 
 step-stone : (h : HeldTable) (w : ℕ) (b : Grid) (stones : List BatchStone) (p : Point) → is_on (empty_board SIDE SIDE) p ≡ true
     → has_stone_at stones p ≡ false
@@ -67,8 +61,7 @@ step-stone h w b stones p on free =
 
 module _ (h : HeldTable) (w : ℕ) (b : Grid) (wide : b.width ≡ SIDE) (high : b.height ≡ SIDE) where
   on-side : (p : Point) → is_on b p ≡ true → is_on (empty_board SIDE SIDE) p ≡ true
-  on-side p on = ap (λ (n : ℕ). nat_lt p.x n && nat_lt p.y SIDE) (sym wide) ∙ ap (λ (n : ℕ). nat_lt p.x b.width && nat_lt p.y n) (sym high)
-      ∙ on
+  on-side p on = search rules
 
   told-stones : (ps : List Point) (k : ℕ) (stones : List BatchStone) → Rising b.width k ps → On b ps → Before b.width k stones
       → told_all (batch_read h w stones) (stone_lines b ps) ≡ batch_read h w (stones ++ stones_at b ps)
@@ -122,9 +115,7 @@ told-kept h s (c ∷ cs) kept = told-kept h (brain_step s c).next cs (next-lawfu
 -- ---- DONE
 
 pub wish-rule : (rule : RuleKind) → rule_of (wish_of rule) ≡ Some rule
-wish-rule Freestyle = refl
-wish-rule Exact = refl
-wish-rule Renju = refl
+wish-rule rule = search rules
 
 -- the game from a batch whose stones make the lawful board b
 batch-game : (rule : RuleKind) (b e : Grid) (stones : List BatchStone) → colour_in stones ≡ Some (mover b)
@@ -143,7 +134,7 @@ module _ (h : HeldTable) (rule : RuleKind) (b : Grid) (wide : b.width ≡ SIDE) 
   read-is = told-position h rule b wide high
 
   fits : BatchFits (empty_board SIDE SIDE) (record { stones = stones; bad = false })
-  fits = (subst (IsKept h) read-is (told-kept h (new_brain h) (position_lines rule b) (new-lawful h))).0.batch
+  fits = (rw read-is at (told-kept h (new_brain h) (position_lines rule b) (new-lawful h))).0.batch
 
   make : with_batch_stones (mover b) (empty_board SIDE SIDE) stones ≡ b
   make = subst (λ (n : ℕ). with_batch_stones (mover b) (empty_board n SIDE) stones ≡ b) wide

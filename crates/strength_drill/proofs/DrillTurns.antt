@@ -1,32 +1,21 @@
 -- A game of the drill, move by move: what the state of the brain says once it made a move by the held table, and after each TURN.
-use Rattle.std.proofs.Common.{◌≡◌, ◌⊎◌, inl, inr, refl, sym, ap, subst, ◌∙◌, ℕ, ◌+◌, ◌*◌, ◌≤◌, Bool, true}
-use Rattle.std.proofs.Common.{false, cond, not, ◌&&◌, ◌∷◌, arith, Option, Some, IsSomeAnd}
-use Rattle.game_rules.proofs.Common.{Grid, is_empty, empties_of, IsPosition, outcome, mover, after, goes_on, is_foul, is_win, WinsOr}
-use Rattle.game_rules.proofs.Common.{LosesOr}
-use Rattle.game_rules.specs.declared.RuleKind.{RuleKind}
+use Rattle.std.proofs.Common.{◌≡◌, ◌⊎◌, inl, inr, refl, sym, ap, ◌∙◌, ℕ, ◌+◌, ◌*◌, ◌≤◌, Bool, true, false}
+use Rattle.std.proofs.Common.{cond, not, ◌&&◌, ◌∷◌, arith, Some, IsSomeAnd, rules}
+use Rattle.strength_drill.proofs.Common.{Grid, is_empty, empties_of, IsPosition, outcome, mover, after, goes_on, RuleKind, Outcome, GoesOn}
+use Rattle.strength_drill.proofs.Common.{Point, Node, HeldTable, Turn, Move, Error, OpponentFoul, Says, Game, board_of, InGame, State, Step}
+use Rattle.strength_drill.proofs.Common.{rule_of, brain_step, SIDE, board_now, is_ended, moves_by, moves_of_brain, is_won}
+use Rattle.game_rules.proofs.Common.{is_foul, is_win, LosesOr}
 use Rattle.game_rules.specs.declared.Foul.{Foul}
 use Rattle.game_rules.specs.declared.Side.{Side}
-use Rattle.game_rules.specs.declared.Side.TheVariants.{Black, White}
-use Rattle.game_rules.specs.declared.Outcome.{Outcome}
-use Rattle.game_rules.specs.declared.Outcome.TheVariants.{Refused, Wins as WinsNow, Fouls, Draws, GoesOn}
-use Rattle.game_rules.specs.declared.Point.{Point}
+use Rattle.game_rules.specs.declared.Outcome.TheVariants.{Refused, Wins as WinsNow, Fouls, Draws}
 use Rattle.game_rules.proofs.Boards.{empties_of-put}
 use Rattle.game_rules.proofs.Positions.{GoesOn-empty}
 use Rattle.game_rules.proofs.Outcomes.{moved, wins_or_goes_on}
-use Rattle.strategy_graph.specs.declared.Node.{Node}
-use Rattle.strategy_graph.proofs.Common.{answers_of, answer, is_winning, Meets, AcceptedWithin}
+use Rattle.strategy_graph.proofs.Common.{answers_of, answer, AcceptedWithin}
 use Rattle.strategy_graph.proofs.Answering.{IsSomeAnd-elim}
-use Rattle.strategy_checker.specs.HeldRoots.{HeldTable}
-use Rattle.gomocup_text.specs.declared.Command.TheVariants.{Turn}
-use Rattle.gomocup_text.specs.declared.Answer.TheVariants.{Move, Error}
-use Rattle.gomocup_text.specs.declared.ErrorText.TheVariants.{OpponentFoul}
-use Rattle.brain_session.specs.declared.Reaction.TheVariants.{Says}
-use Rattle.brain_session.specs.States.{Game, board_of, InGame, State}
 use Rattle.brain_session.specs.ChosenMoves.{Choice}
-use Rattle.brain_session.specs.Steps.{Step, rule_of, if_supported, same_side, with_move, move_row, row_of, with_choice, step_by, brain_step}
+use Rattle.brain_session.specs.Steps.{same_side, with_move, move_row, with_choice, step_by}
 use Rattle.brain_session.proofs.HeldSteps.{by_node, StandsIn, row_then, next_stands, lawful_then, turn_then, parts}
-use Rattle.strength_drill.specs.declared.positions.TheConstants.{SIDE}
-use Rattle.strength_drill.proofs.Common.{board_now, is_ended, moves_by, moves_of_brain, last_wins, is_won}
 use Rattle.brain_session.proofs.FollowedGames.{other_side, state_in}
 
 -- The brain, which holds this, has made a move by the table in a game under the rule, with so many of its moves before; a game on a
@@ -54,12 +43,8 @@ pub record IsOver (s : State) (moves : ℕ) : Type 0 where
   pub won : is_won game ≡ true
   pub made : moves_of_brain game ≡ moves
 
-same_side-itself : (s : Side) → same_side s s ≡ true
-same_side-itself Black = refl
-same_side-itself White = refl
-
 own-turn : (t s : Side) → t ≡ s → same_side t s ≡ true
-own-turn t s e = ap (λ (x : Side). same_side x s) e ∙ same_side-itself s
+own-turn t s e = search rules
 
 -- what comes of a TURN at q: a foul, with which the game is over, or the brain's next move
 pub record IsFouled (step : Step) (moves : ℕ) : Type 0 where
@@ -82,10 +67,7 @@ module _ (h : HeldTable) (rule : RuleKind) (s : State) (turns : ℕ) (p : IsPlay
 
   pub attacks : (outcome rule board_before p.node.attack ≡ WinsNow) ⊎ (outcome rule board_before p.node.attack ≡ GoesOn)
   attacks = wins_or_goes_on (outcome rule board_before p.node.attack) _
-      (subst (λ (r : RuleKind). WinsOr (outcome r board_before p.node.attack)
-      ((is_winning p.node.rest ≡ false)
-      × ((q : Point) → Meets p.game.rule (answers_of p.node) (AcceptedWithin p.more p.game.rule h.table) (after board_before p.node.attack)
-      q))) p.rule_is p.stands.wins)
+      (rw p.rule_is at p.stands.wins)
 
   here : (o : Outcome) → outcome rule board_before p.node.attack ≡ o → outcome p.game.rule board_before p.node.attack ≡ o
   here o e = ap (λ (r : RuleKind). outcome r board_before p.node.attack) p.rule_is ∙ e
@@ -95,21 +77,7 @@ module _ (h : HeldTable) (rule : RuleKind) (s : State) (turns : ℕ) (p : IsPlay
 
   -- ---- the brain's move wins
   pub over-now : outcome rule board_before p.node.attack ≡ WinsNow → IsOver s (turns + 1)
-  over-now e =
-      let wins = here WinsNow e in
-      let turn = own-turn (mover board_before) p.game.brain p.stands.turn in
-      let ended : game_now.ended ≡ true = ap (λ (o : Outcome). not (goes_on o)) wins in
-      record {
-        game = game_now;
-        place = placed-now;
-        ended = ended;
-        won =
-            ap (λ (r : Bool). r && last_wins p.game.rule p.game.brain p.game.start game_now.moves) ended
-            ∙ ap (λ (r : Bool). cond r (is_win (outcome p.game.rule board_before p.node.attack))
-            (is_foul (outcome p.game.rule board_before p.node.attack))) turn
-            ∙ ap is_win wins;
-        made = ap (λ (r : Bool). moves_by p.game.brain p.game.start p.game.moves + cond r 1 0) turn ∙ ap (λ (n : ℕ). n + 1) p.made;
-      }
+  over-now e = search (rules, own-turn, placed-now)
 
   pub ended-now : outcome rule board_before p.node.attack ≡ WinsNow → is_ended s.place ≡ true
   ended-now e = ap is_ended placed-now ∙ ap (λ (o : Outcome). not (goes_on o)) (here WinsNow e)
@@ -123,8 +91,7 @@ module _ (h : HeldTable) (rule : RuleKind) (s : State) (turns : ℕ) (p : IsPlay
     board-then = ap board_now placed-now
 
     pub lawful-then : IsPosition rule (after board_before p.node.attack)
-    lawful-then = subst (λ (r : RuleKind). IsPosition r (after board_before p.node.attack)) p.rule_is
-        (lawful_then h p.game p.i p.node p.more p.stands (here GoesOn on))
+    lawful-then = rw p.rule_is at (lawful_then h p.game p.i p.node p.more p.stands (here GoesOn on))
 
     -- a move of the opponent
     module _ (q : Point) (empty : is_empty (after board_before p.node.attack) q ≡ true) where
@@ -134,38 +101,27 @@ module _ (h : HeldTable) (rule : RuleKind) (s : State) (turns : ℕ) (p : IsPlay
       abbrev now : State
       now = state_in h p.wish game_now
 
-      row-then : (o : Outcome) → there ≡ o → row_of now (Turn q.x q.y) ≡ move_row now game_now q o
-      row-then o e =
-          row_then h p.game p.i p.node p.more p.stands (here GoesOn on) p.wish q
-          ∙ ap (λ (r : Option RuleKind). if_supported r now (λ rule. move_row now game_now q there)) p.supported
-          ∙ ap (move_row now game_now q) e
-
       step-then : (o : Outcome) → there ≡ o → brain_step s (Turn q.x q.y) ≡ step_by now (move_row now game_now q o)
-      step-then o e = ap (λ (t : State). brain_step t (Turn q.x q.y)) p.state ∙ ap (step_by now) (row-then o e)
+      step-then o e = search (rules, row_then)
 
       opponent-turn : same_side (mover (after board_before p.node.attack)) p.game.brain ≡ false
-      opponent-turn = other_side p.game.brain (mover (after board_before p.node.attack))
-          (turn_then h p.game p.i p.node p.more p.stands (here GoesOn on))
-
-      made-now : moves_by p.game.brain p.game.start (p.node.attack ∷ p.game.moves) ≡ turns + 1
-      made-now = ap (λ (r : Bool). moves_by p.game.brain p.game.start p.game.moves + cond r 1 0)
-          (own-turn (mover board_before) p.game.brain p.stands.turn) ∙ ap (λ (n : ℕ). n + 1) p.made
+      opponent-turn = search (rules, other_side, turn_then)
 
       made-then : moves_by p.game.brain p.game.start (q ∷ p.node.attack ∷ p.game.moves) ≡ turns + 1
-      made-then = ap (λ (r : Bool). moves_by p.game.brain p.game.start (p.node.attack ∷ p.game.moves) + cond r 1 0) opponent-turn
-          ∙ ap (λ (n : ℕ). n + 0) made-now ∙ omega arith
+      made-then = search (rules, opponent-turn, own-turn)
 
       fouled : (f : Foul) → there ≡ Fouls f → IsFouled (brain_step s (Turn q.x q.y)) (turns + 1)
-      fouled f e = subst (λ (t : Step). IsFouled t (turns + 1)) (sym (step-then (Fouls f) e)) (record {
-        says = refl;
-        over = record {
-          game = with_move game_now q true;
-          place = refl;
-          ended = refl;
-          won = ap (λ (r : Bool). cond r (is_win there) (is_foul there)) opponent-turn ∙ ap is_foul e;
-          made = made-then;
-        };
-      })
+      fouled f e = rw (step-then (Fouls f) e)
+          (record {
+            says = refl;
+            over = record {
+              game = with_move game_now q true;
+              place = refl;
+              ended = refl;
+              won = ap (λ (r : Bool). cond r (is_win there) (is_foul there)) opponent-turn ∙ ap is_foul e;
+              made = made-then;
+            };
+          })
 
       answered : there ≡ GoesOn → (j : ℕ) → answer (answers_of p.node) q ≡ Some j
           → AcceptedWithin p.more p.game.rule h.table j (after (after board_before p.node.attack) q)
@@ -178,12 +134,11 @@ module _ (h : HeldTable) (rule : RuleKind) (s : State) (turns : ℕ) (p : IsPlay
           let fewer_still = empties_of-put (after board_before p.node.attack) (mover (after board_before p.node.attack)) q lawful-then.board
           empty in
           let few = p.few in
-          subst (λ (t : Step). IsAnswered h rule (after board_before p.node.attack) q t (turns + 1))
-          (sym (step-then GoesOn e ∙ ap
+          rw (step-then GoesOn e ∙ ap
           (λ (c : Choice). let t : Step = record { reaction = Says (Move c.at); next = state_in h p.wish (with_choice g2 c) } in t)
-          next.chooses))
-          (record {
-            on = ap (λ (r : RuleKind). outcome r (after board_before p.node.attack) q) (sym p.rule_is) ∙ e;
+          next.chooses) (record {
+            on = ap (λ (r : RuleKind). outcome r (after board_before p.node.attack) q) (sym p.rule_is)
+                ∙ e;
             playing = record {
               wish = p.wish;
               game = g2;

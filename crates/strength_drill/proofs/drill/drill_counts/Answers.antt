@@ -1,7 +1,6 @@
-use Rattle.std.proofs.Common.{◌≡◌, ℕ, subst, arith}
-use Rattle.game_rules.specs.declared.RuleKind.{RuleKind}
+use Rattle.std.proofs.Common.{◌≡◌, arith}
 use Rattle.strength_drill.specs.declared.TheConstants.{POSITIONS}
-use Rattle.strength_drill.specs.Counts.{AreCounts, IsCounted, IsShare}
+use Rattle.strength_drill.specs.Counts.{IsCounted}
 use Rattle.strength_drill.proofs.DrillCounts.{counts-none, counts-more, only-counts}
 use Rattle.strength_drill.proofs.drill.drill_counts.Goals as goal
 
@@ -20,8 +19,7 @@ loop-i-init c = record {
 
 pub loop-i-preserved : goal.loop-i-preserved
 loop-i-preserved c =
-    let is = subst (λ (k : RuleKind). IsShare k c.loop-i.draws.number c.in_ok-share.share c.share.new.draws.number) c.rule_at.ensures.rule
-    c.in_ok-share.ensures.share in
+    let is = rw c.rule_at.ensures.rule at c.in_ok-share.ensures.share in
     record {
       counted = counts-more c.args.number c.loop-i.i c.loop-i.counts c.in_ok-share.share c.add.new.self c.loop-i.draws.number
           c.share.new.draws.number c.loop-i.invariant.counted is c.add.ensures.together;
@@ -35,7 +33,6 @@ returns c =
     let end : c.loop-i.i ≡ POSITIONS = omega (arith, most, least) in
     let counted : IsCounted c.args.number c.loop-i.counts = (
       c.loop-i.draws.number,
-      subst (λ (k : ℕ). AreCounts c.args.number k c.loop-i.counts c.loop-i.draws.number) end
-          c.loop-i.invariant.counted,
+      rw end at c.loop-i.invariant.counted,
     ) in
     record { counted = counted; only = only-counts c.args.number c.loop-i.counts counted }

@@ -1,19 +1,13 @@
-use Rattle.std.proofs.Common.{◌⊎◌, refl, subst}
+use Rattle.std.proofs.Common.{◌⊎◌, refl}
 use Rattle.std.proofs.lemmas.Result.{IfOk-weaker}
-use Rattle.four_search.specs.Answers.{IsWithoutFours}
-use Rattle.four_search.specs.FewestWins.{IsFewestWin, IsFoundTable}
-use Rattle.four_search.specs.declared.fewest.FourTable.{FourTable}
-use Rattle.strength_drill.specs.declared.drill.TheConstants.{DEPTH, BUDGET}
-use Rattle.strength_drill.specs.declared.counts.Counts.{Counts}
-use Rattle.strength_drill.specs.Counts.{PlaysGame, IsNotHeld, ComesOf, found_within}
+use Rattle.strength_drill.proofs.Common.{FourTable, DEPTH, BUDGET, Counts, PlaysGame, IsNotHeld, ComesOf, found_within}
 use Rattle.strength_drill.proofs.DrillCounts.{comes-win, comes-none, comes-spent}
 use Rattle.strength_drill.proofs.drill.share_found.Goals as goal
 
 pub try_table-requires : goal.try_table-requires
 try_table-requires g c =
     let made : FourTable = c.in-Win.field-0 in
-    let is : IsFoundTable g.R.Rule.KIND DEPTH BUDGET c.args.position made =
-    subst (IsFewestWin g.R.Rule.KIND DEPTH BUDGET c.args.position) c.in-Win.is c.requires.found in
+    let is = rw c.in-Win.is at c.requires.found in
     record {
       last_node = is.made.last_node;
       in_table = is.made.win.written.in_compiler;
@@ -28,7 +22,7 @@ returns-in-Win-clause-comes g c =
     let s = c.args.draws.now.number in
     let u = c.try_table.new.draws.number in
     let made : FourTable = c.in-Win.field-0 in
-    let is : IsFoundTable rule DEPTH BUDGET b made = subst (IsFewestWin rule DEPTH BUDGET b) c.in-Win.is c.requires.found in
+    let is = rw c.in-Win.is at c.requires.found in
     IfOk-weaker c.try_table.result (λ (d : Counts). PlaysGame rule b made.table s d u ⊎ IsNotHeld rule b made.table s d u)
     (λ (d : Counts). ComesOf rule b (found_within DEPTH BUDGET rule b) s d u) (λ d tried. comes-win rule b s d u made is tried)
     c.try_table.ensures.tried
@@ -36,12 +30,11 @@ returns-in-Win-clause-comes g c =
 pub returns-in-None-clause-comes : goal.returns-in-None-clause-comes
 returns-in-None-clause-comes g c =
     let rule = g.R.Rule.KIND in
-    let none : IsWithoutFours rule DEPTH BUDGET c.args.position =
-    subst (IsFewestWin rule DEPTH BUDGET c.args.position) c.in-None.is c.requires.found in
+    let none = rw c.in-None.is at c.requires.found in
     comes-none rule c.args.position c.args.draws.now.number _ c.args.draws.now.number none refl refl
 
 pub returns-in-Spent-clause-comes : goal.returns-in-Spent-clause-comes
 returns-in-Spent-clause-comes g c =
     let rule = g.R.Rule.KIND in
     comes-spent rule c.args.position c.args.draws.now.number _ c.args.draws.now.number
-    (subst (IsFewestWin rule DEPTH BUDGET c.args.position) c.in-Spent.is c.requires.found) refl refl
+    (rw c.in-Spent.is at c.requires.found) refl refl

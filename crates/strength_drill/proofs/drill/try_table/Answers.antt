@@ -1,7 +1,5 @@
-use Rattle.std.proofs.Common.{◌≡◌, inl, sym, ap, subst}
-use Rattle.strategy_compiler.proofs.Common.{last}
-use Rattle.strategy_checker.specs.HeldRoots.{HeldTable}
-use Rattle.strength_drill.proofs.Common.{held_at, AreWithin}
+use Rattle.std.proofs.Common.{◌≡◌, inl, ap}
+use Rattle.strength_drill.proofs.Common.{last, HeldTable}
 use Rattle.strength_drill.proofs.DrillCounts.{node-below, held-as, holdable-as, plays-as, win-within}
 use Rattle.strength_drill.proofs.drill.try_table.Goals as goal
 
@@ -10,16 +8,14 @@ add-requires-clause-below g c = node-below c.args.table c.new-held.result.table 
 
 pub play_game-requires-clause-held : goal.play_game-requires-clause-held
 play_game-requires-clause-held g c =
-    let held : c.add.new.self ≡ held_at g.R.Rule.KIND c.args.position c.args.table =
-    held-as g.R.Rule.KIND c.args.position c.in_ok-copy.field-0 c.args.table c.args.node c.add.new.self c.new-held.result
+    let held = held-as g.R.Rule.KIND c.args.position c.in_ok-copy.field-0 c.args.table c.args.node c.add.new.self c.new-held.result
     c.in_ok-copy.ensures.copy c.requires.last_node c.new-held.ensures.table c.new-held.ensures.no_roots c.in-Ok.ensures.table
     c.in-Ok.ensures.added in
     (last c.args.table, ap (λ (h : HeldTable). h.roots) held)
 
 pub returns-in-Ok-clause-tried : goal.returns-in-Ok-clause-tried
 returns-in-Ok-clause-tried g c =
-    let held : c.add.new.self ≡ held_at g.R.Rule.KIND c.args.position c.args.table =
-    held-as g.R.Rule.KIND c.args.position c.in_ok-copy.field-0 c.args.table c.args.node c.add.new.self c.new-held.result
+    let held = held-as g.R.Rule.KIND c.args.position c.in_ok-copy.field-0 c.args.table c.args.node c.add.new.self c.new-held.result
     c.in_ok-copy.ensures.copy c.requires.last_node c.new-held.ensures.table c.new-held.ensures.no_roots c.in-Ok.ensures.table
     c.in-Ok.ensures.added in
     let can = holdable-as g.R.Rule.KIND c.args.position c.in_ok-copy.field-0 c.args.table c.new-held.result.table c.args.node
@@ -29,5 +25,5 @@ returns-in-Ok-clause-tried g c =
     c.in_ok-play_game-in-Ok.ensures.played c.with_game.ensures.counts)
 
 pub returns-in-Ok-clause-within : goal.returns-in-Ok-clause-within
-returns-in-Ok-clause-within g c = subst (AreWithin 1) (sym c.with_game.ensures.counts)
+returns-in-Ok-clause-within g c = rw c.with_game.ensures.counts
     (win-within c.in_ok-play_game-in-Ok.field-0.moves c.in_ok-play_game-in-Ok.field-0.won c.in_ok-play_game-in-Ok.ensures.few)

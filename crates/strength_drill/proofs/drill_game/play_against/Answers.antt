@@ -1,25 +1,18 @@
-use Rattle.std.proofs.Common.{◌≡◌, Bool, ◌+◌, refl, sym, ap, subst, ◌∙◌, Some}
-use Rattle.game_rules.proofs.Common.{Grid, after}
+use Rattle.std.proofs.Common.{◌≡◌, ◌+◌, refl, sym, ap, ◌∙◌}
+use Rattle.strength_drill.proofs.Common.{Grid, after, Done, State, new_brain, brain_step, move_said, position_lines, told_all, drawn_move}
 use Rattle.gomocup_text.specs.declared.Command.{Command}
-use Rattle.gomocup_text.specs.declared.Command.TheVariants.{Done}
-use Rattle.brain_session.specs.States.{State, new_brain}
-use Rattle.brain_session.specs.Steps.{brain_step}
-use Rattle.strength_drill.proofs.Common.{move_said, position_lines, told_all, state_begun, drawn_move, IsGamePlayed}
-use Rattle.strength_drill.proofs.DrillCourse.{IsOpened, told-as, opened-as, IsAtTurn, turn-as, course-first, course-won, course-one}
-use Rattle.strength_drill.proofs.DrillCourse.{course-ended, course-next, course-on}
+use Rattle.strength_drill.proofs.DrillCourse.{told-as, opened-as, turn-as, course-first, course-won, course-one, course-ended, course-next}
+use Rattle.strength_drill.proofs.DrillCourse.{course-on}
 use Rattle.strength_drill.proofs.drill_game.play_against.Goals as goal
 
 -- the brain says its first move
 pub unreachable-requires : goal.unreachable-requires
 unreachable-requires g c =
-    let told : c.tell_position.new.brain ≡ told_all (new_brain c.args.brain.now.held) (position_lines g.R.Rule.KIND c.args.position.now) =
-    told-as c.args.brain.now.held g.R.Rule.KIND c.KIND.result c.args.position.now c.board.result.now c.args.brain.now
-    c.tell_position.new.brain
-    c.in_ok-tell_position.ensures.told c.requires.new c.KIND.ensures c.board.ensures.board in
+    let told = told-as c.args.brain.now.held g.R.Rule.KIND c.KIND.result c.args.position.now c.board.result.now c.args.brain.now
+    c.tell_position.new.brain c.in_ok-tell_position.ensures.told c.requires.new c.KIND.ensures c.board.ensures.board in
     let opened = opened-as c.args.brain.now.held g.R.Rule.KIND c.args.position.now c.tell_position.new.brain c.step.new.self c.requires.wide
     c.requires.high c.side.ensures.lawful c.requires.held told c.in_ok-step.ensures.next c.step.ensures.running.held in
-    let said : move_said c.in_ok-step.field-0 ≡ Some opened.playing.node.attack =
-    ap move_said (c.in_ok-step.ensures.reaction ∙ opened.says) in
+    let said = ap move_said (c.in_ok-step.ensures.reaction ∙ opened.says) in
     let none = c.in_default.is in
     let is = c.move_said.ensures.said in
     cc
@@ -28,18 +21,16 @@ pub loop-turns-init : goal.loop-turns-init
 loop-turns-init g c =
     let told : c.tell_position.new.brain ≡ told_all (new_brain c.args.brain.now.held) (position_lines g.R.Rule.KIND c.args.position.now) =
     told-as c.args.brain.now.held g.R.Rule.KIND c.KIND.result c.args.position.now c.board.result.now c.args.brain.now
-    c.tell_position.new.brain
-    c.in_ok-tell_position.ensures.told c.requires.new c.KIND.ensures c.board.ensures.board in
+    c.tell_position.new.brain c.in_ok-tell_position.ensures.told c.requires.new c.KIND.ensures c.board.ensures.board in
     let opened = opened-as c.args.brain.now.held g.R.Rule.KIND c.args.position.now c.tell_position.new.brain c.step.new.self c.requires.wide
     c.requires.high c.side.ensures.lawful c.requires.held told c.in_ok-step.ensures.next c.step.ensures.running.held in
-    let opened_there = subst (λ (s : State). IsOpened c.args.brain.now.held g.R.Rule.KIND c.args.position.now (brain_step s Done)) told
-    opened in
+    let opened_there = rw told at opened in
     let says = ap (λ (s : State). move_said (brain_step s Done).reaction) (sym told) ∙ ap move_said (sym c.in_ok-step.ensures.reaction)
     ∙ sym c.move_said.ensures.said ∙ c.in-Some.is in
     course-first c.args.brain.now.held g.R.Rule.KIND c.args.position.now c.args.draws.now.number
     (brain_step (told_all (new_brain c.args.brain.now.held) (position_lines g.R.Rule.KIND c.args.position.now)) Done) c.step.new.self
-    c.args.draws.now.number c.args.position.now c.in-Some.first
-    refl opened_there (c.in_ok-step.ensures.next ∙ ap (λ (s : State). (brain_step s Done).next) told) refl refl says
+    c.args.draws.now.number c.args.position.now c.in-Some.first refl opened_there
+    (c.in_ok-step.ensures.next ∙ ap (λ (s : State). (brain_step s Done).next) told) refl refl says
 
 -- a move that wins ends the game
 pub returns-in-Wins-clause-played : goal.returns-in-Wins-clause-played
@@ -67,12 +58,10 @@ returns-in_default-move_said-clause-played g c =
     let board = c.play.ensures.played ∙ ap (λ (x : Grid). after x c.loop-turns.at) c.outcome.ensures.same in
     let point = c.drawn_move-q.ensures.drawn ∙ ap (λ (x : Grid). drawn_move x c.draw.result) c.board-in-loop-turns.ensures.board in
     let none = sym c.move_said-in-loop-turns.ensures.said ∙ c.in_default-move_said.is in
-    subst (λ (won : Bool). IsGamePlayed (state_begun c.args.brain.now.held g.R.Rule.KIND c.args.position.now) c.args.draws.now.number
-    (c.loop-turns.turns + 1) won c.draw.new.self.number) (sym c.says_foul-won.ensures.foul)
+    rw c.says_foul-won.ensures.foul
     (course-ended c.args.brain.now.held g.R.Rule.KIND c.args.position.now c.args.draws.now.number c.loop-turns.brain
-    c.loop-turns.draws.number
-    c.loop-turns.position c.loop-turns.at c.loop-turns.turns c.loop-turns.invariant on
-    c.play.new.self board c.draw.new.self.number c.draw.result c.draw.ensures.next c.draw.ensures.drawn c.drawn_move-q.result point
+    c.loop-turns.draws.number c.loop-turns.position c.loop-turns.at c.loop-turns.turns c.loop-turns.invariant on c.play.new.self board
+    c.draw.new.self.number c.draw.result c.draw.ensures.next c.draw.ensures.drawn c.drawn_move-q.result point
     c.step-in-loop-turns.new.self c.in_ok-reaction.reaction state reaction none)
 
 pub play-requires-in-loop-turns : goal.play-requires-in-loop-turns
@@ -101,11 +90,8 @@ loop-turns-preserved g c =
     let board = c.play.ensures.played ∙ ap (λ (x : Grid). after x c.loop-turns.at) c.outcome.ensures.same in
     let point = c.drawn_move-q.ensures.drawn ∙ ap (λ (x : Grid). drawn_move x c.draw.result) c.board-in-loop-turns.ensures.board in
     let some = sym c.move_said-in-loop-turns.ensures.said ∙ c.in-Some-move_said.is in
-    subst (λ (x : Grid). IsAtTurn c.args.brain.now.held g.R.Rule.KIND c.args.position.now c.args.draws.now.number
-    c.step-in-loop-turns.new.self
-    c.draw.new.self.number x c.in-Some-move_said.next (c.loop-turns.turns + 1)) (sym c.play-in-loop-turns.ensures.played)
+    rw c.play-in-loop-turns.ensures.played
     (course-next c.args.brain.now.held g.R.Rule.KIND c.args.position.now c.args.draws.now.number c.loop-turns.brain
-    c.loop-turns.draws.number
-    c.loop-turns.position c.loop-turns.at c.loop-turns.turns c.loop-turns.invariant on
-    c.play.new.self board c.draw.new.self.number c.draw.result c.draw.ensures.next c.draw.ensures.drawn c.drawn_move-q.result point
+    c.loop-turns.draws.number c.loop-turns.position c.loop-turns.at c.loop-turns.turns c.loop-turns.invariant on c.play.new.self board
+    c.draw.new.self.number c.draw.result c.draw.ensures.next c.draw.ensures.drawn c.drawn_move-q.result point
     c.step-in-loop-turns.new.self c.in_ok-reaction.reaction state reaction c.in-Some-move_said.next some)

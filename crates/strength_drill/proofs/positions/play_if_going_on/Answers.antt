@@ -1,7 +1,5 @@
-use Rattle.std.proofs.Common.{◌≡◌, ℕ, ◌<◌, ◌≤◌, sym, ap, subst, ◌∙◌}
-use Rattle.game_rules.proofs.Common.{Grid, after}
-use Rattle.strength_drill.specs.declared.positions.TheConstants.{MOST_STONES}
-use Rattle.strength_drill.proofs.Common.{all_stones}
+use Rattle.std.proofs.Common.{◌≡◌, ◌<◌, ◌≤◌, sym, ap, ◌∙◌}
+use Rattle.strength_drill.proofs.Common.{Grid, after, all_stones}
 use Rattle.strength_drill.proofs.DrillMaking.{point-many, point-not, point-on}
 use Rattle.strength_drill.proofs.positions.play_if_going_on.Goals as goal
 
@@ -10,13 +8,13 @@ returns-then-all_stones-ge-MOST_STONES g c =
     let count : c.all_stones.result ≡ all_stones c.args.position.now = c.all_stones.ensures.stones ∙ ap all_stones c.board.ensures.board in
     record {
       played = sym (point-many g.R.Rule.KIND c.args.position.now c.args.p
-          (subst (λ (n : ℕ). MOST_STONES ≤ n) count c.if-all_stones-ge-MOST_STONES.true));
+          (rw count at c.if-all_stones-ge-MOST_STONES.true));
     }
 
 pub returns-in-GoesOn : goal.returns-in-GoesOn
 returns-in-GoesOn g c =
     let count : c.all_stones.result ≡ all_stones c.args.position.now = c.all_stones.ensures.stones ∙ ap all_stones c.board.ensures.board in
-    let few = subst (λ (n : ℕ). n < MOST_STONES) count c.if-all_stones-ge-MOST_STONES.false in
+    let few = rw count at c.if-all_stones-ge-MOST_STONES.false in
     let on = sym c.outcome.ensures.outcome ∙ c.in-GoesOn.is in
     record {
       played = c.play.ensures.played ∙ ap (λ (b : Grid). after b c.args.p) c.outcome.ensures.same
