@@ -1,30 +1,24 @@
 -- The command `bind`: how far its files are bound, its answers, and what its runs show.
 use Rattle.std.proofs.Common.{◌≡◌, ◌⊎◌, inl, inr, refl, sym, ap, subst, ◌∙◌, ℕ, zero, suc, ◌<◌, ◌≤◌, ◌+◌}
 use Rattle.std.proofs.Common.{List, [], ◌∷◌, ◌++◌, length, take, drop, get_or, map, arith, Result, Ok, Err, IfOk, Option, Some}
-use Rattle.std.proofs.Common.{None, IfSome}
+use Rattle.std.proofs.Common.{None, IfSome, rules}
 use Rattle.std.specs.List.{AllByRecursion}
 use Rattle.strategy_graph.specs.declared.TheConstants.{MAX_NODES}
 use Rattle.strategy_compiler.proofs.Common.{HoldMore}
-use Rattle.position_files.specs.declared.TableFile.{TableFile}
-use Rattle.renju_io.specs.Faults.{HasRisen}
-use Rattle.renju_io.specs.Files.{Files, file_under}
+use Rattle.table_commands.proofs.Common.{TableFile, Files, Book, Status, Done, status_number, Run, IsTableAt, IsFileName, IsFit}
+use Rattle.table_commands.proofs.Common.{TableFileSays, AreBindable, AreFew, AreNames, BindSays, HasBound, IsBind, IsBindable}
+use Rattle.table_commands.proofs.Common.{IsUnhinderedBind, ShowsBound, StopsAt, TellsBook, of_file, BindsMore, IsAdded, IsAddedText}
 use Rattle.std.proofs.lemmas.Option.{same_Some}
 use Rattle.std.proofs.lemmas.List.{length-map, length-take-le, map_more, take_all}
 use Rattle.renju_io.specs.declared.TheConstants.{MAX_INPUT_BYTES}
 use Rattle.table_book.specs.Books.{IsTextOfBook, IsWellFormed}
 use Rattle.command_base.specs.declared.answer.Answer.{Answer}
-use Rattle.table_book.specs.declared.Book.{Book}
 use Rattle.table_book.specs.declared.TheConstants.{MAX_ENTRIES}
-use Rattle.table_book.specs.Binding.{IsBound, tables_of}
+use Rattle.table_book.specs.Binding.{IsBound}
 use Rattle.table_book.proofs.Binding.{bound-few, bound-full, entries-count, hold-longer}
-use Rattle.command_base.specs.declared.status.Status.{Status}
-use Rattle.command_base.specs.declared.status.Status.TheVariants.{Done, Full}
-use Rattle.command_base.specs.Statuses.{status_number}
-use Rattle.command_base.specs.Runs.{Change, Run, IsDelivered, IsOutOfMemory, HasNoFault}
-use Rattle.file_loading.specs.TableFiles.{IsTableAt}
-use Rattle.file_loading.specs.HeldFiles.{IsFileName, IsFit, IsLoaded, IsUnheld, TableFileSays}
-use Rattle.table_commands.proofs.Common.{AreBindable, AreFew, AreNames, BindSays, HasBound, IsBind, IsBindable, IsUnhinderedBind}
-use Rattle.table_commands.proofs.Common.{ShowsBound, StopsAt, TellsBook, of_file, BindsMore, IsAdded, IsAddedText}
+use Rattle.command_base.specs.declared.status.Status.TheVariants.{Full}
+use Rattle.command_base.specs.Runs.{Change, IsDelivered, IsOutOfMemory, HasNoFault}
+use Rattle.file_loading.specs.HeldFiles.{IsLoaded, IsUnheld}
 use Rattle.command_base.specs.Texts.{full_line}
 use Rattle.command_base.proofs.ToldLaws.{where-told}
 use Rattle.file_loading.proofs.HeldFileLaws.{not-told, table-not_told, delivered-other, not-other, table_told-other, unheld-other}
@@ -55,7 +49,7 @@ module _ (shelf : Files) where
       → other ≡ file
   table-under name file other is also =
       let same : also.bytes ≡ is.bytes = same_Some also.bytes is.bytes (sym also.found ∙ is.found) in
-      one-table file other is.bytes is.at (subst (IsTableAt other) same also.at)
+      one-table file other is.bytes is.at (rw same at also.at)
 
   same-tables : (names : List (List ℕ)) (files others : List TableFile) → AreBindable (Some shelf) names files
       → AreBindable (Some shelf) names others → others ≡ files
@@ -64,10 +58,7 @@ module _ (shelf : Files) where
   same-tables [] (f ∷ files) others h k = absurd h
   same-tables (n ∷ names) [] others h k = absurd h
   same-tables (n ∷ names) (f ∷ files) [] h k = absurd k
-  same-tables (n ∷ names) (f ∷ files) (o ∷ others) h k =
-      let first = table-under n f o h.0 k.0 in
-      let later = same-tables names files others h.1 k.1 in
-      λ i. first i ∷ later i
+  same-tables (n ∷ names) (f ∷ files) (o ∷ others) h k = search (table-under, same-tables names files others h.1 k.1)
 
   -- the table under a name among others, and those before it
   at-name : (before later : List (List ℕ)) (name : List ℕ) (files : List TableFile)
@@ -110,11 +101,7 @@ module _ (shelf : Option Files) (names : List (List ℕ)) (old : Book) (h : Boun
 
   pub up-to-more : (name : List ℕ) (file : TableFile) (new : Book) → IsBindable shelf name file → BindsMore old file new
       → BoundUpTo shelf (names ++ name ∷ []) new
-  up-to-more name file new is binds = record {
-    files = h.files ++ file ∷ [];
-    bindable = bindable-more shelf names h.files name file h.bindable is;
-    bound = binds h.files h.bound;
-  }
+  up-to-more name file new is binds = search (rules, bindable-more)
 
 -- the names before one, that name, and those after it
 pub names-at : {X : Type 0} (f : X → List ℕ) (xs : List X) (i : ℕ) (d : X) → i < length xs
@@ -159,8 +146,7 @@ module _ (shelf : Change (Option Files)) (n : ℕ) (name bytes : List ℕ) (old 
   -- what comes of the bytes of a file comes of the file
   pub added-by : {E : Type 0} (r : Result (Option Answer) E) → IfOk r (IsAddedText n bytes old new) → IfOk r (IsAdded shelf n name old new)
   added-by (Ok None) h = (h.0, bindable-by h.0 h.1 h.2, loaded.sound, h.3)
-  added-by (Ok (Some answer)) (inl h) =
-      inl (h.0, inl (record { bytes = bytes; loaded = loaded; fits = fits; says = h.1 }), h.2)
+  added-by (Ok (Some answer)) (inl h) = inl (h.0, inl (record { bytes = bytes; loaded = loaded; fits = fits; says = h.1 }), h.2)
   added-by (Ok (Some answer)) (inr h) = inr (h.0, bindable-by h.0 h.1 h.2, loaded.sound, h.3, h.4)
   added-by (Err e) h = tt
 
@@ -171,10 +157,7 @@ module _ (old new : Change (Option Files)) (same : old.before ≡ new.before) (f
   sound-from sound = sym after ∙ sound ∙ faults
 
   loaded-from : (name bytes : List ℕ) → IsLoaded old name bytes → IsLoaded new name bytes
-  loaded-from name bytes loaded = record {
-    found = subst (λ (o : Option Files). IfSome o (λ files. file_under name files ≡ Some bytes)) same loaded.found;
-    sound = sound-from loaded.sound;
-  }
+  loaded-from name bytes loaded = search (rules, sound-from)
 
   bindable-from : (name : List ℕ) (file : TableFile) → IsBindable old.before name file → IsBindable new.before name file
   bindable-from name file = subst (λ (o : Option Files). IsBindable o name file) same
@@ -188,7 +171,7 @@ module _ (old new : Change (Option Files)) (same : old.before ≡ new.before) (f
       let loaded = loaded-from name long.bytes long.loaded in
       inr (inl (record { bytes = long.bytes; loaded = loaded; long = long.long; ends = long.ends; line = long.line }))
   unheld-from name status text (inr (inr fault)) = inr (inr (record {
-    failed = subst (λ n. HasRisen n new.faults_after) faults (subst (λ n. HasRisen old.faults_before n) after fault.failed);
+    failed = rw (← faults) (rw after at fault.failed);
     ends = fault.ends;
     line = fault.line;
   }))
@@ -250,7 +233,7 @@ says-book shelf names binder book text h sound same well told = inl (record {
   sound = sound;
   book = book;
   well_formed = well;
-  bound = subst (IsBound h.files) (sym same) h.bound;
+  bound = rw same h.bound;
   ends = refl;
   told = told;
 })
@@ -259,7 +242,7 @@ says-book shelf names binder book text h sound same well told = inl (record {
 
 module _ (names : List (List ℕ)) (run : Run) (files : List TableFile) (free : IsUnhinderedBind names run files) where
   told-of : (P : Option Files → Type 0) → P run.shelf.before → P (Some free.shelf)
-  told-of P h = subst P free.told h
+  told-of P h = rw free.told at h
 
   -- what is said is the book
   book-told : (status : Status) (text : List ℕ) → BindSays names run.shelf status text → IsDelivered status text run.output run.status
@@ -270,7 +253,7 @@ module _ (names : List (List ℕ)) (run : Run) (files : List TableFile) (free : 
       record {
         book = said.book;
         well_formed = said.well_formed;
-        bound = subst (λ (fs : List TableFile). IsBound fs said.book) same said.bound;
+        bound = rw same at said.bound;
         text = text;
         spelled = said.told;
         ends = whole.0 ∙ ap status_number said.ends;
@@ -279,16 +262,15 @@ module _ (names : List (List ℕ)) (run : Run) (files : List TableFile) (free : 
   book-told status text (inl said) (inr failed) = absurd (free.output_sound failed.1)
   book-told status text (inr (inl refused)) delivered =
       let there = at-name free.shelf refused.stop.before refused.stop.later refused.stop.name files
-      (subst (λ (ns : List (List ℕ)). AreBindable (Some free.shelf) ns files) refused.stop.names_are free.bindable) in
+      (rw refused.stop.names_are at free.bindable) in
       absurd (free.shelf_sound (not-told refused.stop.name run free.shelf free.told there.1.bytes there.1.found TableFileSays there.1.fits
       (table-not_told there.0 there.1.bytes there.1.at there.1.fit) status refused.line refused.why))
   book-told status text (inr (inr full)) delivered =
       let front = front-tables free.shelf full.stop.before full.stop.later full.stop.name files full.stop.files full.file
-      (subst (λ (ns : List (List ℕ)). AreBindable (Some free.shelf) ns files) full.stop.names_are free.bindable)
+      (rw full.stop.names_are at free.bindable)
       (told-of (λ shelf. AreBindable shelf full.stop.before full.stop.files) full.stop.bindable)
       (told-of (λ shelf. IsBindable shelf full.stop.name full.file) full.last) in
-      absurd (free.few (subst (λ (fs : List TableFile). HoldMore (tables_of fs) MAX_NODES) (sym front.1)
-      (hold-longer (full.stop.files ++ full.file ∷ []) front.0 MAX_NODES full.full)))
+      absurd (free.few (rw front.1 (hold-longer (full.stop.files ++ full.file ∷ []) front.0 MAX_NODES full.full)))
 
 pub bind-answers : (names : List (List ℕ)) (run : Run) → IsBind names run → (files : List TableFile) → IsUnhinderedBind names run files
     → HasBound files run ⊎ IsOutOfMemory run.output run.status
@@ -299,36 +281,10 @@ bind-answers names run is files free = by-ends is.ends where
 
 -- ---- what is shown
 
-module _ (names : List (List ℕ)) (run : Run) (done : run.status ≡ status_number Done) (shelf : Files)
-    (told : run.shelf.before ≡ Some shelf) where
-  shown-by : (status : Status) (text : List ℕ) → BindSays names run.shelf status text → IsDelivered status text run.output run.status
-      → ShowsBound names shelf run
-  shown-by status text (inl said) (inl whole) = record {
-    files = said.files;
-    bindable = subst (λ (o : Option Files). AreBindable o names said.files) told said.bindable;
-    book = said.book;
-    different = said.bound.binding.compiled.different;
-    entries = said.bound.entries;
-    text = text;
-    spelled = said.told;
-    whole = whole.1;
-  }
-  shown-by status text (inl said) (inr failed) = let e = sym done ∙ failed.0 in absurd (cc)
-  shown-by status text (inr (inl refused)) delivered =
-      absurd (not-other run.status (inl done)
-      (delivered-other status text run.output run.status
-      (unheld-other TableFileSays table_told-other run.shelf refused.stop.name status refused.line refused.why) delivered))
-  shown-by status text (inr (inr full)) (inl whole) = let e = sym done ∙ whole.0 ∙ ap status_number full.ends in absurd (cc)
-  shown-by status text (inr (inr full)) (inr failed) = let e = sym done ∙ failed.0 in absurd (cc)
-
 -- what status 0 of `bind` shows
 pub bind-shown : (names : List (List ℕ)) (run : Run) → IsBind names run → run.status ≡ status_number Done
     → IfSome run.shelf.before (λ shelf. ShowsBound names shelf run)
-bind-shown names run is done = where-told run.shelf.before (λ shelf told. by-ends shelf told is.ends) where
-  by-ends : (shelf : Files) → run.shelf.before ≡ Some shelf → TellsBook names run ⊎ IsOutOfMemory run.output run.status
-      → ShowsBound names shelf run
-  by-ends shelf told (inl tells) = shown-by names run done shelf told tells.status tells.text tells.says tells.delivered
-  by-ends shelf told (inr memory) = let e = sym done ∙ memory.ends in absurd (cc)
+bind-shown names run is done = search (rules, where-told, not-other, delivered-other, unheld-other, table_told-other)
 
 -- ---- names, one by one
 
@@ -342,13 +298,8 @@ filled-at f (y ∷ xs) (suc i) x l is all = filled-at f xs i x (omega arith) is 
 pub some-left : {X : Type 0} (f : X → List ℕ) (xs : List X) (i : ℕ) (shelf : Option Files) (book : Book)
     → BoundUpTo shelf (map f (take i xs)) book → AreNames (map f xs) → i ≤ length xs → length xs ≤ i
     → 0 < length book.entries
-some-left f xs i shelf book h are l k =
-    let count = up-to-count shelf (map f (take i xs)) book h in
-    let before : length (map f (take i xs)) ≡ i = length-map (take i xs) f ∙ length-take-le i xs l in
-    let all : length (map f xs) ≡ length xs = length-map xs f in
-    let some = are.some in
-    omega arith
+some-left f xs i shelf book h are l k = search (rules, up-to-count, length-map, length-take-le)
 
 pub up-to-all : {X : Type 0} (f : X → List ℕ) (xs : List X) (i : ℕ) (shelf : Option Files) (book : Book)
     → BoundUpTo shelf (map f (take i xs)) book → length xs ≤ i → BoundUpTo shelf (map f xs) book
-up-to-all f xs i shelf book h l = subst (λ (ws : List (List ℕ)). BoundUpTo shelf ws book) (ap (map f) (take_all i xs l)) h
+up-to-all f xs i shelf book h l = rw (ap (map f) (take_all i xs l)) at h

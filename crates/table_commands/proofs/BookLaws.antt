@@ -1,25 +1,15 @@
 -- The command `book`: its words, its answers, and what its status 0 shows.
-use Rattle.std.proofs.Common.{◌≡◌, inl, inr, refl, sym, subst, ◌∙◌, ◌⊎◌, ℕ, ◌-◌, ◌≤◌, List, [], ◌∷◌}
-use Rattle.std.proofs.Common.{arith, IfSome}
+use Rattle.std.proofs.Common.{◌≡◌, inl, inr, sym, subst, ◌∙◌, ◌⊎◌, ℕ, ◌-◌, ◌≤◌, List, [], ◌∷◌, IfSome}
+use Rattle.std.proofs.Common.{rules}
 use Rattle.std.specs.List.{AllByRecursion}
 use Rattle.game_rules.proofs.Tests.{all_get}
-use Rattle.strategy_graph.specs.declared.Node.{Node}
-use Rattle.strategy_graph.proofs.Common.{RootWins}
+use Rattle.table_commands.proofs.Common.{Node, Takes, Book, Status, Done, RefusedText, RefusedTable, status_number, Run, IsTold, AreWithin}
+use Rattle.table_commands.proofs.Common.{BookSays, EntriesSay, IsWonBook, IsWonEntry, book_command}
 use Rattle.strategy_graph.proofs.Starts.{accepted-root-wins}
-use Rattle.renju_io.specs.Told.{Takes}
-use Rattle.table_book.specs.declared.Book.{Book}
 use Rattle.table_book.specs.declared.Entry.{Entry}
-use Rattle.table_book.specs.declared.error.HoldError.{HoldError}
-use Rattle.table_book.specs.declared.error.HoldError.TheVariants.{Refused, Spent as SpentEntry, Memory as NotHeld}
 use Rattle.table_book.specs.Books.{IsSound}
-use Rattle.table_book.specs.Holding.{IsAccepted, IsHoldFault, entry_arrivals}
-use Rattle.command_base.specs.declared.status.Status.{Status}
-use Rattle.command_base.specs.declared.status.Status.TheVariants.{Done, RefusedText, RefusedTable}
-use Rattle.command_base.specs.Statuses.{status_number}
-use Rattle.command_base.specs.Runs.{Run}
-use Rattle.command_base.specs.Told.{IsTold}
-use Rattle.table_commands.proofs.Common.{AreWithin, BookSays, EntriesSay, IsWonBook, IsWonEntry, book_command}
-use Rattle.file_loading.specs.BookFiles.{IsBookAt, IsRefusedEntry, hold_refusal_status}
+use Rattle.table_book.specs.Holding.{IsAccepted}
+use Rattle.file_loading.specs.BookFiles.{IsBookAt, IsRefusedEntry}
 use Rattle.command_base.proofs.ToldLaws.{done-told, other-status}
 use Rattle.file_loading.proofs.BookFileLaws.{one-book, book-not_refused}
 
@@ -28,15 +18,7 @@ use Rattle.file_loading.proofs.BookFileLaws.{one-book, book-not_refused}
 -- the status of entries whose arrivals are few enough
 within-refused : (work : ℕ) (book : Book) (status : Status) (text : List ℕ) → AreWithin work book → IsRefusedEntry work book status text
     → status ≡ RefusedTable
-within-refused work book status text few refused = refused.ends ∙ by-error refused.error refused.cause refused.fault where
-  by-error : (error : HoldError) → (error ≡ NotHeld → ⊥) → IsHoldFault book.table book.entries work error
-      → hold_refusal_status error ≡ RefusedTable
-  by-error (Refused n line why) cause fault = refl
-  by-error (SpentEntry n) cause fault =
-      let least = all_get (λ (e : Entry). entry_arrivals book.table e ≤ work) book.entries (n - 1) fault.entry fault.earliest.entry few in
-      let more = fault.spent in
-      absurd (omega (arith, least, more))
-  by-error NotHeld cause fault = absurd (cause refl)
+within-refused work book status text few refused = search (rules, all_get)
 
 -- what is said of a book for which the work is enough is an answer
 pub book-answers : (work : ℕ) (bytes : List ℕ) → (book_command work).IsAnswerable bytes → (status : Status) (text : List ℕ)
@@ -52,14 +34,7 @@ book-answers work bytes can status text (inr said) = by-verdict said.2 where
 
 -- an entry that is sound and accepted wins within its moves
 won-entry : (t : List Node) (work : ℕ) (e : Entry) → IsSound t e → IsAccepted t work e → IsWonEntry t work e
-won-entry t work e sound accepted = record {
-  lawful = sound.lawful;
-  accepted = accepted.accepted;
-  within = accepted.arrivals;
-  depth = sound.moves;
-  wins = subst (λ (n : ℕ). RootWins e.kind e.root n e.board) (sym sound.moves)
-      (accepted-root-wins e.kind t e.root e.board accepted.accepted);
-}
+won-entry t work e sound accepted = search (rules, accepted-root-wins)
 
 won-entries : (t : List Node) (work : ℕ) (es : List Entry) → AllByRecursion (IsSound t) es → AllByRecursion (IsAccepted t work) es
     → AllByRecursion (IsWonEntry t work) es
@@ -69,19 +44,7 @@ won-entries t work (e ∷ es) sound accepted = (won-entry t work e sound.0 accep
 module _ (work : ℕ) (run : Run) (done : run.status ≡ 0) where
   by-entries : (bytes : List ℕ) (status : Status) (text : List ℕ) (book : Book) → IsBookAt book bytes → run.status ≡ status_number status
       → Takes run.output.before text run.output.after → EntriesSay work book status text → IsWonBook work bytes run.output
-  by-entries bytes status text book at ends whole (inl accepted) = record {
-    book = book;
-    text = at.text;
-    entries = won-entries book.table work book.entries at.well_formed.entries accepted.accepted;
-    line = subst (λ (l : List ℕ). Takes run.output.before l run.output.after) accepted.line whole;
-  }
-  by-entries bytes status text book at ends whole (inr refused) =
-      absurd (by-error refused.error refused.cause
-      (other-status run done status (hold_refusal_status refused.error) ends refused.ends)) where
-        by-error : (error : HoldError) → (error ≡ NotHeld → ⊥) → 0 ≡ status_number (hold_refusal_status error) → ⊥
-        by-error (Refused n line why) cause e = cc
-        by-error (SpentEntry n) cause e = cc
-        by-error NotHeld cause e = cause refl
+  by-entries bytes status text book at ends whole h = search (rules, won-entries, other-status)
 
   by-saying : (bytes : List ℕ) (status : Status) (text : List ℕ) → run.status ≡ status_number status
       → Takes run.output.before text run.output.after → BookSays work bytes status text → IsWonBook work bytes run.output

@@ -1,16 +1,10 @@
 -- The command `check`: its words, its answers, and what its status 0 shows.
 use Rattle.std.proofs.Common.{◌≡◌, inl, inr, sym, ap, subst, ◌∙◌, ◌⊎◌, ℕ, ◌≤◌, List, arith, IfSome}
-use Rattle.strategy_graph.proofs.Common.{root_arrivals, RootWins}
-use Rattle.position_files.specs.declared.TableFile.{TableFile}
+use Rattle.strategy_graph.proofs.Common.{root_arrivals}
+use Rattle.table_commands.proofs.Common.{TableFile, Takes, Status, Done, RefusedText, RefusedTable, status_number, Run, IsTold}
+use Rattle.table_commands.proofs.Common.{accepted_line, IsAcceptedTable, TableSays, CheckSays, check_command, IsAcceptedInput, IsTableAt}
 use Rattle.position_files.proofs.ReadBack.{table-read-back}
-use Rattle.renju_io.specs.Told.{Takes}
-use Rattle.command_base.specs.declared.status.Status.{Status}
-use Rattle.command_base.specs.declared.status.Status.TheVariants.{Done, RefusedText, RefusedTable, Spent}
-use Rattle.command_base.specs.Statuses.{status_number}
-use Rattle.command_base.specs.Runs.{Run}
-use Rattle.command_base.specs.Told.{IsTold}
-use Rattle.table_commands.proofs.Common.{accepted_line, IsAcceptedTable, TableSays, CheckSays, check_command, IsAcceptedInput}
-use Rattle.file_loading.specs.TableFiles.{IsTableAt}
+use Rattle.command_base.specs.declared.status.Status.TheVariants.{Spent}
 use Rattle.command_base.proofs.ToldLaws.{done-told, other-status}
 
 -- what is said of a text for which the work is enough is an answer
@@ -43,9 +37,8 @@ module _ (work : ℕ) (run : Run) (zero : run.status ≡ 0) where
     accepted = a.accepted;
     within = a.within;
     depth = at.moves;
-    wins = subst (λ (n : ℕ). RootWins file.kind file.root n file.board) (sym at.moves) a.wins;
-    line = subst (λ (l : List ℕ). Takes run.output.before l run.output.after)
-        (a.line ∙ ap (λ (n : ℕ). accepted_line n (root_arrivals file.kind file.table file.root file.board)) (sym at.moves)) whole;
+    wins = rw at.moves a.wins;
+    line = rw (a.line ∙ ap (λ (n : ℕ). accepted_line n (root_arrivals file.kind file.table file.root file.board)) (sym at.moves)) at whole;
   }
 
   by-verdict : (bytes : List ℕ) (status : Status) (text : List ℕ) (file : TableFile) → IsTableAt file bytes

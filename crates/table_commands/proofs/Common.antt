@@ -1,4 +1,16 @@
 -- The words of table_commands, all in one place for the files of laws.
+pub use Rattle.command_base.specs.Runs.{Run}
+pub use Rattle.command_base.specs.Statuses.{status_number}
+pub use Rattle.command_base.specs.Told.{IsTold}
+pub use Rattle.command_base.specs.declared.status.Status.{Status}
+pub use Rattle.command_base.specs.declared.status.Status.TheVariants.{Done, RefusedTable, RefusedText}
+pub use Rattle.file_loading.specs.HeldFiles.{IsFileName, IsFit, TableFileSays}
+pub use Rattle.file_loading.specs.TableFiles.{IsTableAt}
+pub use Rattle.position_files.specs.declared.TableFile.{TableFile}
+pub use Rattle.renju_io.specs.Files.{Files}
+pub use Rattle.renju_io.specs.Told.{Takes}
+pub use Rattle.strategy_graph.specs.declared.Node.{Node}
+pub use Rattle.table_book.specs.declared.Book.{Book}
 pub use Rattle.table_commands.specs.Binders.{BindsMore, IsAdded, IsAddedText}
 pub use Rattle.table_commands.specs.Binds.{AreBindable, AreFew, AreNames, BindSays, HasBound, IsBind, IsBindable, IsUnhinderedBind}
 pub use Rattle.table_commands.specs.Binds.{ShowsBinding, ShowsBound, StopsAt, TellsBook, bind_words, of_file}

@@ -1,12 +1,12 @@
 -- The command `image`: its answers, and what its status 0 shows.
-use Rattle.std.proofs.Common.{◌≡◌, inl, inr, sym, ap, subst, ◌∙◌, ℕ, Bool, true, List, refl, IfSome}
+use Rattle.std.proofs.Common.{◌≡◌, inl, inr, sym, ap, subst, ◌∙◌, ℕ, Bool, true, List, refl, IfSome, rules}
 use Rattle.std.proofs.lemmas.Bool.{both_ways}
 use Rattle.game_rules.proofs.Common.{IsPosition, Grid}
 use Rattle.strategy_graph.proofs.Common.{root_depth, TableOnBoard}
-use Rattle.strategy_graph.specs.declared.Node.{Node}
+use Rattle.table_commands.proofs.Common.{Node, TableFile, Takes, Status, Done, RefusedText, status_number, Run, IsTold, IsTableAt}
+use Rattle.table_commands.proofs.Common.{ImagedFileSays, ImageSays, image_command, IsImage, IsImagedInput}
 use Rattle.strategy_graph.specs.declared.roots.Root.{Root}
 use Rattle.position_files.proofs.Common.{IsTextOfTable, RootFits}
-use Rattle.position_files.specs.declared.TableFile.{TableFile}
 use Rattle.position_files.proofs.ReadBack.{table-read-back}
 use Rattle.board_symmetry.specs.Points.{fits, board_image}
 use Rattle.board_symmetry.specs.Images.{table_image, root_image}
@@ -14,14 +14,6 @@ use Rattle.board_symmetry.specs.Files.{file_image}
 use Rattle.board_symmetry.specs.declared.symmetry.Symmetry.{Symmetry}
 use Rattle.board_symmetry.proofs.FileImages.{file-root, image-named, image-root}
 use Rattle.board_symmetry.proofs.ImageLaws.{keeps_positions, keeps_wins}
-use Rattle.renju_io.specs.Told.{Takes}
-use Rattle.command_base.specs.declared.status.Status.{Status}
-use Rattle.command_base.specs.declared.status.Status.TheVariants.{Done, RefusedText}
-use Rattle.command_base.specs.Statuses.{status_number}
-use Rattle.command_base.specs.Runs.{Run}
-use Rattle.command_base.specs.Told.{IsTold}
-use Rattle.file_loading.specs.TableFiles.{IsTableAt}
-use Rattle.table_commands.proofs.Common.{ImagedFileSays, ImageSays, image_command, IsImage, IsImagedInput}
 use Rattle.command_base.proofs.ToldLaws.{done-told}
 
 -- what is said of a text whose board the symmetry fits is an answer
@@ -48,20 +40,14 @@ module _ (s : Symmetry) (file : TableFile) (w h : ℕ) (wide : w ≡ file.board.
       ≡ table_image s w h file.table
       → root ≡ root_image s w h file.root
       → record { kind = file.kind; board = board; table = table; root = root; moves = file.moves } ≡ file_image s file
-  image-made board table root boards tables roots =
-      let nodes : table ≡ table_image s file.board.width file.board.height file.table = tables
-      ∙ (λ i. table_image s (wide i) (high i) file.table) in
-      let start : root ≡ root_image s file.board.width file.board.height file.root = roots
-      ∙ (λ i. root_image s (wide i) (high i) file.root) in
-      λ i. record { kind = file.kind; board = boards i; table = nodes i; root = start i; moves = file.moves }
+  image-made board table root boards tables roots = search rules
 
 -- it has a text
 pub image-writable : (s : Symmetry) (file made : TableFile) (bytes : List ℕ) → IsTextOfTable file bytes
     → fits s file.board.width file.board.height ≡ true
     → made ≡ file_image s file → TableOnBoard made.board made.table × RootFits made.board made.table made.root made.moves
 image-writable s file made bytes read fit is =
-    subst (λ (f : TableFile). TableOnBoard f.board f.table × RootFits f.board f.table f.root f.moves) (sym is)
-    (image-named s file.board fit file.table read.on_board, image-root s file.board fit file.table file.root file.moves read.root)
+    rw is (image-named s file.board fit file.table read.on_board, image-root s file.board fit file.table file.root file.moves read.root)
 
 -- what is written is the text of the image
 pub image-written : (s : Symmetry) (file made : TableFile) (bytes text : List ℕ) → IsTextOfTable file bytes
@@ -72,7 +58,7 @@ image-written s file made bytes text read lawful moves fit is written = record {
   fitting = fit;
   ends = refl;
   image = record {
-    text = subst (λ (f : TableFile). IsTextOfTable f text) is written;
+    text = rw is at written;
     lawful = (keeps_positions s file.board read.board fit file.kind).1 lawful;
     moves = moves ∙ sym (file-root s file bytes read fit).same_depth;
   };

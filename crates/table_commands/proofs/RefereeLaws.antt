@@ -1,32 +1,23 @@
 -- The command `referee`: its words, its answers, and what its runs show.
-use Rattle.std.proofs.Common.{◌≡◌, inl, inr, refl, sym, ap, subst, ◌∙◌, ◌⊎◌, ℕ, List, get_or, arith, Some, IfSome}
-use Rattle.game_rules.proofs.Common.{Grid}
-use Rattle.game_rules.specs.declared.RuleKind.{RuleKind}
+use Rattle.std.proofs.Common.{rules, ◌≡◌, inl, inr, sym, ap, subst, ◌∙◌, ◌⊎◌, ℕ, List, Some, IfSome}
 use Rattle.strategy_graph.proofs.Common.{AcceptedRoot}
-use Rattle.game_referee.specs.declared.ReplayAnswer.{ReplayAnswer}
-use Rattle.game_referee.specs.declared.ReplayAnswer.TheVariants.{Follows, Departs}
+use Rattle.game_referee.specs.declared.ReplayAnswer.TheVariants.{Follows}
 use Rattle.game_referee.specs.Followers.{GoesByRoot, IsPlayed, NeverLoses, side_of}
 use Rattle.game_referee.specs.Replays.{replay}
 use Rattle.game_referee.proofs.Following.{follower-never-loses, games-go-by-root}
 use Rattle.position_files.specs.declared.GameFile.{GameFile}
-use Rattle.position_files.specs.declared.TableFile.{TableFile}
-use Rattle.position_files.proofs.ReadBack.{game-read-back}
-use Rattle.renju_io.specs.Files.{Files}
-use Rattle.renju_io.specs.Told.{Takes}
-use Rattle.command_base.specs.declared.status.Status.{Status}
-use Rattle.command_base.specs.declared.status.Status.TheVariants.{Done}
-use Rattle.command_base.specs.Statuses.{status_number}
-use Rattle.command_base.specs.Runs.{IsAskedOnly, Run, IsUnbegun}
-use Rattle.strategy_checker.specs.HeldRoots.{HeldTable}
-use Rattle.file_loading.specs.Loading.{HoldsFile}
-use Rattle.file_loading.specs.declared.loading.Holdable.TheVariants.{Table}
-use Rattle.command_base.specs.Told.{AnswersTold, EndsTold, IsTold, IsYielded}
-use Rattle.command_base.specs.Refusals.{IsRefusedText}
-use Rattle.file_loading.specs.TableFiles.{IsTableAt}
-use Rattle.file_loading.specs.HeldFiles.{IsFit, IsFitFile, IsUnhinderedShelf, TableFileSays, TellsFile}
+use Rattle.table_commands.proofs.Common.{TableFile, Files, Takes, Status, Done, status_number, Run, IsTold, IsFit, TableFileSays}
 use Rattle.table_commands.proofs.Common.{ComparesSays, HasGameFault, HeldSays, IsGameAt, IsRefereeWith, RefereeSays, RefereesByFile}
 use Rattle.table_commands.proofs.Common.{IsJudgedInput, ShowsGame, TellsTable, compares_command, of_game, referee_command, replay_line}
 use Rattle.table_commands.proofs.Common.{verdict_on}
+use Rattle.position_files.proofs.ReadBack.{game-read-back}
+use Rattle.command_base.specs.Runs.{IsAskedOnly, IsUnbegun}
+use Rattle.strategy_checker.specs.HeldRoots.{HeldTable}
+use Rattle.file_loading.specs.Loading.{HoldsFile}
+use Rattle.file_loading.specs.declared.loading.Holdable.TheVariants.{Table}
+use Rattle.command_base.specs.Told.{AnswersTold, EndsTold, IsYielded}
+use Rattle.command_base.specs.Refusals.{IsRefusedText}
+use Rattle.file_loading.specs.HeldFiles.{IsFitFile, IsUnhinderedShelf, TellsFile}
 use Rattle.command_base.proofs.ToldLaws.{IsWhole, answers-by, by-end, ends-map, every-told, given-told, where-told, whole-or-yielded}
 use Rattle.file_loading.proofs.TableFileLaws.{one-table}
 use Rattle.file_loading.proofs.HeldFileLaws.{found-under, not-told, same-bytes, table-not_told, delivered-other, not-other}
@@ -76,9 +67,8 @@ compares-answers name file bytes can status text (inr said) = said.2.ends
 by-file : (name : List ℕ) (run : Run) (files : Files) → run.shelf.before ≡ Some files → (file : TableFile) → IsFitFile name files file
     → (by : RefereesByFile name run) → EndsTold (ComparesSays file) run.input run.output run.status
 by-file name run files told file fit by =
-    let at = subst (λ (l : List ℕ). IsTableAt by.file l) (same-bytes name run files told fit.bytes fit.found by.bytes by.loaded) by.at in
-    subst (λ (f : TableFile). EndsTold (ComparesSays f) run.input run.output run.status)
-    (one-table file by.file fit.bytes fit.at at) by.ends
+    let at = rw (same-bytes name run files told fit.bytes fit.found by.bytes by.loaded) at by.at in
+    rw (one-table file by.file fit.bytes fit.at at) at by.ends
 
 answers-end : (name : List ℕ) (run : Run)
     → RefereesByFile name run ⊎ TellsFile TableFileSays name run ⊎ IsUnbegun run.input run.output run.status
@@ -97,41 +87,23 @@ referee-with-answers name run is = answers-end name run is.ends
 
 -- ---- what is shown
 
--- the lines of the table tell which it is
-follows-told : (answer : ReplayAnswer) → replay_line answer ≡ replay_line Follows → answer ≡ Follows
-follows-told Follows e = refl
-follows-told (Departs n) e = let letter : 100 ≡ 102 = ap (λ (l : List ℕ). get_or l 6 0) e in absurd (omega (arith, letter))
-
 module _ (file : TableFile) (game : GameFile) (fit : IsFit file) where
   -- where the line says that the table is followed, its root is accepted, and the game follows it
   followed-by : (second : List ℕ) → TellsTable file game.kind game.board game.moves second → second ≡ replay_line Follows
       → AcceptedRoot game.kind file.table file.root game.board × (replay game.kind file.table file.root game.board game.moves ≡ Follows)
-  followed-by second (inl replayed) follows = (
-    subst (λ (b : Grid). AcceptedRoot game.kind file.table file.root b) replayed.same_board
-        (subst (λ (k : RuleKind). AcceptedRoot k file.table file.root file.board) replayed.same_rule fit.accepted),
-    follows-told _ (sym replayed.told ∙ follows),
-  )
-  followed-by second (inr apart) follows =
-      let letter : 97 ≡ 102 = ap (λ (l : List ℕ). get_or l 6 0) (sym apart.told ∙ follows) in absurd (omega (arith, letter))
+  followed-by second h follows = search rules
 
   kept-by : (second : List ℕ) → TellsTable file game.kind game.board game.moves second → second ≡ replay_line Follows
       → NeverLoses game.kind (side_of file.root game.board) game.board game.moves
-  kept-by second tells follows =
-      let is = followed-by second tells follows in
-      follower-never-loses game.kind file.table file.root game.board game.moves is.0 is.1
+  kept-by second tells follows = search (rules, followed-by, follower-never-loses)
 
   goes-by : (second : List ℕ) → TellsTable file game.kind game.board game.moves second → second ≡ replay_line Follows
       → IsPlayed (verdict_on game) → GoesByRoot game.kind file.table file.root game.board game.moves
-  goes-by second tells follows played =
-      let is = followed-by second tells follows in
-      games-go-by-root game.kind file.table file.root game.board game.moves is.0 is.1 played
+  goes-by second tells follows played = search (rules, followed-by, games-go-by-root)
 
 -- the status of an answer is the only one that is zero
 not-yielded : (n : ℕ) → n ≡ status_number Done → IsYielded n → ⊥
-not-yielded n zero (inl long) = let e = sym zero ∙ long in cc
-not-yielded n zero (inr (inl memory)) = let e = sym zero ∙ memory in cc
-not-yielded n zero (inr (inr (inl read))) = let e = sym zero ∙ read in cc
-not-yielded n zero (inr (inr (inr write))) = let e = sym zero ∙ write in cc
+not-yielded n h k = search rules
 
 -- what the statuses of `referee` show
 pub verdict-shown : (run : Run) → IsTold RefereeSays run → IfSome run.input.before (λ input. IsJudgedInput input run)
@@ -171,8 +143,7 @@ module _ (name : List ℕ) (run : Run) (done : run.status ≡ status_number Done
             found = found-under name run files told by.bytes by.loaded;
             fits = by.fits;
             at = by.at;
-            fit =
-                by.fit;
+            fit = by.fit;
           };
           game = said.0;
           at = said.1;

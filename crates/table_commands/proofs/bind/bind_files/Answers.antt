@@ -1,12 +1,9 @@
 -- File by file, up to the first that is not added.
-use Rattle.std.proofs.Common.{◌∙◌, ◌+◌, suc, refl, ap, sym, subst, map, take, drop, ℕ, List, arith, string_bytes, Option}
+use Rattle.std.proofs.Common.{◌∙◌, ◌+◌, suc, refl, ap, sym, map, take, drop, ℕ, arith, string_bytes}
 use Rattle.std.proofs.lemmas.List.{length-map}
-use Rattle.renju_io.specs.Files.{Files}
 use Rattle.renju_io.proofs.AskedCalls.{few_more, few_then}
 use Rattle.command_base.specs.Runs.{change}
-use Rattle.command_base.specs.declared.answer.Answer.{Answer}
-use Rattle.table_commands.proofs.Common.{IsBindable, IsAdded}
-use Rattle.table_commands.proofs.BindLaws.{BoundUpTo, names-are, names-before, names-more, room-left, says-book, says-stop, some-left}
+use Rattle.table_commands.proofs.BindLaws.{names-are, names-before, names-more, room-left, says-book, says-stop, some-left}
 use Rattle.table_commands.proofs.BindLaws.{told-from, up-to-all, up-to-more}
 use Rattle.table_commands.proofs.bind.bind_files.Goals as goal
 
@@ -19,9 +16,7 @@ add_file-requires g c = record {
 
 pub returns-in-Some-clause-says : goal.returns-in-Some-clause-says
 returns-in-Some-clause-says g c =
-    let added = subst (λ (o : Option Answer). IsAdded
-    (change g.F.Shelf.files g.F.Shelf.faults g.F.Shelf.asked c.loop-before.shelf c.add_file.new.shelf)
-    (c.loop-before.before + 1) c.as_str.result.now c.loop-before.binder c.add_file.new.binder o) c.in-Some.is c.in_ok-added.ensures.added in
+    let added = rw c.in-Some.is at c.in_ok-added.ensures.added in
     says-stop (change g.F.Shelf.files g.F.Shelf.faults g.F.Shelf.asked c.args.shelf.now c.add_file.new.shelf)
     (map string_bytes c.args.names.now)
     (map string_bytes (take c.loop-before.before c.args.names.now)) (map string_bytes (drop (suc c.loop-before.before) c.args.names.now))
@@ -30,27 +25,23 @@ returns-in-Some-clause-says g c =
     c.index-names-before.is c.as_str.ensures.value)
     (c.loop-before.before + 1) c.add_file.new.binder c.in-Some.told
     (ap (λ (k : ℕ). k + 1) (sym
-    (names-before string_bytes c.args.names.now c.loop-before.before c.index-names-before.result c.as_str.result.now
-    c.loop-before-test.true c.index-names-before.is c.as_str.ensures.value)))
+    (names-before string_bytes c.args.names.now c.loop-before.before c.index-names-before.result c.as_str.result.now c.loop-before-test.true
+    c.index-names-before.is c.as_str.ensures.value)))
     (told-from (change g.F.Shelf.files g.F.Shelf.faults g.F.Shelf.asked c.loop-before.shelf c.add_file.new.shelf)
-    (change g.F.Shelf.files g.F.Shelf.faults g.F.Shelf.asked c.args.shelf.now c.add_file.new.shelf)
-    c.loop-before.invariant.files c.loop-before.invariant.faults refl (c.loop-before.before + 1) c.as_str.result.now c.loop-before.binder
-    c.add_file.new.binder c.in-Some.told added)
+    (change g.F.Shelf.files g.F.Shelf.faults g.F.Shelf.asked c.args.shelf.now c.add_file.new.shelf) c.loop-before.invariant.files
+    c.loop-before.invariant.faults refl (c.loop-before.before + 1) c.as_str.result.now c.loop-before.binder c.add_file.new.binder
+    c.in-Some.told added)
 
 pub loop-before-preserved : goal.loop-before-preserved
 loop-before-preserved g c =
-    let added = subst (λ (o : Option Answer). IsAdded
-    (change g.F.Shelf.files g.F.Shelf.faults g.F.Shelf.asked c.loop-before.shelf c.add_file.new.shelf)
-    (c.loop-before.before + 1) c.as_str.result.now c.loop-before.binder c.add_file.new.binder o) c.in-None.is c.in_ok-added.ensures.added in
+    let added = rw c.in-None.is at c.in_ok-added.ensures.added in
     record {
       so_far =
-          subst (λ (ws : List (List ℕ)). BoundUpTo (g.F.Shelf.files c.args.shelf.now) ws c.add_file.new.binder)
-          (sym (names-more string_bytes c.args.names.now c.loop-before.before c.index-names-before.result c.as_str.result.now
-          c.loop-before-test.true c.index-names-before.is c.as_str.ensures.value))
+          rw (names-more string_bytes c.args.names.now c.loop-before.before c.index-names-before.result c.as_str.result.now
+          c.loop-before-test.true c.index-names-before.is c.as_str.ensures.value)
           (up-to-more (g.F.Shelf.files c.args.shelf.now) (map string_bytes (take c.loop-before.before c.args.names.now))
-          c.loop-before.binder
-          c.loop-before.invariant.so_far c.as_str.result.now added.0 c.add_file.new.binder
-          (subst (λ (o : Option Files). IsBindable o c.as_str.result.now added.0) c.loop-before.invariant.files added.1) added.3);
+          c.loop-before.binder c.loop-before.invariant.so_far c.as_str.result.now added.0 c.add_file.new.binder
+          (rw c.loop-before.invariant.files at added.1) added.3);
       files = c.add_file.ensures.files ∙ c.loop-before.invariant.files;
       faults = added.2 ∙ c.loop-before.invariant.faults;
       each = few_then _ _ _ _ _ _ c.loop-before.invariant.each c.in_ok-added.ensures.each (omega arith);

@@ -1,7 +1,5 @@
-use Rattle.std.proofs.Common.{inl, inr, refl, subst}
+use Rattle.std.proofs.Common.{inl, inr, refl}
 use Rattle.file_loading.specs.HeldFiles.{TableFileSays}
-use Rattle.file_loading.specs.Loading.{IsLoadedFrom}
-use Rattle.file_loading.specs.declared.loading.Holdable.TheVariants.{Table}
 use Rattle.file_loading.proofs.HeldFileLaws.{told-sound}
 use Rattle.table_commands.proofs.RefereeLaws.{referees-by-file}
 use Rattle.table_commands.proofs.referee.referee_with.Goals as goal
@@ -9,7 +7,7 @@ use Rattle.table_commands.proofs.referee.referee_with.Goals as goal
 pub returns-in-Ok-Holds-clause-referees : goal.returns-in-Ok-Holds-clause-referees
 returns-in-Ok-Holds-clause-referees g c = λ words.
     referees-by-file c.args.file.now _ c.in-Ok-Holds.held c.load_file.ensures.once
-    (subst (IsLoadedFrom Table _ c.args.file.now) c.in-Ok-Holds.field-0-is c.in-Ok-Holds.ensures.loaded) c.tell.ensures.ends
+    (rw c.in-Ok-Holds.field-0-is at c.in-Ok-Holds.ensures.loaded) c.tell.ensures.ends
 
 pub returns-in-Ok-Tells-clause-referees : goal.returns-in-Ok-Tells-clause-referees
 returns-in-Ok-Tells-clause-referees g c = λ words. record {
@@ -17,7 +15,7 @@ returns-in-Ok-Tells-clause-referees g c = λ words. record {
   ends = inr (inl (record {
     status = c.in-Ok-Tells.answer.status;
     text = c.in-Ok-Tells.answer.text;
-    why = subst (IsLoadedFrom Table _ c.args.file.now) c.in-Ok-Tells.field-0-is c.in-Ok-Tells.ensures.loaded;
+    why = rw c.in-Ok-Tells.field-0-is at c.in-Ok-Tells.ensures.loaded;
     input = record { same = refl; faults = refl; asked = refl };
     delivered = rw (← c.as_slice.ensures.value) c.deliver.ensures.delivered;
   }));
@@ -26,5 +24,5 @@ returns-in-Ok-Tells-clause-referees g c = λ words. record {
 pub returns-in-Ok-Tells-clause-loads : goal.returns-in-Ok-Tells-clause-loads
 returns-in-Ok-Tells-clause-loads g c =
     told-sound TableFileSays _ c.args.file.now c.in-Ok-Tells.answer.status c.in-Ok-Tells.answer.text _ _
-    (subst (IsLoadedFrom Table _ c.args.file.now) c.in-Ok-Tells.field-0-is c.in-Ok-Tells.ensures.loaded)
+    (rw c.in-Ok-Tells.field-0-is at c.in-Ok-Tells.ensures.loaded)
     (rw c.as_slice.ensures.value at c.deliver.ensures.delivered)
