@@ -1,8 +1,8 @@
 -- What is said of the position of a text, by the step of `solve` that decides.
-use Rattle.std.proofs.Common.{◌≡◌, true, false, ◌↔◌, inl, inr, ℕ, ◌<◌, ◌≤◌, sym, subst, ◌∙◌, List, length}
-use Rattle.std.proofs.Common.{arith, Result, Ok, Err, IfOk, Some, None}
+use Rattle.std.proofs.Common.{◌≡◌, true, false, ◌↔◌, inl, inr, ℕ, ◌<◌, ◌≤◌, ◌∙◌, List, length}
+use Rattle.std.proofs.Common.{arith, Result, Ok, Err, IfOk, Some, None, rules}
 use Rattle.std.proofs.lemmas.Bool.{true_from_ne_false}
-use Rattle.game_rules.proofs.Common.{has_threat, Grid}
+use Rattle.game_rules.proofs.Common.{Grid}
 use Rattle.game_rules.proofs.Games.{WinsUnder-more}
 use Rattle.game_rules.specs.declared.RuleKind.{RuleKind}
 use Rattle.strategy_graph.specs.declared.Node.{Node}
@@ -11,7 +11,6 @@ use Rattle.strategy_compiler.proofs.Common.{IsWrittenWin}
 use Rattle.strategy_compiler.proofs.Growing.{win-within}
 use Rattle.four_search.specs.declared.fewest.FourTable.{FourTable}
 use Rattle.four_search.specs.declared.fewest.FewestWin.{FewestWin}
-use Rattle.four_search.specs.declared.fewest.FewestWin.TheVariants.{Win as Found, None as NoFours, Spent as FoursOver}
 use Rattle.four_search.specs.FewestWins.{IsFewestWin, IsFoundTable, win_of}
 use Rattle.threat_moves.specs.declared.threat_list.Threat.{Threat}
 use Rattle.line_proof.specs.Lines.{line_wins, line_tree}
@@ -32,23 +31,16 @@ use Rattle.position_commands.proofs.Searches.{four-text, wins-last}
 -- a line that is proved wins
 pub line-proved : (rule : RuleKind) (line : List Threat) (n : ℕ) (b : Grid) (a : LineAnswer) (win : WrittenWin) → a ≡ Proved win
     → (a ≡ Fails) ↔ (line_wins rule line n b ≡ false) → line_wins rule line n b ≡ true
-line-proved rule line n b a win e fails =
-    true_from_ne_false (line_wins rule line n b) (λ f. let no : Proved win ≡ Fails = sym e ∙ fails.1 f in absurd (cc))
+line-proved rule line n b a win e fails = search (rules, true_from_ne_false)
 
 -- what the first step finds: the table of a win by fours, or that there is none for which the budget is enough
 pub win-found : (rule : RuleKind) (limit nodes : ℕ) (b : Grid) (found : FewestWin) (made : FourTable) → IsFewestWin rule limit nodes b found
     → win_of found ≡ Some made → IsFoundTable rule limit nodes b made
-win-found rule limit nodes b (Found table) made is e =
-    let same : table ≡ made = cc in
-    subst (λ (t : FourTable). IsFoundTable rule limit nodes b t) same is
-win-found rule limit nodes b NoFours made is e = absurd (cc)
-win-found rule limit nodes b FoursOver made is e = absurd (cc)
+win-found rule limit nodes b found made is e = search rules
 
 pub win-missed : (rule : RuleKind) (limit nodes : ℕ) (b : Grid) (found : FewestWin) → IsFewestWin rule limit nodes b found
     → win_of found ≡ None → ¬ IsWonByFours limit nodes (file_at rule b)
-win-missed rule limit nodes b (Found table) is e won = cc
-win-missed rule limit nodes b NoFours is e won = is.no_win won.wins
-win-missed rule limit nodes b FoursOver is e won = let enough = won.enough in omega (arith, is, enough)
+win-missed rule limit nodes b found is e won = search rules
 
 -- the text of the table of a win of the first step is what is said
 pub first-says : {E : Type 0} (r : Result Answer E) (limit nodes : ℕ) (rule : RuleKind) (b : Grid) (made : FourTable)
@@ -80,8 +72,8 @@ module _ {E : Type 0} (r : Result Answer E) (limit nodes : ℕ) (rule : RuleKind
       → ((limit : ℕ) → IsWrittenWin rule limit b compiled win → IsShortWinText limit (length compiled) (file_at rule b) a.text)
       → IsShortWinText limit (length compiled) (file_at rule p) a.text
   written-text a is shown =
-      let at : IsWrittenWin rule limit b compiled win = subst (λ (c : Grid). IsWrittenWin rule limit c compiled win) (sym there) is in
-      subst (λ (c : Grid). IsShortWinText limit (length compiled) (file_at rule c) a.text) there (shown limit at)
+      let at = rw (← there) at is in
+      rw there at (shown limit at)
 
   -- that of the second step is what is said, where the first has none
   pub line-says : (line : List Threat) → IsWrittenWin rule limit p compiled win → length compiled ≤ line_tree rule line limit p
@@ -147,11 +139,4 @@ module _ (a : Answer) (limit nodes : ℕ) (file : PositionFile) where
 -- a win that is found within fewer moves is one within more, and no more nodes are written
 pub longer-win : (rule : RuleKind) (n m nodes : ℕ) (b : Grid) (t : List Node) (win : WrittenWin) → n ≤ m
     → IsToldByThreats rule n nodes b (Win t win) → IsToldByThreats rule m nodes b (Win t win)
-longer-win rule n m nodes b t win few is = (
-  record {
-    written = win-within rule n m b t win few is.0.written;
-    by_threats = WinsUnder-more (has_threat rule) rule n m b few is.0.by_threats;
-    within = is.0.within;
-  },
-  let more = wins-more rule n m b few in let short = is.1 in omega (arith, more, short),
-)
+longer-win rule n m nodes b t win few is = search (rules, win-within, WinsUnder-more, wins-more)

@@ -1,6 +1,5 @@
 -- The command `solve`: its words, its answers, and what its statuses show.
-use Rattle.std.proofs.Common.{◌≡◌, inl, inr, sym, ap, ◌∙◌, ◌⊎◌, ℕ, List, length, arith, IfSome}
-use Rattle.game_rules.proofs.Common.{has_five}
+use Rattle.std.proofs.Common.{◌≡◌, inl, inr, sym, ap, ◌∙◌, ◌⊎◌, ℕ, List, length, arith, IfSome, rules}
 use Rattle.game_rules.proofs.Games.{WinsUnder-more}
 use Rattle.position_files.specs.declared.PositionFile.{PositionFile}
 use Rattle.renju_io.specs.Told.{Takes}
@@ -18,21 +17,12 @@ use Rattle.position_commands.proofs.Searches.{text-wins}
 -- what is said of a position for which the budget is enough is an answer
 pub solve-answers : (limit nodes : ℕ) (file : PositionFile) → (solve_command limit nodes).IsEnough file → (status : Status) (text : List ℕ)
     → SolutionSays limit nodes file status text → (solve_command limit nodes).IsAnswer status
-solve-answers limit nodes file few status text (inl first) = inl first.found.ends
-solve-answers limit nodes file few status text (inr (inl line)) = inl line.ends
-solve-answers limit nodes file few status text (inr (inr (inl threats))) = inl threats.ends
-solve-answers limit nodes file few status text (inr (inr (inr (inl unwon)))) = inr (inl unwon.ends)
-solve-answers limit nodes file few status text (inr (inr (inr (inr (inl undecided))))) =
-    let more = undecided.more in absurd (omega (arith, few, more))
-solve-answers limit nodes file few status text (inr (inr (inr (inr (inr great))))) = inr (inr great.ends)
+solve-answers limit nodes file few status text h = search rules
 
 -- a win that `fours` finds is one of the first step
 first-won : (limit nodes : ℕ) (file : PositionFile) (status : Status) (text : List ℕ) → IsFoundWin limit nodes file status text
     → IsWonByFours limit nodes file
-first-won limit nodes file status text found = record {
-  wins = WinsUnder-more (has_five file.kind) file.kind found.win.moves limit file.board found.win.within found.win.fewest.wins;
-  enough = found.enough;
-}
+first-won limit nodes file status text found = search (WinsUnder-more)
 
 -- ---- the statuses
 
@@ -45,13 +35,7 @@ module _ (limit nodes : ℕ) (run : Run) where
     -- the table that is written wins within the limit
     writes : (win : IsWinText limit file text) → IsWonByAStep limit nodes file (length win.table)
         → WritesSolution limit nodes file run.output
-    writes win way = record {
-      text = text;
-      win = win;
-      way = way;
-      whole = whole;
-      wins = text-wins limit file text win;
-    }
+    writes win way = search (text-wins)
 
     done-solved : run.status ≡ 0 → (win : IsWinText limit file text) → IsWonByAStep limit nodes file (length win.table)
         → IsSolved limit nodes file run

@@ -1,10 +1,6 @@
-use Rattle.std.proofs.Common.{sym, subst, ◌∙◌, IfOk}
+use Rattle.std.proofs.Common.{sym, ◌∙◌}
 use Rattle.game_rules.specs.Grid.{Grid}
-use Rattle.position_files.specs.Tables.{IsTextOfTable}
 use Rattle.four_search.specs.FewestWins.{IsFoundTable}
-use Rattle.position_commands.specs.Fours.{table_at}
-use Rattle.solve_command.specs.Solves.{IsWonByFours}
-use Rattle.command_base.proofs.PositionLaws.{file_at}
 use Rattle.solve_command.proofs.Solutions.{first-says, win-found, win-missed}
 use Rattle.solve_command.proofs.solve.by_fours.Goals as goal
 
@@ -18,8 +14,7 @@ returns-in-Some g c =
     (sym c.win.ensures.win ∙ c.in-Some.is) in
     record {
       says = first-says c.table_text.result c.args.depth c.args.nodes rule b win is c.table_text.ensures.status
-          (subst (λ (w : Grid). IfOk c.table_text.result (λ a. IsTextOfTable (table_at (file_at rule w) win.moves win.table) a.text))
-          (c.board.ensures.board ∙ c.in_ok-fewest_win.ensures.same) c.table_text.ensures.text);
+          (rw (c.board.ensures.board ∙ c.in_ok-fewest_win.ensures.same) at c.table_text.ensures.text);
     }
 
 pub by_line-requires-clause-no_fours : goal.by_line-requires-clause-no_fours
@@ -27,4 +22,4 @@ by_line-requires-clause-no_fours g c =
     let rule = g.R.Rule.KIND in
     let missed = win-missed rule c.args.depth c.args.nodes c.args.position c.in_ok-fewest_win.field-0 c.in_ok-fewest_win.ensures.found
     (sym c.win.ensures.win ∙ c.in-None.is) in
-    subst (λ (w : Grid). ¬ IsWonByFours c.args.depth c.args.nodes (file_at rule w)) (sym c.in_ok-fewest_win.ensures.same) missed
+    rw c.in_ok-fewest_win.ensures.same missed

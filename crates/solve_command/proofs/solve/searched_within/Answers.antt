@@ -1,9 +1,4 @@
-use Rattle.std.proofs.Common.{◌<◌, ◌+◌, ◌∙◌, subst, ap, List, length, length-append, arith, Err, min}
-use Rattle.strategy_graph.specs.declared.Node.{Node}
-use Rattle.strategy_graph.specs.declared.TheConstants.{MAX_NODES}
-use Rattle.threat_game.proofs.Common.{IsThreatWin}
-use Rattle.proof_number.proofs.Common.{OnWin, threat_wins}
-use Rattle.proof_number.specs.declared.answer.ProofAnswer.{ProofAnswer}
+use Rattle.std.proofs.Common.{◌<◌, ◌+◌, ◌∙◌, ap, length, length-append, arith, Err}
 use Rattle.solve_command.proofs.solve.searched_within.Goals as goal
 
 -- a new compiler has no nodes
@@ -12,8 +7,7 @@ returns-in-Ok-Win-clause-told g c =
     let rule = g.R.Rule.KIND in
     let b = c.args.view.now in
     let added = c.proof_number.new.compiler in
-    let is : IsThreatWin rule c.args.moves b added c.in-Ok-Win.win =
-    subst (λ (a : ProofAnswer). OnWin a (IsThreatWin rule c.args.moves b added)) c.in-Ok-Win.field-0-is c.in-Ok-Win.ensures.win in
+    let is = rw c.in-Ok-Win.field-0-is at c.in-Ok-Win.ensures.win in
     let grows = c.in-Ok-Win.ensures.leaves.writes.grows in
     let long = ap length grows.is ∙ length-append _ grows.added in
     let none = ap length c.new-compiler.ensures.empty in
@@ -38,7 +32,5 @@ pub returns-in-Err-Full-clause-told : goal.returns-in-Err-Full-clause-told
 returns-in-Err-Full-clause-told g c =
     let b = c.args.view.now in
     let more = c.in-Err-Full.ensures.leaves.writes.full (ap Err c.in-Err-Full.field-0-is) in
-    let none : MAX_NODES < 0 + min c.args.nodes (threat_wins g.R.Rule.KIND c.args.moves b) =
-    subst (λ (t : List Node). MAX_NODES < length t + min c.args.nodes (threat_wins g.R.Rule.KIND c.args.moves b))
-    c.new-compiler.ensures.empty more in
+    let none = rw c.new-compiler.ensures.empty at more in
     omega (arith, none)
