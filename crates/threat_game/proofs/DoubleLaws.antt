@@ -2,7 +2,7 @@
 -- reply,
 -- and its node a win by threats. Where no point makes two five points, a stone makes double points only on the lines through it: in the
 -- runs of any other point it plays no part.
-use Rattle.std.proofs.Common.{◌≡◌, ℕ, ◌≤◌, Bool, true, false, cond, ◌&&◌, sym, ap, ◌∙◌, arith, List, [], ◌∷◌, length, get_or, ◌+◌, not}
+use Rattle.std.proofs.Common.{◌≡◌, ℕ, ◌≤◌, Bool, true, false, cond, ◌&&◌, sym, ap, ◌∙◌, arith, List, [], ◌∷◌, length, get_or, ◌+◌}
 use Rattle.std.proofs.Common.{refl, rules}
 use Rattle.std.specs.List.{list_any, list_all, filter, AllByRecursion}
 use Rattle.game_rules.specs.declared.RuleKind.{RuleKind}
@@ -18,7 +18,6 @@ use Rattle.game_rules.proofs.Positions.{GoesOn-on, mover-then, IsPosition-after}
 use Rattle.game_rules.proofs.Points.{points-found, filter-passes, is_same_point-itself, apart-is_same_point, is_same_point-same}
 use Rattle.game_rules.proofs.Points.{taken_refused}
 use Rattle.game_rules.proofs.Places.{two_passing-apart}
-use Rattle.game_rules.proofs.ReadingOrder.{points-on}
 use Rattle.game_rules.proofs.Fives.{five-empty}
 use Rattle.game_rules.proofs.Games.{WinsUnder-more, WinsByFours-WinsByThreats, test-WinsUnder, each_reply}
 use Rattle.game_rules.proofs.PointLists.{still-found, any-filter, other_first}

@@ -1,5 +1,5 @@
 -- One reply stands for others: what is kept of all that is judged, and the win that is compiled for the one.
-use Rattle.std.proofs.Common.{◌≡◌, ℕ, ◌≤◌, ◌<◌, Bool, true, false, cond, ◌&&◌, ◌||◌, not, refl, sym, ap, subst, ◌∙◌, arith, List, []}
+use Rattle.std.proofs.Common.{◌≡◌, ℕ, ◌≤◌, ◌<◌, Bool, true, false, cond, ◌||◌, not, refl, sym, ap, subst, ◌∙◌, arith, List, []}
 use Rattle.std.proofs.Common.{◌∷◌, ◌++◌, append-nil, length-append, map, length, All, Option, Some, None, IfSome, nat_eq, rules}
 use Rattle.std.specs.List.{find, filter, list_any, sum_by, AllByRecursion}
 use Rattle.std.proofs.lemmas.Bool.{and_parts, eqb-true}

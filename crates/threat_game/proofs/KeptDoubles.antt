@@ -7,7 +7,7 @@ use Rattle.game_rules.specs.declared.RuleKind.{RuleKind}
 use Rattle.game_rules.specs.declared.Side.{Side}
 use Rattle.game_rules.specs.declared.Outcome.TheVariants.{GoesOn}
 use Rattle.game_rules.specs.declared.Point.{Point}
-use Rattle.game_rules.proofs.Common.{Grid, IsPosition, is_empty, put, outcome, mover, other, after, five, foul_of, empties_of}
+use Rattle.game_rules.proofs.Common.{Grid, IsPosition, is_empty, put, outcome, mover, other, after, foul_of, empties_of}
 use Rattle.game_rules.proofs.Common.{has_five, has_fouls, is_same_point, is_double_point, goes_on}
 use Rattle.game_rules.proofs.Boards.{and_left, and_right, empties_of-put, is_empty-on, other-other}
 use Rattle.game_rules.proofs.Fives.{five-empty}

@@ -5,7 +5,6 @@ use Rattle.strategy_graph.proofs.Common.{IsNode}
 use Rattle.strategy_graph.proofs.Filling.{IsTable-lower}
 use Rattle.strategy_compiler.proofs.Common.{winning_node}
 use Rattle.strategy_compiler.proofs.Growing.{node-stays}
-use Rattle.threat_game.proofs.Common.{standing_node}
 use Rattle.threat_game.proofs.DoubleLaws.{double-threat, double-threats}
 use Rattle.threat_game.proofs.StandingLaws.{standing-is, standing-wins}
 use Rattle.threat_game.proofs.WrittenLaws.{threat-win}

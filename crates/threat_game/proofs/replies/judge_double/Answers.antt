@@ -1,4 +1,4 @@
-use Rattle.std.proofs.Common.{◌≡◌, true, false, ap, sym, subst, ◌∙◌, All, arith, nat_eq, length, List}
+use Rattle.std.proofs.Common.{◌≡◌, true, false, ap, sym, subst, ◌∙◌, All, arith, length}
 use Rattle.std.proofs.lemmas.Bool.{eqb-true}
 use Rattle.game_rules.proofs.Common.{Grid, has_five, mover, other, after}
 use Rattle.threat_game.proofs.Common.{IsStillKept, AreStopped, IsBeside, IsJudged}

@@ -1,4 +1,4 @@
-use Rattle.std.proofs.Common.{◌≡◌, ◌∙◌, true, ap, sym, subst, arith}
+use Rattle.std.proofs.Common.{◌≡◌, ◌∙◌, true, ap, subst, arith}
 use Rattle.threat_game.specs.declared.replies.Judged.{Judged}
 use Rattle.threat_game.proofs.Common.{moves_for, stands_for}
 use Rattle.threat_game.proofs.Kept.{last-stands, standing-double, standing-five, two-stands}
