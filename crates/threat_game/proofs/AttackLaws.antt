@@ -119,7 +119,7 @@ module _ (rule : RuleKind) (b : Grid) (p : Point) where
   no_threat-passed h = search rules
 
   -- a five point of the other side saves it
-  saved-by-five : IsPosition rule b → is_threat_move rule b p ≡ true → has_five rule (after b p) (other (mover b)) ≡ true
+  pub saved-by-five : IsPosition rule b → is_threat_move rule b p ≡ true → has_five rule (after b p) (other (mover b)) ≡ true
       → has_saving rule (after b p) ≡ true
   saved-by-five lawful threat some =
       let on = threat-goes_on rule b p threat in

@@ -12,6 +12,8 @@ pub mod Kept
 pub mod DoubleLaws
 -- the node of a double point that answers all replies
 mod StandingLaws
+-- two moves against a side without fouls
+mod TwoMoves
 -- moves where each goes on; where an escape meets each of them there is no win
 mod FreeMoves
 -- where new double points can be, and the stones around a point as bits

@@ -5,3 +5,4 @@ pub mod NearDoubles
 pub mod QuietPoints
 pub mod Replies
 pub mod Wins
+pub mod TwoMoves

@@ -119,7 +119,7 @@ fn find_double<R: Rule, V: Seen<R>>(
 }
 
 /// The points where a stone of the side to move leaves it two five points or more, in reading order. It has none.
-fn all_twos<R: Rule, V: Seen<R>>(alloc: Global, view: &V) -> Result<Points, AllocError>
+pub(crate) fn all_twos<R: Rule, V: Seen<R>>(alloc: Global, view: &V) -> Result<Points, AllocError>
     requires none { has_five_lem R.KIND (V.position view.now) (mover (V.position view.now)) ≡ false }
     ensures twos { IfOk result (λ twos. twos ≡ points_of_two R.KIND (V.position view.now) (mover (V.position view.now))) }
 {

@@ -6,17 +6,18 @@
 #![tactic(auto)]
 
 ghost use Rattle.std.specs.Prelude.{◌≡◌, false, All, IfOk, IsTrue};
-ghost use Rattle.game_rules.specs.Play.{outcome as outcome_lem, mover, other, after};
+ghost use Rattle.game_rules.specs.Play.{IsPosition, has_fouls, outcome as outcome_lem, mover, other, after};
 ghost use Rattle.game_rules.specs.Games.{WinsByThreats, has_five as has_five_lem, five_points as five_points_lem};
 ghost use Rattle.game_rules.specs.declared.Outcome.{Outcome};
+ghost use Rattle.threat_game.specs.TwoMoves.{counters as counters_lem};
 ghost use Rattle.threat_game.specs.Replies.{EscapesBy, HasEscape};
 
-use crate::attacks::{Attacks, find_attacks, goes_on};
+use crate::attacks::{Attacks, all_twos, find_attacks, goes_on};
 use crate::replies::{five_beside, last_after};
 use foul_judge::Seen;
-use row_shapes::Rule;
+use row_shapes::{FivePoints, Rule, takes};
 use std::alloc::{AllocError, Global};
-use stone_board::{Board, Point, Points};
+use stone_board::{Board, Point, Points, Side};
 use threat_moves::fives;
 
 /// Whether there is no win within two moves after the reply `q`, which goes on and leaves the attacker no five point.
@@ -55,10 +56,57 @@ fn fails<R: Rule, V: Seen<R>>(
     ensures same { V.position view.new ≡ V.position view.old }
     ensures same_board { board.new ≡ board.old }
 {
+    let defender = view.side().other();
+    if !R::has_fouls(defender) {
+        return has_no_double::<R, V>(alloc, view, defender);
+    }
     match find_attacks::<R, V>(alloc, view, board)? {
         Attacks::DoublePoint(_) | Attacks::NoReply(_) => Ok(false),
         Attacks::Moves(moves) => each_fails::<R, V>(alloc, view, board, moves.as_slice()),
     }
+}
+
+/// Whether the attacker, which is to move and has no five point, has no move that goes on, leaves it two five points, and the other side
+/// none. Where the other side has no fouls it has no win within two moves then.
+fn has_no_double<R: Rule, V: Seen<R>>(
+    alloc: Global,
+    view: &mut V,
+    defender: Side,
+) -> Result<bool, AllocError>
+    requires none { has_five_lem R.KIND (V.position view.old) (mover (V.position view.old)) ≡ false }
+    requires calm { has_fouls R.KIND defender ≡ false }
+    requires defender { defender ≡ other (mover (V.position view.old)) }
+    requires lawful { IsPosition R.KIND (V.position view.old) }
+    ensures no_win { IfOk result (λ found. IsTrue found → ¬ WinsByThreats R.KIND 2 (V.position view.old)) }
+    ensures same { V.position view.new ≡ V.position view.old }
+{
+    let threat = view.fives_in_short(defender);
+    let twos = all_twos::<R, V>(alloc, view)?;
+    Ok(none_counters::<R, V>(view, threat, twos.as_slice()))
+}
+
+/// Whether none of the points goes on and takes these five points.
+fn none_counters<R: Rule, V: Seen<R>>(view: &mut V, threat: FivePoints, points: &[Point]) -> bool
+    ensures none { IsTrue result → All (λ p. counters_lem R.KIND (V.position view.old) threat p ≡ false) points.now }
+    ensures same { V.position view.new ≡ V.position view.old }
+{
+    for p in points {
+        if counters::<R, V>(view, threat, *p) {
+            return false;
+        }
+    }
+    true
+}
+
+/// Whether the move takes these five points and goes on.
+fn counters<R: Rule, V: Seen<R>>(view: &mut V, threat: FivePoints, p: Point) -> bool
+    ensures counters { result ≡ counters_lem R.KIND (V.position view.old) threat p }
+    ensures same { V.position view.new ≡ V.position view.old }
+{
+    if !takes(threat, p) {
+        return false;
+    }
+    goes_on::<R, V>(view, p)
 }
 
 /// Whether some reply to each of these attacks, which go on, leaves no win by one more move.
