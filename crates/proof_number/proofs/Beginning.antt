@@ -294,14 +294,7 @@ module _ {rule : RuleKind} {s : Search} {t : Tree} {c : List Node} {b : Grid} (c
     })
 
     pub begun-won : HasBegun rule s v u c d (Ok tt)
-    begun-won = record {
-      searching = won-searches;
-      aim = begun-aim s v rest;
-      board = board;
-      tree = st.tree;
-      one_node = ap length st.links ∙ one;
-      writes = writes-tells c d 1 _ win tt writes (some-won is.by_threats);
-    }
+    begun-won = search (won-searches, begun-aim, writes-tells, some-won)
 
   -- the root is lost: one move is left, and it does not win
   module _ {v : Search} {u : Tree} (rest : v ≡ record s { board = v.board }) (board : v.board ≡ s.board) (st : IsSettledAt t u 0 false)

@@ -168,7 +168,7 @@ module _ (g : GameTree) (ok : IsTree g.tree) where
     record {
       true_of = are.true_of;
       all = λ i low node. elim (cases_eq i m) [
-        | inl same ↦ absurd (none (subst (IsListedNode g) same node))
+        | inl same ↦ absurd (none (rw same at node))
         | inr other ↦ are.all i (omega (arith, low, other)) node
       ];
       few = let sum = sum-suc m (λ i. cond (is_attack (link_at g.tree.links i).kind) 1 0) in omega (arith, are.few, sum);

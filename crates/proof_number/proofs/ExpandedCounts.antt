@@ -380,11 +380,7 @@ module _ {rule : RuleKind} {s v : Search} {t u : Tree} {c nodes : List Node} {le
 
   new-unwritten : (f : ℕ → ℕ) (j : ℕ) → j < length more → unwritten f u v.notes.items (length t.links + j)
       ≡ cond (is_attack (other_kind (link_at t.links leaf).kind) && nat_eq (note_at ms j).moves 0) (f (length t.links + j)) 0
-  new-unwritten f j l =
-      ap (λ (kind : Kind). cond (is_attack kind && nat_eq (note_at v.notes.items (length t.links + j)).moves 0) (f (length t.links + j)) 0)
-      (new-link-kind j l)
-      ∙ ap (λ (n : Note). cond (is_attack (other_kind (link_at t.links leaf).kind) && nat_eq n.moves 0) (f (length t.links + j)) 0)
-      (new-note j)
+  new-unwritten f j l = search (new-link-kind, new-note)
 
   few-now : length (c ++ nodes) + sum_below (length u.links) (unwritten (λ i. 1) u v.notes.items) ≤ s.before + v.attacked
   few-now =

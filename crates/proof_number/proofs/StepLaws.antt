@@ -4,7 +4,7 @@ use Rattle.std.proofs.Common.{Err, Result}
 use Rattle.std.proofs.lemmas.List.{length-append}
 use Rattle.proof_number.proofs.Common.{Grid, RuleKind, Node, SearchError, Writes, is_settled, IsOnWayUp, IsTree, Tree, link_at}
 use Rattle.proof_number.proofs.Common.{most_proving, numbers_at, Search, Step, Done, known_searching, GameTree, IsGameTree}
-use Rattle.proof_number.proofs.Common.{board_at, Grows, HasGrown, HasSpent, HasStayed, IsSameAim, HasStepped, IsAbove, IsBack, IsPassed}
+use Rattle.proof_number.proofs.Common.{board_at, Grows, HasGrown, HasSpent, HasStayed, IsSameAim, HasStepped, IsBack, IsPassed}
 use Rattle.proof_number.proofs.Common.{KeepsTree, IsOverBudget, IsSearching, IsStep, IsTried, OnStep, Searches, StandsAt, game_of}
 use Rattle.proof_number.proofs.Common.{most_nodes, room_in, nodes_so_far}
 use Rattle.strategy_compiler.proofs.Growing.{writes-fails, writes-tells, writes-then}
@@ -188,12 +188,8 @@ keeps-aim s u keeps = search rules
 -- the root is passed
 pub root-back : {rule : RuleKind} {s u : Search} {t : Tree} {c d : List Node} {node : ℕ} {r : Result (Unit {0}) SearchError} → node ≡ 0
     → IsPassed rule s u t c d node r → s.board ≡ s.root → IsBack rule s u t c d r
-root-back {rule = rule} {s = s} {u = u} {t = t} {d = d} {node = node} {r = r} root passed board = record {
-  searching = on_ok_weaker {P = Searches rule u t d (IsAbove t.links node)} r (λ h. root-searches h root) passed.searching;
-  aim = keeps-aim s u passed.keeps;
-  board = ap (λ (w : Search). w.board) passed.keeps.rest ∙ board;
-  writes = passed.writes;
-}
+root-back {rule = rule} {s = s} {u = u} {t = t} {d = d} {node = node} {r = r} root passed board =
+    search (on_ok_weaker, root-searches, keeps-aim)
 
 -- no more nodes may be written where the board alone changes
 so-far-same : (rule : RuleKind) {s v : Search} → IsSameAim s v → v.attacked ≡ s.attacked → nodes_so_far rule v ≡ nodes_so_far rule s

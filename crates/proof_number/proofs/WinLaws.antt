@@ -4,7 +4,7 @@ use Rattle.std.proofs.Common.{◌∙◌, arith, List, [], ◌∷◌, map, filter
 use Rattle.std.specs.List.{list_any}
 use Rattle.std.proofs.lemmas.List.Sums.{sum_by-cons, sum_by-le-sum_by}
 use Rattle.proof_number.proofs.Common.{RuleKind, Outcome, GoesOn, Point, Grid, points_of, is_same_point, IsPosition, outcome, mover, after}
-use Rattle.proof_number.proofs.Common.{goes_on, has_five, if_goes_on, behind_replies, has_threat, WinsByThreats, other}
+use Rattle.proof_number.proofs.Common.{goes_on, has_five, if_goes_on, behind_replies, has_threat, WinsByThreats}
 use Rattle.proof_number.proofs.Common.{wins_by_threats, DoublePoint, Child, Judged, Five, Last, Open, IsDoubleWin, answer_nodes, one_if}
 use Rattle.proof_number.proofs.Common.{IsJudged, is_open, moves_for, nodes_for, tried_moves, is_last_move, behind_threats, threat_wins}
 use Rattle.game_rules.proofs.Common.{wins_under}
@@ -117,8 +117,7 @@ module _ (rule : RuleKind) (b : Grid) (d : DoublePoint) (lawful : IsPosition rul
       won-counts rule n c (WinsByFours-WinsByThreats rule n c (WinsUnder-more (has_five rule) rule 1 n c l fours))
 
   safe : is_safe_threat rule b d.at ≡ true
-  safe = ap (λ r. r && not (has_five rule (after b d.at) (other (mover b)))) (double-threat rule b d lawful wins)
-      ∙ ap not (still-safe rule b d.at lawful wins.on wins.safe)
+  safe = search (double-threat, still-safe)
 
   -- a win by a double point needs no more nodes than positions are won
   pub double-wins : (n : ℕ) → 2 ≤ n → 1 + answer_nodes rule b d ≤ threat_wins rule n b
