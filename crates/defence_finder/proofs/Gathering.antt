@@ -1,5 +1,5 @@
 -- What is known of the moves so far, and one more.
-use Rattle.std.proofs.Common.{◌≡◌, ℕ, ◌+◌, ◌-◌, ◌*◌, ◌≤◌, Bool, true, false, cond, refl, sym, ap, subst}
+use Rattle.std.proofs.Common.{◌≡◌, ℕ, ◌+◌, ◌-◌, ◌*◌, ◌≤◌, Bool, true, false, cond, refl, sym, ap, subst, rules}
 use Rattle.std.proofs.Common.{◌∙◌, arith, List, [], ◌∷◌, ◌++◌, map, append-nil, append_assoc, Some, find, Result, Ok, Err}
 use Rattle.std.proofs.Common.{IfOk, filter, sum_by}
 use Rattle.std.specs.List.{AllByRecursion}
@@ -21,7 +21,7 @@ use Rattle.strategy_compiler.proofs.Standing.{compiled-lower, growth_keeps-trees
 use Rattle.defence_finder.proofs.Common.{is_defence, is_beaten, is_spent, defences_of, beaten_of, first_spent, AreBeaten, IsPlanned}
 use Rattle.defence_finder.proofs.Common.{OnKnown, most_nodes, nodes_after, spent_at, AreFound, IsAdded, IsSettled, IsToldAt, IsVerdict}
 use Rattle.defence_finder.specs.declared.finder.DefenceAnswer.{DefenceAnswer}
-use Rattle.defence_finder.specs.declared.finder.DefenceAnswer.TheVariants.{Known, Spent as SpentAt}
+use Rattle.defence_finder.specs.declared.finder.DefenceAnswer.TheVariants.{Known}
 use Rattle.defence_finder.specs.declared.finder.Found.{Found}
 use Rattle.defence_finder.specs.declared.finder.Verdict.{Verdict}
 use Rattle.defence_finder.specs.declared.finder.Verdict.TheVariants.{NoReply, Holds, Beaten, Spent}
@@ -31,21 +31,11 @@ use Rattle.defence_finder.specs.declared.finder.Verdict.TheVariants.{NoReply, Ho
 module _ (rule : RuleKind) (n budget : ℕ) (b : Grid) (t u : List Node) (k : ℕ) (lower : NamesLower t) (grown : GrowsBy t u k) where
   planned-grown : (rs : List Reply) → AllByRecursion (IsPlanned rule n b t) rs → AllByRecursion (IsPlanned rule n b u) rs
   planned-grown [] h = tt
-  planned-grown (r ∷ rs) h = (
-    subst (λ (v : List Node). IsPlanned rule n b v r) (sym grown.is) (growth_keeps-trees t grown.added r.next _ h.0),
-    planned-grown rs h.1,
-  )
+  planned-grown (r ∷ rs) h = search (rules, growth_keeps-trees, planned-grown rs h.1)
 
   pub found-grown : (good : List Point) (bad : List Reply) (left : List Point) → AreFound rule n budget b t good bad left
       → AreFound rule n budget b u good bad left
-  found-grown good bad left h =
-      record {
-        good_are = h.good_are;
-        bad_are = h.bad_are;
-        each = beaten-grown rule n b t u k lower grown bad h.each;
-        planned = planned-grown bad h.planned;
-        enough = h.enough;
-      }
+  found-grown good bad left h = search (beaten-grown, planned-grown)
 
 -- ---- one move more
 
@@ -53,29 +43,18 @@ module _ (rule : RuleKind) (n budget : ℕ) (b : Grid) (t : List Node) (good : L
     (h : AreFound rule n budget b t good bad (q ∷ rest)) where
   good-is : (defence beaten : Bool) → IsSettled rule n budget b q defence beaten
       → good ++ cond defence (q ∷ filter (is_defence rule n b) rest) (filter (is_defence rule n b) rest) ≡ defences_of rule n b
-  good-is defence beaten s =
-      ap (λ (r : Bool). good ++ cond r (q ∷ filter (is_defence rule n b) rest) (filter (is_defence rule n b) rest)) (sym s.defence_is)
-      ∙ h.good_are
+  good-is defence beaten s = search rules
 
   bad-is : (defence beaten : Bool) → IsSettled rule n budget b q defence beaten
       → map (λ r. r.at) bad ++ cond beaten (q ∷ filter (is_beaten rule n b) rest) (filter (is_beaten rule n b) rest) ≡ beaten_of rule n b
-  bad-is defence beaten s =
-      ap (λ (r : Bool). map (λ r. r.at) bad ++ cond r (q ∷ filter (is_beaten rule n b) rest) (filter (is_beaten rule n b) rest))
-      (sym s.beaten_is) ∙ h.bad_are
+  bad-is defence beaten s = search rules
 
   enough-is : (defence beaten : Bool) → IsSettled rule n budget b q defence beaten
       → find (is_spent rule n budget b) rest ≡ first_spent rule n budget b
-  enough-is defence beaten s =
-      ap (λ (r : Bool). cond r (Some q) (find (is_spent rule n budget b) rest)) (sym s.enough) ∙ h.enough
+  enough-is defence beaten s = search rules
 
   pub found-none : IsSettled rule n budget b q false false → AreFound rule n budget b t good bad rest
-  found-none s = record {
-    good_are = good-is false false s;
-    bad_are = bad-is false false s;
-    each = h.each;
-    planned = h.planned;
-    enough = enough-is false false s;
-  }
+  found-none s = search (good-is, bad-is, enough-is)
 
   pub found-good : (more : List Point) → more ≡ good ++ q ∷ [] → IsSettled rule n budget b q true false
       → AreFound rule n budget b t more bad rest
@@ -97,15 +76,10 @@ module _ (rule : RuleKind) (n budget : ℕ) (b : Grid) (t : List Node) (good : L
         bad_are = ap (λ (rs : List Reply). map (λ r. r.at) rs ++ filter (is_beaten rule n b) rest) is
             ∙ ap (λ (ps : List Point). ps ++ filter (is_beaten rule n b) rest) (push-points bad r)
             ∙ append_assoc (map (λ r. r.at) bad) (q ∷ []) _ ∙ bad-is false true s;
-        each = subst (λ (rs : List Reply). AllByRecursion (IsBeatenBy rule n b t) rs) (sym is)
-            (push-all (IsBeatenBy rule n b t) bad r h.each won);
-        planned = subst (λ (rs : List Reply). AllByRecursion (IsPlanned rule n b t) rs) (sym is)
-            (push-all (IsPlanned rule n b t) bad r h.planned plan);
+        each = rw is (push-all (IsBeatenBy rule n b t) bad r h.each won);
+        planned = rw is (push-all (IsPlanned rule n b t) bad r h.planned plan);
         enough = enough-is false true s;
       }
-
-  pub found-spent : is_spent rule n budget b q ≡ true → Some q ≡ first_spent rule n budget b
-  found-spent s = ap (λ (r : Bool). cond r (Some q) (find (is_spent rule n budget b) rest)) (sym s) ∙ h.enough
 
 -- ---- the nodes that the points left may need
 
@@ -117,8 +91,7 @@ pub nodes-step : (n : ℕ) (b v : Grid) (q : Point) (qs rest : List Point) → v
     → sum_by (nodes_after n b) qs ≡ nodes_after n v q + sum_by (nodes_after n b) rest
 nodes-step n b v q qs rest same steps =
     let here : nodes_after n v q ≡ nodes_after n b q = ap (λ (w : Grid). nodes_after n w q) same in
-    let split : sum_by (nodes_after n b) qs ≡ nodes_after n b q + sum_by (nodes_after n b) rest = ap (sum_by (nodes_after n b)) steps
-    ∙ sum_by-cons (nodes_after n b) q rest in
+    let split = ap (sum_by (nodes_after n b)) steps ∙ sum_by-cons (nodes_after n b) q rest in
     omega (arith, here, split)
 
 -- ---- the walk
@@ -135,12 +108,13 @@ pub record IsWalk (rule : RuleKind) (n budget : ℕ) (b : Grid) (a t : List Node
 -- before the first move
 pub walk-first : (rule : RuleKind) (n budget : ℕ) (b : Grid) (t : List Node) → IsCompiled t → (qs : List Point) → qs ≡ points_of b
     → IsWalk rule n budget b t t [] [] qs
-walk-first rule n budget b t compiled qs are = subst (IsWalk rule n budget b t t [] []) (sym are) (record {
-  compiled = compiled;
-  found = record { good_are = refl; bad_are = refl; each = tt; planned = tt; enough = refl };
-  few = omega arith;
-  grows = grows-not t t _ refl;
-})
+walk-first rule n budget b t compiled qs are = rw are
+    (record {
+      compiled = compiled;
+      found = record { good_are = refl; bad_are = refl; each = tt; planned = tt; enough = refl };
+      few = omega arith;
+      grows = grows-not t t _ refl;
+    })
 
 -- one move more, and its verdict at the board v, which is that of the walk
 module _ (rule : RuleKind) (n budget : ℕ) (b v : Grid) (same : v ≡ b) (a t u : List Node) (good : List Point) (bad : List Reply)
@@ -171,15 +145,11 @@ module _ (rule : RuleKind) (n budget : ℕ) (b v : Grid) (same : v ≡ b) (a t u
   found-next : AreFound rule n budget b u good bad (q ∷ rest)
   found-next =
       found-grown rule n budget b t u _ (compiled-lower t walk.compiled) grown good bad (q ∷ rest)
-      (subst (λ (ps : List Point). AreFound rule n budget b t good bad ps) steps walk.found)
+      (rw steps at walk.found)
 
   module _ (x : Verdict) (verdict : IsVerdict rule n budget v u q x) where
-    verdict-is : (w : Verdict) → x ≡ w → IsVerdict rule n budget b u q w
-    verdict-is w is =
-        subst (λ (d : Grid). IsVerdict rule n budget d u q w) same (subst (λ (x : Verdict). IsVerdict rule n budget v u q x) is verdict)
-
     pub walk-spent : x ≡ Spent → Some q ≡ first_spent rule n budget b
-    walk-spent is = found-spent rule n budget b u good bad q rest found-next (verdict-is Spent is)
+    walk-spent is = search (rules, found-next)
 
 -- the move is added where it belongs
 pub walk-added : (rule : RuleKind) (n budget : ℕ) (b v : Grid) (same : v ≡ b) (a t u : List Node) (old new : Found) (q : Point)
@@ -216,35 +186,24 @@ walk-added rule n budget b v same a t u old new q qs rest steps walk grown compi
 -- after the last move
 pub walk-all : (rule : RuleKind) (n budget : ℕ) (b : Grid) (a t : List Node) (good : List Point) (bad : List Reply) (left : List Point)
     → left ≡ [] → IsWalk rule n budget b a t good bad left → AreFound rule n budget b t good bad []
-walk-all rule n budget b a t good bad left done walk =
-    subst (λ (ps : List Point). AreFound rule n budget b t good bad ps) done walk.found
+walk-all rule n budget b a t good bad left done walk = search rules
 
 -- what all points came to is told so
 pub all-told : (rule : RuleKind) (n budget : ℕ) (b : Grid) (t : List Node) (good : List Point) (bad : List Reply)
     → AreFound rule n budget b t good bad [] → IsToldAt rule n budget b t (Known good bad)
-all-told rule n budget b t good bad h = (
-  sym (append-nil good) ∙ h.good_are,
-  record { points = sym (append-nil (map (λ r. r.at) bad)) ∙ h.bad_are; each = h.each; planned = h.planned },
-  h.enough,
-)
+all-told rule n budget b t good bad h = search (rules, append-nil)
 
 -- ---- what is told, clause by clause
 
 module _ (rule : RuleKind) (n budget : ℕ) (b : Grid) (t : List Node) {E : Type 0} where
   pub told-good : (r : Result DefenceAnswer E) → IfOk r (IsToldAt rule n budget b t)
       → IfOk r (λ x. OnKnown x (λ good bad. good ≡ defences_of rule n b))
-  told-good (Err e) h = tt
-  told-good (Ok (Known good bad)) h = h.0
-  told-good (Ok (SpentAt q)) h = tt
+  told-good r h = search rules
 
   pub told-bad : (r : Result DefenceAnswer E) → IfOk r (IsToldAt rule n budget b t)
       → IfOk r (λ x. OnKnown x (λ good bad. AreBeaten rule n b t bad))
-  told-bad (Err e) h = tt
-  told-bad (Ok (Known good bad)) h = h.1
-  told-bad (Ok (SpentAt q)) h = tt
+  told-bad r h = search rules
 
   pub told-spent : (r : Result DefenceAnswer E) → IfOk r (IsToldAt rule n budget b t)
       → IfOk r (λ x. spent_at x ≡ first_spent rule n budget b)
-  told-spent (Err e) h = tt
-  told-spent (Ok (Known good bad)) h = h.2
-  told-spent (Ok (SpentAt q)) h = h
+  told-spent r h = search rules

@@ -1,9 +1,9 @@
 -- Where no move holds the other side wins, whatever is played first, and so does the start that is made of the answers.
-use Rattle.std.proofs.Common.{◌≡◌, ℕ, suc, Bool, true, false, ◌&&◌, ◌||◌, not, cond, refl, sym, ap, subst, ◌∙◌, arith}
-use Rattle.std.proofs.Common.{List, [], ◌∷◌, map, Some, IsSome, Contains, All, find, option_map}
+use Rattle.std.proofs.Common.{◌≡◌, ℕ, suc, Bool, true, false, ◌&&◌, ◌||◌, not, refl, ap, subst, ◌∙◌, arith}
+use Rattle.std.proofs.Common.{List, [], ◌∷◌, map, IsSome, Contains, All, rules}
 use Rattle.std.specs.List.{list_any, list_all, AllByRecursion}
 use Rattle.std.proofs.lemmas.List.Elements.{All-contains, All-from_recursion}
-use Rattle.game_rules.proofs.Common.{Grid, is_on, points_of, is_same_point, outcome, after, goes_on, LosesOr, WinsWithin, WinsByFours}
+use Rattle.game_rules.proofs.Common.{Grid, is_on, points_of, is_same_point, outcome, after, LosesOr, WinsWithin, WinsByFours}
 use Rattle.game_rules.proofs.Common.{wins_by_fours, has_five}
 use Rattle.game_rules.specs.declared.RuleKind.{RuleKind}
 use Rattle.game_rules.specs.declared.Outcome.{Outcome}
@@ -30,21 +30,13 @@ use Rattle.defence_finder.proofs.Common.{NoDefenceLoses, BeatenRepliesArePlanned
 -- a reply that is among those of a list is listed
 listed-some : (q : Point) (rs : List Reply) → list_any (is_same_point q) (map (λ r. r.at) rs) ≡ true → IsSome (listed_node rs q)
 listed-some q [] h = cc
-listed-some q (r ∷ rs) h = by_test (is_same_point r.at q) refl (listed-some q rs) where
-  by_test : (s : Bool) → is_same_point r.at q ≡ s
-      → (list_any (is_same_point q) (map (λ r. r.at) rs) ≡ true → IsSome (listed_node rs q))
-      → IsSome (option_map (λ r. r.next) (cond s (Some r) (find (λ r. is_same_point r.at q) rs)))
-  by_test true e rest = refl
-  by_test false e rest = rest (sym (ap (λ (w : Bool). w || list_any (is_same_point q) (map (λ r. r.at) rs)) (other_first r.at q e)) ∙ h)
+listed-some q (r ∷ rs) h = search (rules, other_first, listed-some q rs)
 
 -- ---- where no move holds
 
 module _ (rule : RuleKind) (n : ℕ) (b : Grid) (none : defences_of rule n b ≡ []) where
   undefended : (q : Point) → is_on b q ≡ true → is_defence rule n b q ≡ true → ⊥
-  undefended q on h =
-      let no : list_any (is_defence rule n b) (points_of b) ≡ false = filter-none (is_defence rule n b) (points_of b) none in
-      let yes : list_any (is_defence rule n b) (points_of b) ≡ true = points-found b (is_defence rule n b) q on h in
-      cc
+  undefended q on h = search (rules, filter-none, points-found)
 
   told : (q : Point) (o : Outcome) → outcome rule b q ≡ o → is_defence rule n b q ≡ holds_or o (not (wins_by_fours rule n (after b q)))
   told q o e = ap (λ (o : Outcome). holds_or o (not (wins_by_fours rule n (after b q)))) e
@@ -68,24 +60,13 @@ module _ (rule : RuleKind) (n : ℕ) (b : Grid) (none : defences_of rule n b ≡
   -- the answers to the beaten replies win
   module _ (t : List Node) (bad : List Reply) (beaten : AreBeaten rule n b t bad) where
     listed : (q : Point) → outcome rule b q ≡ GoesOn → list_any (is_same_point q) (map (λ r. r.at) bad) ≡ true
-    listed q e =
-        let is : is_beaten rule n b q ≡ true =
-        ap (λ (o : Outcome). goes_on o && not (holds_or o (not (wins_by_fours rule n (after b q))))) e
-        ∙ ap (λ (w : Bool). not (not w)) (beaten-on q e) in
-        let both : (is_beaten rule n b q && is_same_point q q) ≡ true =
-        ap (λ (w : Bool). w && is_same_point q q) is ∙ is_same_point-itself q in
-        ap (list_any (is_same_point q)) beaten.points
-        ∙ any-filter (is_beaten rule n b) (is_same_point q) (points_of b)
-        ∙ points-found b (λ x. is_beaten rule n b x && is_same_point q x) q (GoesOn-on rule b q e) both
+    listed q e = search (rules, beaten-on, is_same_point-itself, any-filter, points-found, GoesOn-on)
 
     each-on : (rs : List Reply) → list_all (is_beaten rule n b) (map (λ r. r.at) rs) ≡ true → AllByRecursion (IsBeatenBy rule n b t) rs
         → AllByRecursion (IsAnswer rule n b t) rs
     each-on [] on h = tt
-    each-on (r ∷ rs) on h = (
-      answer-by-win rule n b t r _ (goes_on-is (outcome rule b r.at) (and_left (goes_on (outcome rule b r.at)) _
-          (and_left (is_beaten rule n b r.at) _ on))) h.0,
-      each-on rs (and_right (is_beaten rule n b r.at) _ on) h.1,
-    )
+    each-on (r ∷ rs) on h =
+        search (answer-by-win, goes_on-is, and_left, and_right, each-on rs (and_right (is_beaten rule n b r.at) _ on) h.1)
 
     bad-wins : AnswersWin rule n b t bad
     bad-wins = answers-win rule n b t bad (λ q. tight (outcome rule b q) (WinsByFours rule n (after b q)) (loses-each q)) listed

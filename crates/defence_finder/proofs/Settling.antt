@@ -1,12 +1,11 @@
 -- What is known of one move: by its outcome, by a five point that it leaves, or by a search after it.
-use Rattle.std.proofs.Common.{◌≡◌, ◌↔◌, inl, inr, ℕ, zero, suc, unwrap_or, ◌-◌, ◌<◌, ◌≤◌, Bool, true, false}
-use Rattle.std.proofs.Common.{◌&&◌, not, refl, sym, ap, subst, ◌∙◌, arith, List, [], ◌∷◌, Some, Option, IfSome, find}
-use Rattle.std.proofs.Common.{nat_lt, slice_get}
+use Rattle.std.proofs.Common.{◌≡◌, ◌↔◌, ℕ, zero, suc, unwrap_or, ◌-◌, ◌<◌, ◌≤◌, Bool, true, false}
+use Rattle.std.proofs.Common.{◌&&◌, not, refl, sym, ap, subst, ◌∙◌, arith, List, [], ◌∷◌, Some, Option, IfSome, find, rules}
+use Rattle.std.proofs.Common.{slice_get}
 use Rattle.std.proofs.lemmas.Bool.{cases_lt, le-ltb}
-use Rattle.game_rules.proofs.Common.{Grid, IsPosition, points_of, is_same_point, five, mover, other, outcome, after, goes_on, has_five}
+use Rattle.game_rules.proofs.Common.{Grid, IsPosition, points_of, is_same_point, five, mover, other, outcome, after, has_five}
 use Rattle.game_rules.proofs.Common.{five_points, wins_by_fours}
 use Rattle.game_rules.specs.declared.RuleKind.{RuleKind}
-use Rattle.game_rules.specs.declared.Outcome.{Outcome}
 use Rattle.game_rules.specs.declared.Outcome.TheVariants.{GoesOn}
 use Rattle.game_rules.specs.declared.Point.{Point}
 use Rattle.game_rules.proofs.Fives.{least_five, first-left, second-left}
@@ -26,23 +25,14 @@ use Rattle.four_search.specs.declared.answer.FourAnswer.TheVariants.{Win, Spent}
 use Rattle.four_search.specs.Plans.{four_plan}
 use Rattle.four_search.proofs.Costs.{five-cost}
 use Rattle.four_search.proofs.Planning.{plan-leaf}
-use Rattle.defence_finder.proofs.Common.{holds_or, IsPlanned, IsSettled}
+use Rattle.defence_finder.proofs.Common.{IsPlanned, IsSettled}
 
 module _ (rule : RuleKind) (n budget : ℕ) (b : Grid) (q : Point) where
   module _ (on : outcome rule b q ≡ GoesOn) where
     -- one that goes on, where the budget suffices after it
     pub settled-on : (w : Bool) → wins_by_fours rule n (after b q) ≡ w → four_cost rule n (after b q) ≤ budget
         → IsSettled rule n budget b q (not w) w
-    settled-on w won enough = record {
-      enough = ap (λ (o : Outcome). goes_on o && nat_lt budget (four_cost rule n (after b q))) on
-          ∙ le-ltb budget (four_cost rule n (after b q)) enough;
-      defence_is = ap (λ (o : Outcome). holds_or o (not (wins_by_fours rule n (after b q)))) on ∙ ap not won;
-      beaten_is = ap (λ (o : Outcome). goes_on o && not (holds_or o (not (wins_by_fours rule n (after b q))))) on
-          ∙ ap (λ (r : Bool). not (not r)) won ∙ twice w;
-    } where
-      twice : (r : Bool) → not (not r) ≡ r
-      twice true = refl
-      twice false = refl
+    settled-on w won enough = search (rules, le-ltb)
 
 -- ---- a five point that is left
 
@@ -98,10 +88,7 @@ module _ (rule : RuleKind) (n budget : ℕ) (b : Grid) (q : Point) (w : Point) (
 
 -- the budget sufficed where another answer came
 pub four-enough : (budget cost : ℕ) (a : FourAnswer) (win : WrittenWin) → a ≡ Win win → ((a ≡ Spent) ↔ (budget < cost)) → cost ≤ budget
-four-enough budget cost a win is spent = elim (cases_lt budget cost) [
-  | inl more ↦ absurd (let no : a ≡ Spent = spent.1 more in cc)
-  | inr less ↦ less
-]
+four-enough budget cost a win is spent = search (rules, cases_lt)
 
 -- a win that was found
 pub four-verdict : (rule : RuleKind) (n budget : ℕ) (b : Grid) (q : Point) → outcome rule b q ≡ GoesOn → (d : Grid) → d ≡ after b q

@@ -1,11 +1,11 @@
 -- The tests of a defence, and of a budget that suffices, answer as the facts.
-use Rattle.std.proofs.Common.{◌≡◌, ◌↔◌, ◌≤◌, Bool, true, false, ◌&&◌, not, refl, sym, ap, ◌∙◌, Option, Some}
-use Rattle.std.proofs.Common.{None, find, MatchOption, nat_lt, ltb-true}
+use Rattle.std.proofs.Common.{◌≡◌, ◌↔◌, ◌≤◌, Bool, true, false, ◌&&◌, refl, sym, ap, ◌∙◌, Option, Some}
+use Rattle.std.proofs.Common.{None, find, MatchOption, nat_lt, ltb-true, rules}
 use Rattle.std.specs.List.{list_any}
 use Rattle.std.proofs.lemmas.Bool.{ltb-false}
-use Rattle.game_rules.proofs.Common.{points_of, outcome, after, goes_on, has_five, WinsByFours, wins_by_fours}
+use Rattle.game_rules.proofs.Common.{points_of, outcome, after, goes_on}
 use Rattle.game_rules.specs.declared.Outcome.{Outcome}
-use Rattle.game_rules.specs.declared.Outcome.TheVariants.{Refused, Wins, Fouls, Draws, GoesOn}
+use Rattle.game_rules.specs.declared.Outcome.TheVariants.{GoesOn}
 use Rattle.game_rules.specs.declared.Point.{Point}
 use Rattle.game_rules.proofs.Boards.{and_left, and_right}
 use Rattle.game_rules.proofs.Games.{no-win, test-WinsUnder}
@@ -15,26 +15,12 @@ use Rattle.game_rules.proofs.PointLists.{unfound-none}
 use Rattle.game_rules.proofs.Points.{points-found}
 use Rattle.game_rules.proofs.Positions.{GoesOn-on}
 use Rattle.four_search.specs.FourGame.{four_cost}
-use Rattle.defence_finder.proofs.Common.{HoldsOr, holds_or, is_spent, SufficesAfterEach, IsShortAfter, DefencesAreTold, SpentIsTold}
+use Rattle.defence_finder.proofs.Common.{is_spent, SufficesAfterEach, IsShortAfter, DefencesAreTold, SpentIsTold}
 
 -- ---- defences
 
 pub defences-told : DefencesAreTold
-defences-told rule n b q = by_outcome (outcome rule b q) where
-  unwon : (w : Bool) → wins_by_fours rule n (after b q) ≡ w → not w ≡ true → ¬ WinsByFours rule n (after b q)
-  unwon true e h = cc
-  unwon false e h = no-win rule n (after b q) e
-
-  denied : (w : Bool) → wins_by_fours rule n (after b q) ≡ w → ¬ WinsByFours rule n (after b q) → not w ≡ true
-  denied true e h = absurd (h (test-WinsUnder (has_five rule) rule n (after b q) e))
-  denied false e h = refl
-
-  by_outcome : (o : Outcome) → (holds_or o (not (wins_by_fours rule n (after b q))) ≡ true) ↔ HoldsOr o (¬ WinsByFours rule n (after b q))
-  by_outcome Refused = (λ e. cc, λ h. absurd h)
-  by_outcome Wins = (λ e. tt, λ h. refl)
-  by_outcome (Fouls f) = (λ e. cc, λ h. absurd h)
-  by_outcome Draws = (λ e. tt, λ h. refl)
-  by_outcome GoesOn = (unwon (wins_by_fours rule n (after b q)) refl, denied (wins_by_fours rule n (after b q)) refl)
+defences-told rule n b q = search (rules, no-win, test-WinsUnder)
 
 -- ---- budgets
 

@@ -1,7 +1,6 @@
-use Rattle.std.proofs.Common.{rules, ◌≡◌, ◌∙◌, ℕ, sym, subst, arith, find, Some}
+use Rattle.std.proofs.Common.{rules, ◌≡◌, ◌∙◌, sym, arith, find, Some}
 use Rattle.game_rules.proofs.Common.{Grid, after, five, mover, outcome, points_of}
 use Rattle.game_rules.specs.declared.Outcome.TheVariants.{GoesOn}
-use Rattle.strategy_compiler.proofs.Common.{Writes}
 use Rattle.strategy_compiler.proofs.Growing.{writes-fails, writes-tells}
 use Rattle.defence_finder.specs.Answers.{nodes_after}
 use Rattle.defence_finder.proofs.Settling.{five-settled, five-beaten, five-planned}
@@ -46,4 +45,4 @@ pub returns-in-None-clause-writes : goal.returns-in-None-clause-writes
 returns-in-None-clause-writes g c =
     let nodes = nodes-on g.R.Rule.KIND c.args.question.now.depth (g.V.Seen.position c.args.view.now) c.args.q
     (sym c.in-GoesOn.ensures.outcome) in
-    subst (λ (k : ℕ). Writes c.args.compiler.now c.judge_after.new.compiler k c.judge_after.result) (sym nodes) c.judge_after.ensures.writes
+    rw nodes c.judge_after.ensures.writes

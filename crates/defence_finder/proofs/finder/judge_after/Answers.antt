@@ -1,9 +1,7 @@
-use Rattle.std.proofs.Common.{◌∙◌, subst}
+use Rattle.std.proofs.Common.{◌∙◌}
 use Rattle.game_rules.proofs.Common.{Grid}
 use Rattle.game_rules.proofs.Undo.{stone_back, lift_back, unwon_back}
-use Rattle.four_search.specs.Answers.{OnWin, IsFourWin}
 use Rattle.four_search.specs.FourGame.{four_cost}
-use Rattle.four_search.specs.declared.answer.FourAnswer.{FourAnswer}
 use Rattle.defence_finder.proofs.Settling.{four-enough, four-verdict}
 use Rattle.defence_finder.proofs.finder.judge_after.Goals as goal
 
@@ -51,8 +49,7 @@ returns-in-Win-clause-verdict g c =
     let n = c.args.question.now.depth in
     let t = c.four_search_with-found.new.compiler in
     let d : Grid = g.V.Seen.position c.play.new.self in
-    let won : IsFourWin rule n d t c.in-Win.win =
-    subst (λ (a : FourAnswer). OnWin a (IsFourWin rule n d t)) c.in-Win.is c.in_ok-win.ensures.win in
+    let won = rw c.in-Win.is at c.in_ok-win.ensures.win in
     let enough = four-enough c.args.question.now.budget (four_cost rule n d) _ c.in-Win.win c.in-Win.is c.in_ok-win.ensures.spent in
     four-verdict rule n c.args.question.now.budget (g.V.Seen.position c.args.view.now) c.args.q c.requires.goes_on d c.play.ensures.played t
     c.in-Win.win won enough

@@ -1,4 +1,4 @@
-use Rattle.std.proofs.Common.{subst, Option}
+use Rattle.std.proofs.Common.{Option}
 use Rattle.game_rules.specs.declared.Point.{Point}
 use Rattle.defence_finder.specs.Finding.{IsWalked}
 use Rattle.defence_finder.proofs.Gathering.{all-told}
@@ -9,4 +9,4 @@ returns-clause-told g c =
     let P : Option Point → Type 0 = IsWalked g.R.Rule.KIND c.args.question.now.depth c.args.question.now.budget
     (g.V.Seen.position c.args.view.now) c.walk.new.compiler c.walk.new.found in
     all-told g.R.Rule.KIND c.args.question.now.depth c.args.question.now.budget (g.V.Seen.position c.args.view.now) c.walk.new.compiler
-    c.walk.new.found.good c.walk.new.found.bad (subst P c.in-None.is c.in_ok-at.ensures.walked)
+    c.walk.new.found.good c.walk.new.found.bad (rw c.in-None.is at c.in_ok-at.ensures.walked)

@@ -39,7 +39,8 @@ returns-in_err-verdict-clause-writes g c =
     let v : Grid = g.V.Seen.position c.loop-q.view in
     let question = c.args.question.now in
     walk-fails g.R.Rule.KIND question.depth question.budget b v c.loop-q.invariant.same _ _ _ c.loop-q.found.good c.loop-q.found.bad
-    c.in-Some.q _ _ c.in-Some.ensures.steps c.loop-q.invariant.walk c.in_err-verdict.ensures.writes.grows _ _ c.in_err-verdict.ensures.writes
+    c.in-Some.q _ _ c.in-Some.ensures.steps c.loop-q.invariant.walk c.in_err-verdict.ensures.writes.grows _ _
+    c.in_err-verdict.ensures.writes
     (search rules)
 
 pub returns-in_err-add-in_default-clause-writes : goal.returns-in_err-add-in_default-clause-writes
