@@ -1,11 +1,10 @@
 -- The command `brain`: why a FILE is not held, when the command answers, and what its runs show.
-use Rattle.std.proofs.Common.{◌≡◌, inl, inr, refl, ap, subst, ◌⊎◌, ℕ, ◌+◌, ◌≤◌, List, length, arith}
-use Rattle.std.specs.Prelude.{◌≢◌, Option, Some, None, Result, Ok, Err, OnOk, IsErrOf, IfSome, Contains}
+use Rattle.std.proofs.Common.{◌≡◌, inl, inr, refl, ap, subst, ◌⊎◌, ℕ, ◌+◌, ◌≤◌, List, rules}
+use Rattle.std.specs.Prelude.{◌≢◌, Option, Some, Result, Ok, Err, OnOk, IsErrOf, IfSome}
 use Rattle.strategy_checker.specs.HeldRoots.{HeldTable}
 use Rattle.renju_io.specs.Files.{Files}
 use Rattle.renju_io.specs.declared.TheConstants.{MAX_SESSION_BYTES}
 use Rattle.gomocup_text.specs.Commands.{commands}
-use Rattle.gomocup_text.specs.declared.Command.TheVariants.{End}
 use Rattle.brain_session.specs.declared.sessions.ServeError.{ServeError}
 use Rattle.brain_session.specs.declared.sessions.ServeError.TheVariants.{ReadFailed, WriteFailed, Exhausted, Memory as NoMemory}
 use Rattle.brain_session.specs.States.{State, new_brain}
@@ -18,7 +17,7 @@ use Rattle.renju_io.specs.Asked.{IsNotAsked}
 use Rattle.command_base.specs.Runs.{Change, Run, HasFailed, IsAskedNoMore, IsAskedOnly, HasNoFault, IsUnbegun}
 use Rattle.brain_commands.specs.Brains.{nothing_held, session_of, shown_before, shown_after, EndsSession, IsSession, EndsBrain}
 use Rattle.brain_commands.specs.Brains.{IsUnhinderedSession, HasServed, AnswersAll, IsBrain, IsBrainWith, PlaysByFile, session_status}
-use Rattle.file_loading.specs.HeldFiles.{held_by, HeldFile, IsHeldText, FileSays, TellsFile, GivesHeld, IsUnhinderedShelf}
+use Rattle.file_loading.specs.HeldFiles.{held_by, HeldFile, FileSays, TellsFile, GivesHeld, IsUnhinderedShelf}
 use Rattle.file_loading.specs.Loading.{HoldsFile}
 use Rattle.file_loading.specs.declared.loading.Holdable.TheVariants.{TableOrBook}
 use Rattle.file_loading.proofs.HeldFileLaws.{held-not_told, one-held, same-bytes, not-told}
@@ -52,8 +51,7 @@ pub record IsServed (first last : State) (input output : Change (Option (List �
 
 -- two facts of what is told
 both-told : {X : Type 0} (P Q : X → Type 0) (o : Option X) → IfSome o P → IfSome o Q → IfSome o (λ x. P x × Q x)
-both-told P Q None p q = tt
-both-told P Q (Some x) p q = (p, q)
+both-told P Q o p q = search rules
 
 module _ (held : HeldTable) (last : State) (input output : Change (Option (List ℕ))) (last_read : Option ℕ) where
   session-by : (status : Status) → EndsSession (session_of held last output) input output last_read status
@@ -85,36 +83,18 @@ module _ (held : HeldTable) (last : State) (input output : Change (Option (List 
 pub session-ends : (held : HeldTable) (first last : State) (input output : Change (Option (List ℕ))) (last_read : Option ℕ)
     (outcome : Result (Unit {0}) ServeError) → first ≡ new_brain held
     → IsServed first last input output last_read outcome → EndsBrain held input output last_read (status_number (session_status outcome))
-session-ends held first last input output last_read outcome new is =
-    by-outcome held last input output last_read outcome (subst (λ (s : State). IsServed s last input output last_read outcome) new is)
+session-ends held first last input output last_read outcome new is = search (rules, by-outcome)
 
 -- ---- a session that nothing hinders
-
--- a session that may come to its end is not too long
-not-too_long : (bytes : List ℕ) → (length bytes ≤ MAX_SESSION_BYTES) ⊎ Contains (commands (within_limit bytes)) End → IsTooLong bytes → ⊥
-not-too_long bytes (inl few) long = let many = long.many in omega (arith, few, many)
-not-too_long bytes (inr end) long = long.no_end end
 
 module _ (held : HeldTable) (run : Run) (bytes : List ℕ) (free : IsUnhinderedSession run bytes) where
   by-status : (status : Status) (last : State) → run.status ≡ status_number status
       → EndsSession (session_of held last run.output) run.input run.output run.last status
       → HasServed held run bytes ⊎ (run.status ≡ status_number Memory)
-  by-status Done last ends how =
-      let answered = told-some (λ told. HasAnswered (session_of held last run.output) (commands told)) run.input.before bytes free.told
-      how.0 in
-      inl (record { ends = ends; whole = answered.writes.wrote })
-  by-status Memory last ends how = inr ends
-  by-status ReadFault last ends how = absurd (free.input_sound how.0)
-  by-status WriteFault last ends how = absurd (free.output_sound how.0)
-  by-status TooLong last ends how =
-      let long = told-some (λ told. HasAnswered (session_of held last run.output) (commands (within_limit told)) × IsTooLong told)
-      run.input.before bytes free.told how.0 in
-      absurd (not-too_long bytes free.fits long.1)
-  by-status _ last ends how = absurd how
+  by-status status last ends how = search (rules, told-some)
 
   session-serves : EndsBrain held run.input run.output run.last run.status → HasServed held run bytes ⊎ (run.status ≡ status_number Memory)
-  session-serves (inl session) = by-status session.status session.last session.ends session.how
-  session-serves (inr unbegun) = inr unbegun.ends
+  session-serves h = search (rules, by-status)
 
 -- `brain` serves its input to the end
 pub brain-answers : (run : Run) → IsBrain run → AnswersAll nothing_held run
@@ -149,10 +129,8 @@ module _ (name : List ℕ) (run : Run) (files : Files) (told : run.shelf.before 
   pub ends-by : PlaysByFile name run ⊎ TellsFile FileSays name run ⊎ IsUnbegun run.input run.output run.status
       → IsSession (held_by file) run.input run.output run.last run.status ⊎ HasFailed run.shelf ⊎ IsUnbegun run.input run.output run.status
   ends-by (inl plays) =
-      let at = subst (λ (l : List ℕ). IsHeldText plays.file l) (same-bytes name run files told fit.bytes fit.found plays.bytes plays.loaded)
-      plays.at in
-      inl (subst (λ (f : HeldFile). IsSession (held_by f) run.input run.output run.last run.status)
-      (one-held file plays.file fit.bytes fit.at at) plays.session)
+      let at = rw (same-bytes name run files told fit.bytes fit.found plays.bytes plays.loaded) at plays.at in
+      inl (rw (one-held file plays.file fit.bytes fit.at at) at plays.session)
   ends-by (inr (inl tells)) = inr
       (inl (not-told name run files told fit.bytes fit.found FileSays fit.fits (held-not_told file fit.bytes fit.at) tells.status tells.text
       tells.why))

@@ -1,6 +1,6 @@
 -- What runs of `brain` and `brain FILE` show of the games that the brain plays.
 use Rattle.std.proofs.Common.{◌≡◌, inl, inr, refl, sym, ap, subst, ◌∙◌, ◌⊎◌, ℕ, zero, suc, ◌≤◌, true, List, []}
-use Rattle.std.proofs.Common.{◌∷◌, ◌++◌, length, take, drop, map, lit≤, arith, append_assoc, append-nil, get_or}
+use Rattle.std.proofs.Common.{◌∷◌, ◌++◌, length, take, drop, map, lit≤, arith, append_assoc, append-nil, get_or, rules}
 use Rattle.std.proofs.lemmas.List.{length-map, map-append, take-append-drop}
 use Rattle.std.specs.List.{AllByRecursion}
 use Rattle.std.specs.Prelude.{Option, Some, None, IfSome, All, Contains}
@@ -10,7 +10,6 @@ use Rattle.std.proofs.lemmas.Bool.{lt-ltb}
 use Rattle.game_rules.specs.Grid.{Grid}
 use Rattle.strategy_graph.specs.declared.Node.{Node}
 use Rattle.strategy_graph.specs.declared.roots.Root.{Root}
-use Rattle.strategy_graph.specs.declared.roots.Root.TheVariants.{Attack, Defend}
 use Rattle.strategy_graph.specs.Roots.{root_below, root_depth, RootWins}
 use Rattle.strategy_graph.proofs.Starts.{accepted-root-wins}
 use Rattle.strategy_checker.specs.declared.held.HeldRoot.{HeldRoot}
@@ -52,12 +51,12 @@ use Rattle.command_base.specs.Statuses.{status_number}
 use Rattle.command_base.specs.Runs.{Run, IsUnbegun}
 use Rattle.file_loading.specs.TableFiles.{IsTableAt}
 use Rattle.brain_commands.specs.Brains.{nothing_held, session_of, EndsSession, IsSession, IsBrain, IsBrainWith, PlaysByFile}
-use Rattle.file_loading.specs.HeldFiles.{held_by, held_with, named_entry, named_root, of_table, HeldFile, NamedRoot, IsFit, IsHeldText}
+use Rattle.file_loading.specs.HeldFiles.{held_by, held_with, named_entry, of_table, HeldFile, NamedRoot, IsFit, IsHeldText}
 use Rattle.file_loading.specs.HeldFiles.{FileSays, GivesHeld, TellsFile}
 use Rattle.brain_commands.specs.Games.{state_told, StandsBehind, GamesGoWell, PlaysByRoots, OwnGamesGoWellIn, AnsweredLines, IsPlayedBy}
 use Rattle.brain_commands.specs.Games.{PlaysByFours, ShowsGames, PlaysOwnWins}
 use Rattle.command_base.proofs.ToldLaws.{told-some, where-told}
-use Rattle.file_loading.proofs.HeldFileLaws.{found-under, IsOther, file-other, unheld-other, delivered-other, not-other}
+use Rattle.file_loading.proofs.HeldFileLaws.{found-under, file-other, unheld-other, delivered-other, not-other}
 use Rattle.brain_commands.proofs.BrainLaws.{ends-by}
 
 -- ---- answers, one behind another
@@ -71,9 +70,7 @@ answer_first s c later first says = ap (λ (r : Reaction). then_answers r (answe
 stand_behind : (held : HeldTable) (before : List Asked) (c : Asked) (later : List Asked) (first : Answer)
     → (brain_step (state_told held before) c).reaction ≡ Says first
     → StandsBehind held before c later first
-stand_behind held before c later first says no_end =
-    answers-append (new_brain held) before (c ∷ later) no_end
-    ∙ ap (λ (l : List Answer). answers_from (new_brain held) before ++ l) (answer_first (state_told held before) c later first says)
+stand_behind held before c later first says no_end = search (rules, answers-append, answer_first)
 
 -- ---- games by a held root
 
@@ -241,20 +238,17 @@ module _ (held : HeldTable) (run : Run) (bytes : List ℕ) (told : run.input.bef
 
 answered_lines : (held : HeldTable) (run : Run) → IsSession held run.input run.output run.last run.status
     → IfSome run.input.before (AnsweredLines held run)
-answered_lines held run session = where-told run.input.before
-    (λ bytes told. lines_by held run bytes told session.status session.last session.ends session.how)
+answered_lines held run session = search (where-told, lines_by)
 
 -- ---- FILE
 
 -- what holds of the one item holds of all
 all_one : {X : Type 0} (P : X → Type 0) (x : X) → P x → All P (x ∷ [])
-all_one P x h zero d few = h
-all_one P x h (suc k) d few = absurd (omega (arith, few))
+all_one P x h k d few = search rules
 
 -- the root of a text names nodes of its table
 root_named : (b : Grid) (t : List Node) (root : Root) (moves : ℕ) → RootFits b t root moves → root_below root (length t) ≡ true
-root_named b t (Attack r) moves fits = let count = fits.0 in lt-ltb r (length t) (omega (arith, count))
-root_named b t (Defend a) moves fits = fits.1
+root_named b t root moves fits = search (rules, lt-ltb)
 
 -- what holds of each item, said of each place
 all_places : {X : Type 0} (P : X → Type 0) (xs : List X) → AllByRecursion P xs → All P xs
@@ -264,27 +258,14 @@ all_places P (x ∷ xs) all (suc k) d low = all_places P xs all.1 k d (omega (ar
 
 -- the root of a table that is accepted may be held
 due_table : (file : TableFile) (bytes : List ℕ) → IsTableAt file bytes → IsFit file → All (IsDueRoot file.table) (of_table file).roots
-due_table file bytes at fit = all_one (IsDueRoot file.table) (named_root file) (record {
-  held = record {
-    lawful = at.lawful;
-    below = root_named file.board file.table file.root file.moves at.text.root;
-    accepted = fit.accepted;
-  };
-  moves = at.moves;
-})
+due_table file bytes at fit = search (all_one, root_named)
 
 -- so may those of a book of which each entry is accepted
 due_entries : (t : List Node) (es : List Entry) → AllByRecursion (EntryFits (length t)) es → AllByRecursion (IsSound t) es
     → AllByRecursion (IsAccepted t BRAIN_WORK) es
     → AllByRecursion (IsDueRoot t) (map named_entry es)
 due_entries t [] fits sound accepted = tt
-due_entries t (e ∷ es) fits sound accepted = (
-  record {
-    held = record { lawful = sound.0.lawful; below = root_fits-below (length t) e.root fits.0.root; accepted = accepted.0.accepted };
-    moves = sound.0.moves;
-  },
-  due_entries t es fits.1 sound.1 accepted.1,
-)
+due_entries t (e ∷ es) fits sound accepted = search (root_fits-below, due_entries t es fits.1 sound.1 accepted.1)
 
 -- What bytes give may be held: its roots are due, and are not too many.
 record MayBeHeld (file : HeldFile) : Type 0 where
@@ -299,7 +280,7 @@ may_be_held file bytes (inr book) =
     let text = book.at.well_formed.text in
     let some = text.some.few in
     let count = length-map entries named_entry in
-    subst MayBeHeld (sym book.gives) (record {
+    rw book.gives (record {
       due = all_places (IsDueRoot book.book.table) (map named_entry entries)
           (due_entries book.book.table entries text.entries book.at.well_formed.entries book.fit);
       few = omega (arith, some, count);
@@ -322,11 +303,7 @@ module _ (file : HeldFile) (bytes : List ℕ) (at : IsHeldText file bytes) where
 
 module _ (name : List ℕ) (run : Run) (is : IsBrainWith name run) (files : Files) (told : run.shelf.before ≡ Some files) where
   played-by : (file : HeldFile) → GivesHeld name files file → IsPlayedBy file run
-  played-by file fit = record {
-    plays = file_plays file fit.bytes fit.at;
-    ends = ends-by name run files told file fit is.ends;
-    answered = answered_lines (held_by file) run;
-  }
+  played-by file fit = search (file_plays, ends-by, answered_lines)
 
   fits-where : PlaysByFile name run ⊎ TellsFile FileSays name run ⊎ IsUnbegun run.input run.output run.status
       → (run.status ≡ status_number Done) ⊎ (run.status ≡ status_number ReadFault)
@@ -344,7 +321,7 @@ module _ (name : List ℕ) (run : Run) (is : IsBrainWith name run) (files : File
       absurd (not-other run.status ended (delivered-other tells.status tells.text run.output run.status
       (unheld-other FileSays file-other run.shelf name tells.status tells.text tells.why) tells.delivered))
   fits-where (inr (inr unbegun)) ended = absurd (not-other run.status ended
-      (subst IsOther (sym unbegun.ends) (λ e. absurd (cc), λ e. absurd (cc))))
+      (rw unbegun.ends (λ e. absurd (cc), λ e. absurd (cc))))
 
 -- what `brain FILE` did in a run shows this of its games
 pub brain-plays : (name : List ℕ) (run : Run) → IsBrainWith name run → IfSome run.shelf.before (λ files. ShowsGames name files run)
@@ -355,11 +332,7 @@ brain-plays name run is = where-told run.shelf.before (λ files told. record {
 
 -- what `brain` did in a run shows this of them
 pub brain-plays-own : (run : Run) → IsBrain run → PlaysOwnWins run
-brain-plays-own run is = record {
-  plays = plays_by_fours nothing_held nothing_is_held;
-  ends = is.ends;
-  answered = answered_lines nothing_held run;
-}
+brain-plays-own run is = search (plays_by_fours, nothing_is_held, answered_lines)
 
 -- so does `brain FILE`
 pub file-plays-own : (name : List ℕ) (run : Run)

@@ -1,7 +1,5 @@
-use Rattle.std.proofs.Common.{inl, inr, refl, subst}
+use Rattle.std.proofs.Common.{inl, inr, refl}
 use Rattle.file_loading.specs.HeldFiles.{FileSays}
-use Rattle.file_loading.specs.Loading.{IsLoadedFrom}
-use Rattle.file_loading.specs.declared.loading.Holdable.TheVariants.{TableOrBook}
 use Rattle.brain_commands.proofs.BrainLaws.{plays-by-file}
 use Rattle.file_loading.proofs.HeldFileLaws.{told-sound}
 use Rattle.brain_commands.proofs.brain.play_with.Goals as goal
@@ -9,7 +7,7 @@ use Rattle.brain_commands.proofs.brain.play_with.Goals as goal
 pub returns-in-Ok-Holds-clause-plays : goal.returns-in-Ok-Holds-clause-plays
 returns-in-Ok-Holds-clause-plays g c = λ words.
     plays-by-file c.args.file.now _ c.in-Ok-Holds.held c.load_file.ensures.once
-    (subst (IsLoadedFrom TableOrBook _ c.args.file.now) c.in-Ok-Holds.field-0-is c.in-Ok-Holds.ensures.loaded) c.play.ensures.ends
+    (rw c.in-Ok-Holds.field-0-is at c.in-Ok-Holds.ensures.loaded) c.play.ensures.ends
 
 pub returns-in-Ok-Tells-clause-plays : goal.returns-in-Ok-Tells-clause-plays
 returns-in-Ok-Tells-clause-plays g c = λ words. record {
@@ -17,7 +15,7 @@ returns-in-Ok-Tells-clause-plays g c = λ words. record {
   ends = inr (inl (record {
     status = c.in-Ok-Tells.answer.status;
     text = c.in-Ok-Tells.answer.text;
-    why = subst (IsLoadedFrom TableOrBook _ c.args.file.now) c.in-Ok-Tells.field-0-is c.in-Ok-Tells.ensures.loaded;
+    why = rw c.in-Ok-Tells.field-0-is at c.in-Ok-Tells.ensures.loaded;
     input = record { same = refl; faults = refl; asked = refl };
     delivered = rw (← c.as_slice.ensures.value) c.deliver.ensures.delivered;
   }));
@@ -26,5 +24,5 @@ returns-in-Ok-Tells-clause-plays g c = λ words. record {
 pub returns-in-Ok-Tells-clause-loads : goal.returns-in-Ok-Tells-clause-loads
 returns-in-Ok-Tells-clause-loads g c =
     told-sound FileSays _ c.args.file.now c.in-Ok-Tells.answer.status c.in-Ok-Tells.answer.text _ _
-    (subst (IsLoadedFrom TableOrBook _ c.args.file.now) c.in-Ok-Tells.field-0-is c.in-Ok-Tells.ensures.loaded)
+    (rw c.in-Ok-Tells.field-0-is at c.in-Ok-Tells.ensures.loaded)
     (rw c.as_slice.ensures.value at c.deliver.ensures.delivered)
