@@ -1,48 +1,34 @@
 -- The command `defend`: its words, its answers, and what its statuses show.
-use Rattle.std.proofs.Common.{◌≡◌, inl, inr, sym, ap, subst, ◌∙◌, ◌⊎◌, ℕ, ◌*◌, ◌≤◌, Bool, true, false, cond}
-use Rattle.std.proofs.Common.{List, [], ◌∷◌, length, Option, Some, None, MatchOption, arith, IfOk, IfSome, Result, Ok, Err, sum_by}
+use Rattle.std.proofs.Common.{rules, ◌≡◌, inl, inr, ap, ◌∙◌, ◌⊎◌, ℕ, ◌*◌, ◌≤◌, List, [], ◌∷◌, length}
+use Rattle.std.proofs.Common.{Some, None, arith, IfOk, IfSome, Result, sum_by}
 use Rattle.std.proofs.lemmas.List.Sums.{sum_by-cons}
-use Rattle.game_rules.proofs.Common.{Grid, IsBoard, is_empty, points_of}
-use Rattle.game_rules.specs.declared.RuleKind.{RuleKind}
+use Rattle.position_commands.proofs.Common.{Grid, IsBoard, RuleKind, Node, IsTextOfTable, defences_of, most_nodes, PositionFile, Takes}
+use Rattle.position_commands.proofs.Common.{Answer, Status, Done, status_number, Run, IsTold, SaysOfPosition, ShowsOfPosition, DefenceSays}
+use Rattle.position_commands.proofs.Common.{IsEnoughAfterEach, IsJudgedDefence, IsLostText, ListsDefences, SpeaksOfDefence, WritesStart}
+use Rattle.position_commands.proofs.Common.{defend_command, first_spent_at, plans_at, LostTextIsOne}
+use Rattle.game_rules.proofs.Common.{points_of}
 use Rattle.game_rules.specs.declared.Point.{Point}
 use Rattle.game_rules.proofs.Places.{points_few}
-use Rattle.strategy_graph.specs.declared.Node.{Node}
 use Rattle.strategy_graph.specs.declared.Reply.{Reply}
 use Rattle.strategy_graph.specs.declared.roots.Root.TheVariants.{Defend}
 use Rattle.strategy_graph.proofs.Common.{Answers, start_depth}
 use Rattle.strategy_compiler.proofs.Common.{IsMadeOfAnswers, IsStartOfBranches, AnswersBranches, Branches}
 use Rattle.strategy_compiler.proofs.Unique.{one-start}
-use Rattle.position_files.proofs.Common.{IsTextOfTable, table_text}
-use Rattle.defence_finder.specs.Defences.{defences_of, first_spent, IsShortAfter}
-use Rattle.defence_finder.specs.Answers.{AreBeaten, IsLostStart, nodes_after, most_nodes}
+use Rattle.defence_finder.specs.Defences.{first_spent, IsShortAfter}
+use Rattle.defence_finder.specs.Answers.{AreBeaten, IsLostStart, nodes_after}
 use Rattle.defence_finder.proofs.Telling.{spent-told}
 use Rattle.defence_finder.proofs.Losing.{beaten-replies-planned, beaten-replies-win, no_defence-loses}
-use Rattle.position_files.specs.declared.PositionFile.{PositionFile}
-use Rattle.renju_io.specs.Told.{Takes}
-use Rattle.command_base.specs.declared.answer.Answer.{Answer}
-use Rattle.command_base.specs.declared.status.Status.{Status}
-use Rattle.command_base.specs.declared.status.Status.TheVariants.{Done}
-use Rattle.command_base.specs.Statuses.{status_number}
-use Rattle.command_base.specs.Runs.{Run}
-use Rattle.command_base.specs.Told.{IsTold, IsYielded}
-use Rattle.command_base.specs.Positions.{SaysOfPosition}
-use Rattle.command_base.specs.Searches.{ShowsOfPosition}
-use Rattle.position_commands.proofs.Common.{DefenceSays, IsEnoughAfterEach, IsJudgedDefence, IsLostText, ListsDefences, SpeaksOfDefence}
-use Rattle.position_commands.proofs.Common.{WritesStart, defend_command, first_spent_at, plans_at, LostTextIsOne}
+use Rattle.command_base.specs.Told.{IsYielded}
 use Rattle.command_base.proofs.PositionLaws.{file_at, shows-of-position}
 
 -- ---- the budget
 
 module _ (limit nodes : ℕ) (file : PositionFile) where
   pub enough-at : first_spent_at limit nodes file ≡ None → IsEnoughAfterEach limit nodes file
-  enough-at e =
-      subst (λ (o : Option Point). MatchOption o (IsEnoughAfterEach limit nodes file) (IsShortAfter file.kind limit nodes file.board)) e
-      (spent-told file.kind limit nodes file.board)
+  enough-at e = rw e at (spent-told file.kind limit nodes file.board)
 
   pub short-at : (q : Point) → first_spent_at limit nodes file ≡ Some q → IsShortAfter file.kind limit nodes file.board q
-  short-at q e =
-      subst (λ (o : Option Point). MatchOption o (IsEnoughAfterEach limit nodes file) (IsShortAfter file.kind limit nodes file.board)) e
-      (spent-told file.kind limit nodes file.board)
+  short-at q e = rw e at (spent-told file.kind limit nodes file.board)
 
 -- what is said of a position where the budget is enough after each move is an answer
 pub defend-answers : (limit nodes : ℕ) (file : PositionFile) → (defend_command limit nodes).IsEnough file → (status : Status)
@@ -62,7 +48,7 @@ module _ (limit : ℕ) (kind : RuleKind) (b : Grid) (t : List Node) (bad given :
     (none : defences_of kind limit b ≡ []) (beaten : AreBeaten kind limit b t bad) (u : List Node) (a : Answers)
     (made : IsMadeOfAnswers t given u a) where
   pub lost-made : IsLostStart kind limit b u a
-  lost-made = beaten-replies-win kind limit b t bad u a none beaten (subst (λ (rs : List Reply). IsMadeOfAnswers t rs u a) same made)
+  lost-made = beaten-replies-win kind limit b t bad u a none beaten (rw same at made)
 
   pub lost-text : ((bs : Branches) → AnswersBranches t given bs → IsStartOfBranches bs u a) → length u ≤ most_nodes limit b → (moves : ℕ)
       → moves ≡ start_depth u a → (text : List ℕ)
@@ -72,22 +58,18 @@ module _ (limit : ℕ) (kind : RuleKind) (b : Grid) (t : List Node) (bad given :
     table = u;
     start = a;
     plans = of_branches (plans_at limit (file_at kind b))
-        (subst (λ (rs : List Reply). AnswersBranches t rs (plans_at limit (file_at kind b)))
-        (sym same) (beaten-replies-planned kind limit b t bad beaten));
+        (rw same (beaten-replies-planned kind limit b t bad beaten));
     accepted = lost-made.accepted;
     within = lost-made.within;
     different = made.different;
     reached = made.reached;
     few = few;
-    written = subst (λ (m : ℕ). IsTextOfTable (record { kind = kind; board = b; table = u; root = Defend a; moves = m }) text) deep written;
+    written = rw deep at written;
   }
 
 -- there is one such text
 pub lost-text-one : LostTextIsOne
-lost-text-one limit file text other this that =
-    let same = one-start (plans_at limit file) this.table that.table this.start that.start this.plans that.plans in
-    let spell : List Node → Answers → List ℕ = λ t a. table_text file.kind file.board t (Defend a) (start_depth t a) in
-    this.written.spelled ∙ (λ i. spell (same.0 i) (same.1 i)) ∙ sym that.written.spelled
+lost-text-one limit file text other this that = search (rules, one-start)
 
 -- where no move holds, the text of that start is what is said
 pub lost-says : {E : Type 0} (limit nodes : ℕ) (rule : RuleKind) (p : Grid) (r : Result Answer E) (b : Grid) (t : List Node)
@@ -95,21 +77,12 @@ pub lost-says : {E : Type 0} (limit nodes : ℕ) (rule : RuleKind) (p : Grid) (r
     → length t ≤ most_nodes limit p → IfOk r (λ a. a.status ≡ Done)
     → IfOk r (λ a. (limit : ℕ) → defences_of rule limit b ≡ [] → AreBeaten rule limit b t bad → length t ≤ most_nodes limit b
     → IsLostText limit (file_at rule b) a.text) → IfOk r (λ a. DefenceSays limit nodes (file_at rule p) a.status a.text)
-lost-says limit nodes rule p (Err e) b t bad there none enough beaten short done text = tt
-lost-says limit nodes rule p (Ok a) b t bad there none enough beaten short done text =
-    let at : (limit : ℕ) → defences_of rule limit p ≡ [] → AreBeaten rule limit p t bad → length t ≤ most_nodes limit p
-    → IsLostText limit (file_at rule p) a.text =
-    subst (λ (c : Grid). (limit : ℕ) → defences_of rule limit c ≡ [] → AreBeaten rule limit c t bad → length t ≤ most_nodes limit c
-    → IsLostText limit (file_at rule c) a.text) there text in
-    inr (inl (record { enough = sym enough; none = none; ends = done; lost = at limit none beaten short }))
+lost-says limit nodes rule p r b t bad there none enough beaten short done text = search (rules, file_at)
 
 -- ---- a new compiler has room
 
 one-few : (n : ℕ) (b : Grid) (q : Point) → n ≤ 60 → nodes_after n b q ≤ 120
-one-few n b q few = by_test (is_empty b q) where
-  by_test : (r : Bool) → cond r (2 * n) 0 ≤ 120
-  by_test true = omega (arith, few)
-  by_test false = omega arith
+one-few n b q few = search rules
 
 all-few : (n : ℕ) (b : Grid) → n ≤ 60 → (ps : List Point) → sum_by (nodes_after n b) ps ≤ 120 * length ps
 all-few n b few [] = omega arith
@@ -127,17 +100,13 @@ silent number other e = grind arith
 module _ (limit nodes : ℕ) (run : Run) where
   done-judged : (file : PositionFile) → run.status ≡ 0 → IsEnoughAfterEach limit nodes file
       → ListsDefences limit file run.output ⊎ WritesStart limit file run.output → IsJudgedDefence limit nodes file run
-  done-judged file here enough said = record {
-    found = λ e. (enough, said);
-    spent = λ (e : run.status ≡ 5). absurd (omega (arith, here, e));
-    only = inl (inl here);
-  }
+  done-judged file here enough said = search rules
 
   judged-by : (file : PositionFile) (status : Status) (text : List ℕ) → run.status ≡ status_number status
       → Takes run.output.before text run.output.after → DefenceSays limit nodes file status text → IsJudgedDefence limit nodes file run
   judged-by file status text ends whole (inl list) =
       done-judged file (ends ∙ ap status_number list.ends) (enough-at limit nodes file list.enough)
-      (inl (record { some = list.some; whole = subst (λ (t : List ℕ). Takes run.output.before t run.output.after) list.list whole }))
+      (inl (record { some = list.some; whole = rw list.list at whole }))
   judged-by file status text ends whole (inr (inl lost)) =
       done-judged file (ends ∙ ap status_number lost.ends) (enough-at limit nodes file lost.enough)
       (inr (record {

@@ -1,8 +1,6 @@
 -- The command `foul`: its answers.
 use Rattle.std.proofs.Common.{List, ℕ}
-use Rattle.position_files.specs.declared.PositionFile.{PositionFile}
-use Rattle.command_base.specs.declared.status.Status.{Status}
-use Rattle.position_commands.specs.Fouls.{IsFoulList, foul_command}
+use Rattle.position_commands.proofs.Common.{PositionFile, Status, IsFoulList, foul_command}
 
 -- what is said of a position is an answer
 pub foul-answers : (file : PositionFile) → foul_command.IsEnough file → (status : Status) (text : List ℕ) → IsFoulList file status text

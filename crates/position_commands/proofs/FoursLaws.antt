@@ -1,23 +1,14 @@
 -- The command `fours`: its words, its answers, and what its statuses 0, 9 and 5 show.
-use Rattle.std.proofs.Common.{◌≡◌, inl, inr, ap, ◌∙◌, ℕ, List, arith, IfSome}
-use Rattle.position_files.specs.declared.PositionFile.{PositionFile}
-use Rattle.renju_io.specs.Told.{Takes}
-use Rattle.command_base.specs.declared.status.Status.{Status}
-use Rattle.command_base.specs.Statuses.{status_number}
-use Rattle.command_base.specs.Runs.{Run}
-use Rattle.command_base.specs.Told.{IsTold}
-use Rattle.command_base.specs.Positions.{SaysOfPosition}
-use Rattle.command_base.specs.Searches.{SpeaksOfPosition, ShowsOfPosition}
-use Rattle.position_commands.proofs.Common.{SearchSays, fours_command, IsSearchedByFours}
+use Rattle.std.proofs.Common.{◌≡◌, inl, inr, ap, ◌∙◌, ℕ, List, IfSome, rules}
+use Rattle.position_commands.proofs.Common.{PositionFile, Takes, Status, status_number, Run, IsTold, SaysOfPosition, SpeaksOfPosition}
+use Rattle.position_commands.proofs.Common.{ShowsOfPosition, SearchSays, fours_command, IsSearchedByFours}
 use Rattle.command_base.proofs.PositionLaws.{search-silent, shows-of-position, found-searched, none-searched, spent-searched}
 use Rattle.command_base.proofs.PositionLaws.{yielded-searched}
 
 -- what is said of a position for which the budget is enough is an answer
 pub fours-answers : (limit nodes : ℕ) (file : PositionFile) → (fours_command limit nodes).IsEnough file → (status : Status) (text : List ℕ)
     → SearchSays limit nodes file status text → (fours_command limit nodes).IsAnswer status
-fours-answers limit nodes file few status text (inl found) = inl found.ends
-fours-answers limit nodes file few status text (inr (inl denied)) = inr denied.ends
-fours-answers limit nodes file few status text (inr (inr spent)) = let more = spent.more in absurd (omega (arith, few, more))
+fours-answers limit nodes file few status text h = search rules
 
 -- ---- statuses 0, 9 and 5
 

@@ -1,23 +1,14 @@
 -- The command `threats`: its words, its answers, and what its statuses 0, 9 and 5 show.
-use Rattle.std.proofs.Common.{◌≡◌, inl, inr, ap, subst, ◌∙◌, ℕ, List, arith, IfSome}
-use Rattle.position_files.specs.declared.PositionFile.{PositionFile}
-use Rattle.renju_io.specs.Told.{Takes}
-use Rattle.command_base.specs.declared.status.Status.{Status}
-use Rattle.command_base.specs.Statuses.{status_number}
-use Rattle.command_base.specs.Runs.{Run}
-use Rattle.command_base.specs.Told.{IsTold}
-use Rattle.command_base.specs.Positions.{SaysOfPosition}
-use Rattle.command_base.specs.Searches.{SpeaksOfPosition, ShowsOfPosition}
-use Rattle.position_commands.proofs.Common.{SequenceSays, threats_command, IsSequenceSearched}
+use Rattle.std.proofs.Common.{◌≡◌, inl, inr, ap, ◌∙◌, ℕ, List, IfSome, rules}
+use Rattle.position_commands.proofs.Common.{PositionFile, Takes, Status, status_number, Run, IsTold, SaysOfPosition, SpeaksOfPosition}
+use Rattle.position_commands.proofs.Common.{ShowsOfPosition, SequenceSays, threats_command, IsSequenceSearched}
 use Rattle.command_base.proofs.PositionLaws.{search-silent, shows-of-position, found-searched, none-searched, spent-searched}
 use Rattle.command_base.proofs.PositionLaws.{yielded-searched}
 
 -- what is said of a position for which the budget is enough is an answer
 pub threats-answers : (limit nodes : ℕ) (file : PositionFile) → (threats_command limit nodes).IsEnough file
     → (status : Status) (text : List ℕ) → SequenceSays limit nodes file status text → (threats_command limit nodes).IsAnswer status
-threats-answers limit nodes file few status text (inl found) = inl found.ends
-threats-answers limit nodes file few status text (inr (inl none)) = inr none.ends
-threats-answers limit nodes file few status text (inr (inr spent)) = let more = spent.more in absurd (omega (arith, few, more))
+threats-answers limit nodes file few status text h = search rules
 
 -- ---- statuses 0, 9 and 5
 
@@ -29,7 +20,7 @@ module _ (limit nodes : ℕ) (run : Run) where
         threats = found.threats;
         last = found.last;
         first = found.first;
-        whole = subst (λ (t : List ℕ). Takes run.output.before t run.output.after) found.written whole;
+        whole = rw found.written at whole;
       })
   searched-by file status text ends whole (inr (inl none)) =
       none-searched _ _ _ _ run (ends ∙ ap status_number none.ends) none.enough none.none

@@ -9,5 +9,4 @@ write_table-requires-clause-root g c =
     (omega (arith, some, count), c.requires.some_moves, omega (arith, fits))
 
 pub returns-clause-text : goal.returns-clause-text
-returns-clause-text g c =
-    rw c.written.ensures.answer (rw (c.len.ensures.count, c.KIND.ensures) at c.in_ok-bytes.ensures.written)
+returns-clause-text g c = rw c.written.ensures.answer (rw (c.len.ensures.count, c.KIND.ensures) at c.in_ok-bytes.ensures.written)

@@ -1,11 +1,7 @@
-use Rattle.std.proofs.Common.{ℕ, sym, subst, arith, IfOk, length}
+use Rattle.std.proofs.Common.{ℕ, arith, length}
 use Rattle.std.proofs.lemmas.Result.{IfOk-weaker}
-use Rattle.game_rules.proofs.Common.{Grid}
-use Rattle.strategy_graph.proofs.Common.{TableOnBoard}
+use Rattle.position_commands.proofs.Common.{Grid, IsTextOfTable, Answer, table_at, IsShortWinText}
 use Rattle.strategy_compiler.proofs.Common.{IsWrittenWin}
-use Rattle.position_files.proofs.Common.{IsTextOfTable}
-use Rattle.command_base.specs.declared.answer.Answer.{Answer}
-use Rattle.position_commands.proofs.Common.{table_at, IsShortWinText}
 use Rattle.command_base.proofs.PositionLaws.{file_at}
 use Rattle.position_commands.proofs.fours.win_text.Goals as goal
 
@@ -15,7 +11,7 @@ table_text-requires g c =
     let within = c.requires.win.2.within in
     let most = c.requires.win.1 in
     record {
-      on_board = subst (λ (b : Grid). TableOnBoard b c.in_ok-table.table) (sym c.board.ensures.board) made.on_board;
+      on_board = rw c.board.ensures.board made.on_board;
       some = c.in_ok-table.ensures.some;
       some_moves = made.some_moves;
       moves_fit = omega (arith, within, most);
@@ -44,5 +40,4 @@ returns-clause-shown g c =
       },
       c.in_ok-table.ensures.few,
     ))
-    (subst (λ (w : Grid). IfOk c.table_text.result (λ a. IsTextOfTable (table_at (file_at rule w) moves t) a.text)) c.board.ensures.board
-    c.table_text.ensures.text)
+    (rw c.board.ensures.board at c.table_text.ensures.text)
