@@ -401,10 +401,12 @@ def solves():
         )
 
 
-# Black wins within 12 moves, of which the first is quiet: a table of each was accepted, and under freestyle a separately written program
-# found one. Under renju the replies that foul are no answers.
+# The side to move wins within 12 moves, of which the first is quiet: a table of each was accepted, and under freestyle a separately
+# written program found one. Under renju Black attacks once and White three times. In the last, Black's block of a four is a foul, so it is
+# no reply: under exact five, where it is one, the same table is refused.
 CROWDED = (19, "9,6 10,6 10,7 12,7 11,8 9,9 10,9 11,9 12,9 8,10 9,10", "8,5 8,6 13,6 11,7 8,8 8,9 13,9 10,10 13,10 8,11 11,11")
 OPEN_ROW = (15, "8,5 9,5 7,7 8,7 9,7 11,7", "0,0 7,6 6,7 10,7 4,9 3,10")
+BLOCKED_BY_A_FOUL = (15, "0,0 12,1 12,2 13,3 14,3 7,6 6,7 10,7 4,9 3,10 14,14", "14,0 14,4 8,5 9,5 7,7 8,7 9,7 11,7 0,11 12,14")
 QUIET_WINS = [
     ("freestyle", *CROWDED),
     ("exact", *CROWDED),
@@ -414,6 +416,10 @@ QUIET_WINS = [
     ("freestyle", 15, "9,5 7,7 8,7 9,7 11,7", "0,0 9,4 7,6 6,7 10,7"),
     ("freestyle", 15, "9,5 7,7 8,7 9,7 11,7", "0,0 7,6 6,7 10,7 5,8"),
     ("freestyle", 15, "9,5 7,7 8,7 9,7 11,7", "0,0 7,6 6,7 10,7 4,9"),
+    ("exact", 15, "9,5 7,7 8,7 9,7", "0,0 7,6 6,7 5,8"),
+    ("renju", 19, "8,5 8,6 13,6 11,7 8,8 8,9 13,9 10,10 13,10 8,11 11,11 14,14", "9,6 10,6 10,7 12,7 11,8 9,9 10,9 11,9 12,9 8,10 9,10"),
+    ("renju", 15, "0,0 7,6 6,7 10,7 4,9 3,10 14,14", "8,5 9,5 7,7 8,7 9,7 11,7"),
+    ("renju", *BLOCKED_BY_A_FOUL),
 ]
 
 
@@ -968,6 +974,10 @@ class Runs:
             self.expect(f"quiet: win {at}", found, 0, re.compile(head + r"moves ([1-9]|1[0-2])\nnodes \d+\n(.+\n)+"))
             checked = self.run(["check", "1000000000000"], input=found.stdout)
             self.expect(f"check of quiet win {at}", checked, 0, re.compile(r"accepted in ([1-9]|1[0-2]) moves, \d+ arrivals\n"))
+            if stones[1:] == BLOCKED_BY_A_FOUL:
+                where_none_fouls = found.stdout.replace(b"rule renju", b"rule exact")
+                refused = self.run(["check", "1000000000000"], input=where_none_fouls)
+                self.expect("check of a quiet win where no block fouls", refused, 4, re.compile(r"refused attack-refused .+\n"))
 
     def over_collection(self):
         """The rows of the collection: a win is that of the side and the moves that are told, and its table is accepted."""
