@@ -11,7 +11,7 @@ use crate::zones::Zones;
 use foul_judge::foul_at;
 use row_shapes::{Rule, is_five_point};
 use std::alloc::AllocError;
-use stone_board::{Board, Point, Side};
+use stone_board::{Axis, Board, Point, Side};
 use strategy_graph::{Node, Replies, Rest};
 
 /// So many pairs of a node and a board are looked at for one question.
@@ -205,7 +205,7 @@ impl<R: Rule> Zones<R> {
 
     /// The next reply that has to be met: the node that is asked after it, where it is played, and where the next is looked for.
     fn next_reply(
-        &self,
+        &mut self,
         nodes: &[Node],
         frame: Frame,
         board: &mut Board,
@@ -214,17 +214,10 @@ impl<R: Rule> Zones<R> {
         if own >= nodes.len() {
             return None;
         }
-        let passed = frame.passed?;
         let width = board.width();
         for place in frame.place..self.size {
             let q = point_of(width, place);
-            if let Some(asked) = self.asked_after(
-                &nodes[own].replies,
-                frame.rest,
-                passed,
-                board,
-                q,
-            ) {
+            if let Some(asked) = self.asked_after(&nodes[own].replies, frame, board, q) {
                 return Some((asked, q, place + 1));
             }
         }
@@ -232,27 +225,47 @@ impl<R: Rule> Zones<R> {
     }
 
     /// The node that is asked after a reply: the one that is listed for it, or that of the rest where the reply harms the zone which
-    /// follows a pass. None is asked after a reply that can't be played or fouls.
+    /// follows a pass. None is asked after a reply that can't be played or fouls; a stone near a foul may unmake it, so it harms.
     fn asked_after(
-        &self,
+        &mut self,
         replies: &Replies,
-        rest: u32,
-        passed: u32,
+        frame: Frame,
         board: &mut Board,
         q: Point,
     ) -> Option<u32> {
         if !board.is_empty(q) {
             return None;
         }
+        let passed = frame.passed?;
         let asked = match replies.find(q) {
             Some(listed) => listed,
-            None if self.is_harmed(board, passed, q) => rest,
+            None if self.is_harmed(board, passed, q) => frame.rest,
             None => return None,
         };
         if fouls::<R>(board, self.side.other(), q) {
+            self.enter_around(board, frame.zone, q);
             None
         } else {
             Some(asked)
+        }
+    }
+
+    /// Makes the points within five steps of a point, on its four lines, points of the zone.
+    fn enter_around(&mut self, board: &Board, zone: u32, q: Point) {
+        self.enter_line(board, zone, Axis::Row, q);
+        self.enter_line(board, zone, Axis::Column, q);
+        self.enter_line(board, zone, Axis::Down, q);
+        self.enter_line(board, zone, Axis::Up, q);
+    }
+
+    /// The same on one line.
+    fn enter_line(&mut self, board: &Board, zone: u32, axis: Axis, q: Point) {
+        for k in 0..11u8 {
+            if board.on(q) {
+                if let Some(p) = board.along(q, axis, k, 5) {
+                    self.enter(board, zone, p);
+                }
+            }
         }
     }
 
