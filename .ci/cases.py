@@ -432,6 +432,9 @@ def quiets():
     )
     # No win takes so few moves, whatever they are: `solve` says `none`, and `quiet` never does.
     yield Case("quiet: within one move too few", ["quiet", "1", "1"], position(*THREE), 5, "spent\n")
+    # There is no win by threats, so what is found has a quiet move; a budget of one position finds nothing.
+    yield Case("solve: a win with quiet moves alone", ["solve", "12", "100000"], position("freestyle", *OPEN_ROW), 9, "none\n")
+    yield Case("quiet: one position", ["quiet", "30", "1"], position("freestyle", *OPEN_ROW), 5, "spent\n")
     yield Case("quiet: the last line not ended", ["quiet", "5", "3"], position(*THREE)[:-1], 3, "refused line 5\n")
 
 

@@ -20,15 +20,38 @@ pub(crate) fn add_fours<R: Rule, V: Seen<R>>(
         return None;
     }
     let mut compiler = Compiler::new(alloc);
-    match four_search_with::<R, V>(alloc, view, depth, budget, memory, &mut compiler).ok()? {
-        FourAnswer::None => text.push_str("none").ok(),
-        FourAnswer::Spent => text.push_str("spent").ok(),
-        FourAnswer::Win(win) => add_win(compiler, win, text),
+    let found = four_search_with::<R, V>(alloc, view, depth, budget, memory, &mut compiler).ok();
+    add_told(compiler, told_of_fours(found), text)
+}
+
+/// The win, or the word where there is none.
+fn told_of_fours(answer: Option<FourAnswer>) -> Told {
+    match answer {
+        None => Told::Nothing,
+        Some(FourAnswer::None) => Told::Word("none"),
+        Some(FourAnswer::Spent) => Told::Word("spent"),
+        Some(FourAnswer::Win(win)) => Told::Win(win),
+    }
+}
+
+/// What a search tells: nothing where memory ran out, a win of its compiler, or a word.
+pub(crate) enum Told {
+    Nothing,
+    Win(WrittenWin),
+    Word(&'static str),
+}
+
+/// Adds what a search with this compiler tells.
+pub(crate) fn add_told(compiler: Compiler, told: Told, text: &mut String) -> Option<()> {
+    match told {
+        Told::Nothing => None,
+        Told::Win(win) => add_win(compiler, win, text),
+        Told::Word(word) => text.push_str(word).ok(),
     }
 }
 
 /// Adds the moves of a win and the nodes of its table, as in `2 moves: 3,7 wins; 8,7 wins; 4,7 rest 0 3,7>1; `.
-pub(crate) fn add_win(compiler: Compiler, win: WrittenWin, text: &mut String) -> Option<()> {
+fn add_win(compiler: Compiler, win: WrittenWin, text: &mut String) -> Option<()> {
     if win.node >= compiler.len() {
         return None;
     }

@@ -77,19 +77,24 @@ const COUNTED: u64 = 351_370;
 fn played_by_fours(alloc: Global, memory: &mut FourMemory<Freestyle>) -> Option<u64> {
     let position = position_of::<Freestyle>(alloc, CLOSED_THREES.0, CLOSED_THREES.1)?;
     let mut view = Counting { position, plays: 0 };
-    let mut compiler = Compiler::new(alloc);
-    let found = four_search_with::<Freestyle, Counting<Freestyle>>(
-        alloc,
-        &mut view,
-        60,
-        COUNTED,
-        memory,
-        &mut compiler,
-    );
-    match found.ok()? {
-        FourAnswer::None => Some(view.plays),
-        FourAnswer::Win(_) | FourAnswer::Spent => None,
+    let found = fours_of(alloc, &mut view, memory, &mut Compiler::new(alloc));
+    if found == Some(FourAnswer::None) {
+        Some(view.plays)
+    } else {
+        None
     }
+}
+
+/// What the search of fours answers.
+fn fours_of(
+    alloc: Global,
+    view: &mut Counting<Freestyle>,
+    memory: &mut FourMemory<Freestyle>,
+    compiler: &mut Compiler,
+) -> Option<FourAnswer> {
+    four_search_with::<Freestyle, Counting<Freestyle>>(
+        alloc, view, 60, COUNTED, memory, compiler,
+    ).ok()
 }
 
 /// A search that remembers nothing plays a four to come to each position but the first of a depth, and one that finds all that it needs
@@ -114,20 +119,24 @@ const FIVE_THREES: (&str, &str) = (
 fn played_by_threats(alloc: Global) -> Option<u64> {
     let position = position_of::<Freestyle>(alloc, FIVE_THREES.0, FIVE_THREES.1)?;
     let mut view = Counting { position, plays: 0 };
-    let mut compiler = Compiler::new(alloc);
-    let mut tree = ProofTree::new(alloc).ok()?;
-    let found = proof_number::<Freestyle, Counting<Freestyle>>(
-        alloc,
-        &mut view,
-        6,
-        10_000_000,
-        &mut tree,
-        &mut compiler,
-    );
-    match found.ok()? {
-        ProofAnswer::None => Some(view.plays),
-        ProofAnswer::Win(_) | ProofAnswer::Spent => None,
+    let found = threats_of(alloc, &mut view, &mut Compiler::new(alloc));
+    if found == Some(ProofAnswer::None) {
+        Some(view.plays)
+    } else {
+        None
     }
+}
+
+/// What the search by threats answers.
+fn threats_of(
+    alloc: Global,
+    view: &mut Counting<Freestyle>,
+    compiler: &mut Compiler,
+) -> Option<ProofAnswer> {
+    let mut tree = ProofTree::new(alloc).ok()?;
+    proof_number::<Freestyle, Counting<Freestyle>>(
+        alloc, view, 6, 10_000_000, &mut tree, compiler,
+    ).ok()
 }
 
 /// Behind k fours, each with its block, come 10, 80, 480, 1,920 and 3,840 orders. A search that remembers nothing goes to each of these

@@ -12,7 +12,7 @@ use std::alloc::{AllocError, Global};
 use std::process::Abort;
 use stone_board::{Point, Side};
 use strategy_compiler::Compiler;
-use test_boards::{empty_board, lawful};
+use test_boards::position_of;
 
 /// How many moves the opponent makes in the game of each position of `drill 0`: so many draws pass before the next is made.
 const REPLIES: &str = "101011001101100011010101001011001000000001011000000001011011";
@@ -52,8 +52,13 @@ impl Draws {
 /// Whether there is a win by fours, as a drill searches it.
 fn is_won<R: Rule>(alloc: Global, tables: &mut LineTables<R>) -> Option<bool> {
     let mut compiler = Compiler::new(alloc);
-    let found = four_search::<R, LineTables<R>>(alloc, tables, 6, 2_000, &mut compiler);
-    Some(matches!(found.ok()?, FourAnswer::Win(_)))
+    let found = four_search::<R, LineTables<R>>(alloc, tables, 6, 2_000, &mut compiler).ok();
+    told_of(found)
+}
+
+/// Whether the answer is a win.
+fn told_of(answer: Option<FourAnswer>) -> Option<bool> {
+    Some(matches!(answer?, FourAnswer::Win(_)))
 }
 
 /// Plays a move where it goes on and fewer than 30 stones stand, and says whether it is played.
@@ -107,9 +112,9 @@ fn play_and_take_back<R: Rule>(
 
 /// The same from the empty board on.
 fn replay<R: Rule>(rt: &(impl Abort + AllocGlobal), points: &[Point]) -> bool {
-    let board = empty_board(rt.alloc(), 15, 15).expect(rt, "a board");
-    let position = lawful::<R>(board).expect(rt, "a position");
-    let mut tables = LineTables::<R>::new(rt.alloc(), &position).expect(rt, "tables");
+    let position = position_of::<R>(rt.alloc(), "", "").expect(rt, "a position");
+    let tables = LineTables::<R>::new(rt.alloc(), &position);
+    let mut tables = tables.expect(rt, "tables");
     let is_won = play_and_take_back::<R>(rt, &mut tables, points);
     same(rt, tables.board().same(position.board()), true);
     is_won

@@ -6,7 +6,6 @@
 ghost use Rattle.std.specs.Prelude.{◌<◌, length};
 
 use crate::compared::same;
-use crate::of_quiet_search::{BLACK, WHITE};
 use foul_judge::{Position, Seen};
 use four_search::four_search;
 use game_rules::Point;
@@ -75,23 +74,39 @@ fn hinders_line(alloc: Global, compiler: &mut Compiler) -> Option<SearchError> {
 
 /// What hinders a search by proof numbers.
 fn hinders_numbers(alloc: Global, compiler: &mut Compiler) -> Option<SearchError> {
-    let mut position = diamond(alloc)?;
+    hinders_numbers_at(alloc, &mut diamond(alloc)?, compiler)
+}
+
+/// The same at this position.
+fn hinders_numbers_at(
+    alloc: Global,
+    position: &mut Position<Freestyle>,
+    compiler: &mut Compiler,
+) -> Option<SearchError> {
     let mut tree = ProofTree::new(alloc).ok()?;
     proof_number::<Freestyle, Position<Freestyle>>(
-        alloc,
-        &mut position,
-        3,
-        1_000,
-        &mut tree,
-        compiler,
+        alloc, position, 3, 1_000, &mut tree, compiler,
     ).err()
 }
 
+/// Six stones of Black, which has no win by threats there: the win begins with a quiet move.
+const OPEN_ROW: &str = "8,5 9,5 7,7 8,7 9,7 11,7";
+
+const AGAINST: &str = "0,0 7,6 6,7 10,7 4,9 3,10";
+
 /// What hinders a search for a win with quiet moves.
 fn hinders_quiet_moves(alloc: Global, compiler: &mut Compiler) -> Option<SearchError> {
-    let position = position_of::<Freestyle>(alloc, BLACK, WHITE)?;
+    hinders_quiet_moves_at(alloc, &position_of(alloc, OPEN_ROW, AGAINST)?, compiler)
+}
+
+/// The same at this position.
+fn hinders_quiet_moves_at(
+    alloc: Global,
+    position: &Position<Freestyle>,
+    compiler: &mut Compiler,
+) -> Option<SearchError> {
     let mut tree = ProofTree::new(alloc).ok()?;
-    quiet_search::<Freestyle>(alloc, &position, 30, 1_000, &mut tree, compiler).err()
+    quiet_search::<Freestyle>(alloc, position, 30, 1_000, &mut tree, compiler).err()
 }
 
 #[test]

@@ -1,6 +1,5 @@
 //! Tests of the searches and of what they stand on: trees and tables of positions, line tables, moves that make fours, wins by
-//! fours, moves that hold against them, sequences of threats, wins along them, wins by threats and with quiet moves, and searches over
-//! positions and over line tables, which answer alike.
+//! fours, wins along sequences of threats, wins by threats, and searches over positions and over line tables, which answer alike.
 //!
 //! A module `of_NAME` tries the crate NAME. It uses public calls alone, so it stands apart from that crate, which is proved once:
 //! a crate with tests is proved a second time for them. Like cases are rows of a table, each call is made by a small function that
@@ -32,11 +31,7 @@ mod of_proof_number;
 #[cfg(test)]
 mod of_proof_tree;
 #[cfg(test)]
-mod of_quiet_search;
-#[cfg(test)]
 mod of_threat_moves;
-#[cfg(test)]
-mod of_threat_space;
 #[cfg(test)]
 mod remade;
 #[cfg(test)]

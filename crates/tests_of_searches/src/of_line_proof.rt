@@ -38,9 +38,18 @@ fn proved(
     threats: &Threats,
 ) -> Option<(Option<u32>, Option<u32>)> {
     let mut view = position_of(alloc, black, white)?;
-    let mut compiler = Compiler::new(alloc);
-    let two = proved_within(alloc, &mut view, threats, 2, &mut compiler).ok()?;
-    let three = proved_within(alloc, &mut view, threats, 3, &mut compiler).ok()?;
+    proved_at(alloc, &mut view, threats, &mut Compiler::new(alloc))
+}
+
+/// The same from this position.
+fn proved_at(
+    alloc: Global,
+    view: &mut Position<Freestyle>,
+    threats: &Threats,
+    compiler: &mut Compiler,
+) -> Option<(Option<u32>, Option<u32>)> {
+    let two = proved_within(alloc, view, threats, 2, compiler).ok()?;
+    let three = proved_within(alloc, view, threats, 3, compiler).ok()?;
     Some((two, three))
 }
 

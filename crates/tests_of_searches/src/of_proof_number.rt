@@ -47,7 +47,6 @@ fn answered<R: Rule>(
     requires some_budget { 1 ≤ budget }
     requires budget_fits { budget ≤ MAX_BUDGET }
 {
-    let mut compiler = Compiler::new(alloc);
     let mut tree = ProofTree::new(alloc).ok()?;
     let answer = proof_number::<R, Position<R>>(
         alloc,
@@ -55,10 +54,15 @@ fn answered<R: Rule>(
         depth,
         budget,
         &mut tree,
-        &mut compiler,
+        &mut Compiler::new(alloc),
     );
-    let moves = moves_of(&answer.ok()?);
-    let (root, len) = root_and_len(&tree)?;
+    told_of(answer.ok(), &tree)
+}
+
+/// What the search answered, the numbers of the root of its tree, and the count of its nodes.
+fn told_of(answer: Option<ProofAnswer>, tree: &ProofTree) -> Option<(u32, Numbers, u32)> {
+    let moves = moves_of(&answer?);
+    let (root, len) = root_and_len(tree)?;
     Some((moves, root, len))
 }
 

@@ -4,7 +4,7 @@ use crate::compared::same;
 use foul_judge::{Outcome, Position, Seen};
 use row_shapes::{ExactFive, Freestyle, Renju, Rule};
 use std::alloc::Global;
-use stone_board::{Axis, Board, Point, Points, Side};
+use stone_board::{Axis, Board, Point, Side};
 use test_boards::{at, board_of, position_of, sized_board};
 use threat_moves::{
     BlockAnswer, FivePoints, Threat, ThreatKind, Threats, fives, forced, four_moves,
@@ -16,9 +16,10 @@ fn three_in_a_row(alloc: Global) -> Option<Position<Freestyle>> {
     position_of(alloc, "5,7 6,7 7,7", "0,0 2,0 4,0")
 }
 
-/// The five points of Black.
-fn black_fives(alloc: Global, view: &Position<Freestyle>) -> Option<Points> {
-    fives::<Freestyle, Position<Freestyle>>(alloc, view, Side::Black).ok()
+/// Whether these are the five points of Black.
+fn are_fives(alloc: Global, view: &Position<Freestyle>, wanted: &[Point]) -> Option<bool> {
+    let points = fives::<Freestyle, Position<Freestyle>>(alloc, view, Side::Black).ok()?;
+    Some(points.as_slice() == wanted)
 }
 
 #[test]
@@ -26,21 +27,20 @@ fn a_three_leaves_no_five_point(rt: HostRuntime) {
     let view = three_in_a_row(rt.alloc()).expect(&rt, "a position");
     let has = view.has_five(Side::Black);
     same(&rt, has, false);
-    let points = black_fives(rt.alloc(), &view).expect(&rt, "points");
-    same(&rt, points.len(), 0);
+    same(&rt, are_fives(rt.alloc(), &view, &[]), Some(true));
 }
 
-/// The moves of the side to move that make a four.
-fn fours(alloc: Global, view: &mut Position<Freestyle>) -> Option<Points> {
-    four_moves::<Freestyle, Position<Freestyle>>(alloc, view).ok()
+/// Whether these are the moves of the side to move that make a four.
+fn are_fours(alloc: Global, view: &mut Position<Freestyle>, wanted: &[Point]) -> Option<bool> {
+    let moves = four_moves::<Freestyle, Position<Freestyle>>(alloc, view).ok()?;
+    Some(moves.as_slice() == wanted)
 }
 
 #[test]
 fn four_moves_leave_a_five_point(rt: HostRuntime) {
     let mut view = three_in_a_row(rt.alloc()).expect(&rt, "a position");
-    let moves = fours(rt.alloc(), &mut view).expect(&rt, "moves");
-    let expected = [at(3, 7), at(4, 7), at(8, 7), at(9, 7)];
-    same(&rt, moves.as_slice(), expected.as_slice());
+    let wanted = [at(3, 7), at(4, 7), at(8, 7), at(9, 7)];
+    same(&rt, are_fours(rt.alloc(), &mut view, &wanted), Some(true));
 }
 
 fn makes_a_four(view: &mut Position<Freestyle>, p: Point) -> bool {
@@ -58,8 +58,8 @@ fn a_four_move_is_within_two_points_of_the_three(rt: HostRuntime) {
 fn five_points_come_in_reading_order(rt: HostRuntime) {
     let view = position_of(rt.alloc(), "4,7 5,7 6,7 7,7", "0,0 2,0 4,0 6,0");
     let view = view.expect(&rt, "a position");
-    let points = black_fives(rt.alloc(), &view).expect(&rt, "points");
-    same(&rt, points.as_slice(), [at(3, 7), at(8, 7)].as_slice());
+    let ends = [at(3, 7), at(8, 7)];
+    same(&rt, are_fives(rt.alloc(), &view, &ends), Some(true));
 }
 
 /// What becomes of a four of the side to move.
@@ -95,8 +95,8 @@ fn two_five_points_win(rt: HostRuntime) {
         (at(8, 7), BlockAnswer::Won),
         (at(9, 7), BlockAnswer::One(at(8, 7))),
     ];
-    for (four, answer) in fates {
-        same(&rt, fate(&mut view, four), Some(answer));
+    for (four, answer) in &fates {
+        same(&rt, fate(&mut view, *four), Some(*answer));
     }
 }
 
@@ -128,17 +128,18 @@ const DIAMOND: &str = "7,6 6,7 8,7 7,8";
 
 const CORNERS: &str = "0,0 14,0 0,14 14,14";
 
-/// The moves of the side to move that make a three.
-fn threes(alloc: Global, view: &mut Position<Freestyle>) -> Option<Points> {
-    three_moves::<Freestyle, Position<Freestyle>>(alloc, view).ok()
+/// Whether the move of the side to move makes a three.
+fn makes_a_three(alloc: Global, view: &mut Position<Freestyle>, p: Point) -> Option<bool> {
+    let moves = three_moves::<Freestyle, Position<Freestyle>>(alloc, view).ok()?;
+    Some(moves.as_slice().contains(&p))
 }
 
 #[test]
 fn a_double_three_is_a_three_move(rt: HostRuntime) {
     let view = position_of(rt.alloc(), DIAMOND, CORNERS);
-    let points = threes(rt.alloc(), &mut view.expect(&rt, "a position"));
-    let points = points.expect(&rt, "points");
-    same(&rt, points.as_slice().contains(&at(7, 7)), true);
+    let mut view = view.expect(&rt, "a position");
+    let told = makes_a_three(rt.alloc(), &mut view, at(7, 7));
+    same(&rt, told, Some(true));
 }
 
 #[test]
@@ -161,13 +162,14 @@ pub(crate) fn threats_of_black<R: Rule>(
 }
 
 /// Whether the threat is a three on the axis that has these costs.
-pub(crate) fn is_three(threat: &Threat, axis: Axis, costs: &[Point]) -> bool {
+fn is_three(threat: &Threat, axis: Axis, costs: &[Point]) -> bool {
     threat.kind == ThreatKind::Three && threat.axis == axis && threat.costs.as_slice() == costs
 }
 
-/// Whether there is one threat, a three on the column 5 that has these costs.
-fn is_one_three(threats: &Threats, costs: &[Point]) -> bool {
-    threats.len() == 1 && is_three(threats.at(0), Axis::Column, costs)
+/// Whether a stone of Black makes one threat, a three on the column 5 that has these costs.
+fn is_one_three(alloc: Global, board: &mut Board, gain: Point, costs: &[Point]) -> Option<bool> {
+    let threats = threats_of_black::<Renju>(alloc, board, gain)?;
+    Some(threats.len() == 1 && is_three(threats.at(0), Axis::Column, costs))
 }
 
 /// Black has a three in the column 5 once the point 5,2 is taken.
@@ -177,8 +179,7 @@ const ROUND_A_COLUMN: &str = "8,2 5,3 2,4 3,4 4,5 5,5 6,5 7,5 3,6 4,6 4,8 5,8 6,
 fn a_stone_off_the_axis_answers_a_three(rt: HostRuntime) {
     let board = sized_board(rt.alloc(), 11, 11, ROUND_A_COLUMN, "10,3 1,5");
     let mut board = board.expect(&rt, "a board");
-    let threats = threats_of_black::<Renju>(rt.alloc(), &mut board, at(5, 2));
-    let threats = threats.expect(&rt, "threats");
     let costs = [at(5, 1), at(5, 4), at(5, 6), at(4, 7)];
-    same(&rt, is_one_three(&threats, &costs), true);
+    let told = is_one_three(rt.alloc(), &mut board, at(5, 2), &costs);
+    same(&rt, told, Some(true));
 }

@@ -3,7 +3,7 @@
 //! A search asks its view through `Seen` alone, so both have to tell the same: five points, four and three moves; what a search of
 //! fours finds, a line that is proved, a search of the game of threats and the moves that hold, each with its table. The positions
 //! are worked ones and some that look random, under each rule.
-use crate::answers::{add_fours, add_replies, add_win};
+use crate::answers::{Told, add_fours, add_replies, add_told};
 use crate::compared::same;
 use defence_finder::{DefenceAnswer, defences};
 use foul_judge::{Position, Seen};
@@ -15,7 +15,7 @@ use proof_tree::ProofTree;
 use row_shapes::{ExactFive, Freestyle, Renju, Rule};
 use std::alloc::{AllocError, Global};
 use std::process::Abort;
-use stone_board::{Board, Point, Side};
+use stone_board::{Board, Point, Points, Side};
 use strategy_compiler::Compiler;
 use test_boards::{board_of, empty_board, lawful};
 use threat_moves::{Threats, fives, four_moves, three_moves};
@@ -85,21 +85,21 @@ fn add_points(points: &[Point], text: &mut String) -> Result<(), AllocError> {
     text.push_str(";")
 }
 
+/// Adds the points, if there was memory for them.
+fn add_list(points: Option<Points>, text: &mut String) -> Option<()> {
+    add_points(points?.as_slice(), text).ok()
+}
+
 /// The five points of both sides.
 fn add_fives<R: Rule, V: Seen<R>>(alloc: Global, view: &mut V, text: &mut String) -> Option<()> {
-    for side in [Side::Black, Side::White] {
-        let points = fives::<R, V>(alloc, view, side).ok()?;
-        add_points(points.as_slice(), text).ok()?;
-    }
-    Some(())
+    add_list(fives::<R, V>(alloc, view, Side::Black).ok(), text)?;
+    add_list(fives::<R, V>(alloc, view, Side::White).ok(), text)
 }
 
 /// The moves that make fours and those that make threes.
 fn add_moves<R: Rule, V: Seen<R>>(alloc: Global, view: &mut V, text: &mut String) -> Option<()> {
-    let fours = four_moves::<R, V>(alloc, view).ok()?;
-    add_points(fours.as_slice(), text).ok()?;
-    let threes = three_moves::<R, V>(alloc, view).ok()?;
-    add_points(threes.as_slice(), text).ok()
+    add_list(four_moves::<R, V>(alloc, view).ok(), text)?;
+    add_list(three_moves::<R, V>(alloc, view).ok(), text)
 }
 
 /// What the proof of a line answers, with its table.
@@ -110,9 +110,16 @@ fn add_line<R: Rule, V: Seen<R>>(
     text: &mut String,
 ) -> Option<()> {
     let mut compiler = Compiler::new(alloc);
-    match prove_line::<R, V>(alloc, view, line, 6, &mut compiler).ok()? {
-        LineAnswer::Fails => text.push_str(" line fails").ok(),
-        LineAnswer::Proved(win) => add_win(compiler, win, text),
+    let found = prove_line::<R, V>(alloc, view, line, 6, &mut compiler).ok();
+    add_told(compiler, told_of_line(found), text)
+}
+
+/// The win along a line, or that there is none.
+fn told_of_line(answer: Option<LineAnswer>) -> Told {
+    match answer {
+        None => Told::Nothing,
+        Some(LineAnswer::Fails) => Told::Word(" line fails"),
+        Some(LineAnswer::Proved(win)) => Told::Win(win),
     }
 }
 
@@ -135,11 +142,27 @@ fn add_sequence<R: Rule, V: Seen<R>>(alloc: Global, view: &mut V, text: &mut Str
 /// What the search of the game of threats answers, with its table.
 fn add_proof<R: Rule, V: Seen<R>>(alloc: Global, view: &mut V, text: &mut String) -> Option<()> {
     let mut compiler = Compiler::new(alloc);
+    let found = threats_of::<R, V>(alloc, view, &mut compiler);
+    add_told(compiler, told_of_threats(found), text)
+}
+
+/// What the search of the game of threats answers.
+fn threats_of<R: Rule, V: Seen<R>>(
+    alloc: Global,
+    view: &mut V,
+    compiler: &mut Compiler,
+) -> Option<ProofAnswer> {
     let mut tree = ProofTree::new(alloc).ok()?;
-    match proof_number::<R, V>(alloc, view, 4, 30, &mut tree, &mut compiler).ok()? {
-        ProofAnswer::None => text.push_str(" no threats").ok(),
-        ProofAnswer::Spent => text.push_str(" threats spent").ok(),
-        ProofAnswer::Win(win) => add_win(compiler, win, text),
+    proof_number::<R, V>(alloc, view, 4, 30, &mut tree, compiler).ok()
+}
+
+/// The win by threats, or that there is none.
+fn told_of_threats(answer: Option<ProofAnswer>) -> Told {
+    match answer {
+        None => Told::Nothing,
+        Some(ProofAnswer::None) => Told::Word(" no threats"),
+        Some(ProofAnswer::Spent) => Told::Word(" threats spent"),
+        Some(ProofAnswer::Win(win)) => Told::Win(win),
     }
 }
 
@@ -156,8 +179,17 @@ fn add_defence(answer: &DefenceAnswer, text: &mut String) -> Result<(), AllocErr
 
 /// Which moves hold against continuous fours, and the nodes that win after the others.
 fn add_defences<R: Rule, V: Seen<R>>(alloc: Global, view: &mut V, text: &mut String) -> Option<()> {
-    let mut compiler = Compiler::new(alloc);
-    let answer = defences::<R, V>(alloc, view, 6, 300, &mut compiler).ok()?;
+    add_defences_by::<R, V>(alloc, view, &mut Compiler::new(alloc), text)
+}
+
+/// The same with this compiler.
+fn add_defences_by<R: Rule, V: Seen<R>>(
+    alloc: Global,
+    view: &mut V,
+    compiler: &mut Compiler,
+    text: &mut String,
+) -> Option<()> {
+    let answer = defences::<R, V>(alloc, view, 6, 300, compiler).ok()?;
     add_defence(&answer, text).ok()
 }
 
@@ -169,12 +201,17 @@ fn add_searches<R: Rule, V: Seen<R>>(alloc: Global, view: &mut V, text: &mut Str
     add_defences::<R, V>(alloc, view, text)
 }
 
+/// Adds what the view tells by each of these.
+fn add_all<R: Rule, V: Seen<R>>(alloc: Global, view: &mut V, text: &mut String) -> Option<()> {
+    add_fives::<R, V>(alloc, view, text)?;
+    add_moves::<R, V>(alloc, view, text)?;
+    add_searches::<R, V>(alloc, view, text)
+}
+
 /// What the view tells by each of these.
 fn told<R: Rule, V: Seen<R>>(alloc: Global, view: &mut V) -> Option<String> {
     let mut text = String::new(alloc);
-    add_fives::<R, V>(alloc, view, &mut text)?;
-    add_moves::<R, V>(alloc, view, &mut text)?;
-    add_searches::<R, V>(alloc, view, &mut text)?;
+    add_all::<R, V>(alloc, view, &mut text)?;
     Some(text)
 }
 
