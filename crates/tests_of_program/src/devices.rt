@@ -66,13 +66,6 @@ pub(crate) fn read_once(source: &mut MemorySource, buffer: &mut [u8]) -> Result<
     source.read(buffer)
 }
 
-/// The next byte that is left.
-pub(crate) fn next_byte(source: &mut MemorySource) -> Result<u8, Failed> {
-    let mut byte = [0];
-    source.read(&mut byte)?;
-    Ok(byte[0])
-}
-
 /// What one write answers.
 pub(crate) fn write_once(sink: &mut MemorySink, piece: &[u8]) -> Result<(), Failed> {
     sink.write(piece)

@@ -1,5 +1,5 @@
-//! Tests of the program and of what it reads and writes by: lines and words, devices, the commands of a manager, the brain and its
-//! sessions, drills, and whole runs over devices in memory that fail.
+//! Tests of the program and of what it reads and writes by: lines and words, devices, the commands of a manager, a brain without
+//! memory, and whole runs over devices in memory that fail.
 //!
 //! A module `of_NAME` tries the crate NAME. It uses public calls alone, so it stands apart from that crate, which is proved once:
 //! a crate with tests is proved a second time for them. Like cases are rows of a table, each call is made by a small function that
@@ -21,8 +21,4 @@ mod of_renju_cli;
 #[cfg(test)]
 mod of_renju_io;
 #[cfg(test)]
-mod of_strength_drill;
-#[cfg(test)]
 mod of_text_lines;
-#[cfg(test)]
-mod sessions;

@@ -173,8 +173,8 @@ const LAST: [(u8, &[u8], &[u8]); 7] = [
 
 #[test]
 fn the_last_byte_that_may_be_taken(rt: HostRuntime) {
-    for (left, bytes, wanted) in LAST {
-        let told = told_last(rt.alloc(), left, bytes).expect(&rt, "memory");
-        same(&rt, (left, told.as_slice()), (left, wanted));
+    for (left, bytes, wanted) in &LAST {
+        let told = told_last(rt.alloc(), *left, bytes).expect(&rt, "memory");
+        same(&rt, (*left, told.as_slice()), (*left, *wanted));
     }
 }

@@ -110,8 +110,8 @@ fn is_written_as(alloc: Global, answer: &Answer, line: &[u8]) -> bool {
 
 #[test]
 fn each_answer_is_a_line(rt: HostRuntime) {
-    for (answer, line) in ANSWERS {
-        let told = is_written_as(rt.alloc(), &answer, line);
-        same(&rt, (answer, told), (answer, true));
+    for (answer, line) in &ANSWERS {
+        let told = is_written_as(rt.alloc(), answer, line);
+        same(&rt, (*answer, told), (*answer, true));
     }
 }

@@ -1,16 +1,14 @@
-//! Runs of the program over devices in memory: each command once, devices that fail in the middle of a run, those that would fail after
-//! it, and inputs without an end.
+//! Runs of the program over devices in memory: those that fail in the middle of a run, and those that would fail after it.
 //!
 //! One place calls `run_renju`, and it promises nothing, so that its contract is not proved again for each test. What the built program
 //! answers to texts is compared by `.ci/cases.py`, which proves nothing.
 
 use crate::compared::same;
-use crate::devices::{Failing, SOUND, shelf_of, sink_of, source_of, text_of};
+use crate::devices::{Failing, SOUND, shelf_of, sink_of, source_of};
 use calling::TWO_ENTRIES;
 use renju_cli::{USAGE, run_renju};
-use renju_io::{MemoryShelf, MemorySink, MemorySource, RealSource, Shelf, Sink, Source, read_all};
+use renju_io::{MemoryShelf, MemorySink, MemorySource, read_all};
 use std::alloc::{AllocError, Global};
-use std::io;
 use std::process::Abort;
 
 /// Words, what the file t holds, an input, the devices, and the status and the text that are wanted.
@@ -25,56 +23,61 @@ struct Run {
 }
 
 /// Runs the program over these devices.
-fn status_of<I: Source, O: Sink, F: Shelf>(
+fn status_of(
     alloc: Global,
     words: &[String],
-    source: &mut I,
-    sink: &mut O,
-    shelf: &mut F,
+    source: &mut MemorySource,
+    sink: &mut MemorySink,
+    shelf: &mut MemoryShelf,
 ) -> u8 {
     run_renju(alloc, words, source, sink, shelf)
 }
 
-/// The words of a text, which are separated by spaces.
-fn words_of(alloc: Global, text: &str) -> Result<Vec<String>, AllocError> {
-    let mut words = Vec::new(alloc);
+/// Adds the words of a text, which are separated by spaces.
+fn add_words(alloc: Global, text: &str, words: &mut Vec<String>) -> Result<(), AllocError> {
     for word in text.split_whitespace() {
         words.push(String::from_str(alloc, word)?)?;
     }
-    Ok(words)
+    Ok(())
 }
 
 /// Runs the program with these words.
-fn run_words<I: Source>(
+fn run_words(
     alloc: Global,
-    words: &str,
-    source: &mut I,
+    text: &str,
+    source: &mut MemorySource,
     sink: &mut MemorySink,
     shelf: &mut MemoryShelf,
 ) -> Result<u8, AllocError> {
-    let words = words_of(alloc, words)?;
+    let mut words = Vec::new(alloc);
+    add_words(alloc, text, &mut words)?;
     Ok(status_of(alloc, words.as_slice(), source, sink, shelf))
 }
 
-/// Runs the program beside the file of the row, and compares what it answers and writes with what is wanted.
-fn compare_over<I: Source>(rt: &(impl Abort + AllocGlobal), row: &Run, source: &mut I) {
-    let shelf = shelf_of(rt.alloc(), "t", row.file.as_bytes(), &row.failing);
-    let mut shelf = shelf.expect(rt, "a shelf");
-    let mut sink = sink_of(rt.alloc(), &row.failing).expect(rt, "a sink");
-    let status = run_words(rt.alloc(), row.words, source, &mut sink, &mut shelf);
-    same(
-        rt,
-        (row.words, sink.bytes()),
-        (row.words, row.output.as_bytes()),
-    );
-    same(rt, (row.words, status.ok()), (row.words, Some(row.status)));
+/// Compares what a run of the row answers and writes with what is wanted.
+fn compare_told(rt: &impl Abort, row: &Run, status: u8, output: &[u8]) {
+    same(rt, (row.words, output), (row.words, row.output.as_bytes()));
+    same(rt, (row.words, status), (row.words, row.status));
 }
 
-/// Compares the run of the row, and answers what it leaves of its input.
+/// Runs the program beside this shelf, and compares what it answers and writes with what is wanted.
+fn compare_over(
+    rt: &(impl Abort + AllocGlobal),
+    row: &Run,
+    source: &mut MemorySource,
+    shelf: &mut MemoryShelf,
+) {
+    let mut sink = sink_of(rt.alloc(), &row.failing).expect(rt, "a sink");
+    let status = run_words(rt.alloc(), row.words, source, &mut sink, shelf);
+    compare_told(rt, row, status.expect(rt, "memory"), sink.bytes());
+}
+
+/// Compares the run of the row beside its file, and answers what it leaves of its input.
 fn compare(rt: &(impl Abort + AllocGlobal), row: &Run) -> MemorySource {
     let source = source_of(rt.alloc(), row.input.as_bytes(), &row.failing);
     let mut source = source.expect(rt, "a source");
-    compare_over(rt, row, &mut source);
+    let shelf = shelf_of(rt.alloc(), "t", row.file.as_bytes(), &row.failing);
+    compare_over(rt, row, &mut source, &mut shelf.expect(rt, "a shelf"));
     source
 }
 
@@ -96,15 +99,8 @@ const THREE: &str =
 const THREE_TABLE: &str =
     "renju-table 1\nrule freestyle\nsize 15\nblack 5,7 6,7 7,7\nwhite 0,0 2,0 4,0\nmoves 2\nnodes 3\n3,7 wins\n8,7 wins\n4,7 rest 0 3,7>1\n";
 
-const THREE_TURNED: &str =
-    "renju-table 1\nrule freestyle\nsize 15\nblack 7,7 8,7 9,7\nwhite 10,14 12,14 14,14\nmoves 2\nnodes 3\n11,7 wins\n6,7 wins\n10,7 rest 0 11,7>1\n";
-
 const THREE_TWICE: &str =
     "renju-book 1\nnodes 3\n3,7 wins\n8,7 wins\n4,7 rest 0 3,7>1\nentries 2\nrule freestyle\nsize 15\nblack 5,7 6,7 7,7\nwhite 0,0 2,0 4,0\nmoves 2\nroot 2\nrule freestyle\nsize 15\nblack 5,7 6,7 7,7\nwhite 0,0 2,0 4,0\nmoves 2\nroot 2\n";
-
-/// Four stones of Black round a point, which makes two threes.
-const DIAMOND: &str =
-    "renju-position 1\nrule freestyle\nsize 15\nblack 7,6 6,7 8,7 7,8\nwhite 0,0 14,0 0,14 14,14\n";
 
 /// An open three of Black. White can take one of its ends, or make a four of its own.
 const OPEN_THREE: &str =
@@ -136,62 +132,6 @@ macro_rules! run {
         }
     };
 }
-
-/// Each command over devices that do not fail.
-static SOUND_RUNS: [Run; 16] = [
-    run!("check 219", "", THREE_TABLE, 0, ACCEPTED),
-    run!("foul", "", THREE, 0, "fouls 0\n"),
-    run!("fours 5 3", "", THREE, 0, THREE_TABLE),
-    run!(
-        "threats 1 12",
-        "",
-        DIAMOND,
-        0,
-        "threats 1\nthree 7,7 row 5,7 9,7\nfinal 7,5\n"
-    ),
-    run!("solve 5 3", "", THREE, 0, THREE_TABLE),
-    run!("quiet 5 3", "", THREE, 0, THREE_TABLE),
-    run!("quiet 1 1", "", THREE, 5, "spent\n"),
-    run!(
-        "defend 2 4",
-        "",
-        OPEN_THREE,
-        0,
-        "defences 4\n1,0\n3,0\n4,7\n8,7\n"
-    ),
-    run!("image half", "", THREE_TABLE, 0, THREE_TURNED),
-    run!(
-        "drill 0",
-        "",
-        "no text",
-        0,
-        "drill 0\npositions 60\nwins 43 none 17 spent 0\naccepted 43\ngames 43 moves 68\n"
-    ),
-    run!(
-        "book 219",
-        "",
-        TWO_ENTRIES,
-        0,
-        "accepted 2 entries, 438 arrivals\n"
-    ),
-    run!("bind t t", THREE_TABLE, "", 0, THREE_TWICE),
-    run!("referee", "", GAME, 0, "won black 3\n"),
-    run!(
-        "referee t",
-        THREE_TABLE,
-        GAME,
-        0,
-        "won black 3\ntable follows\n"
-    ),
-    run!("brain", "", "START 15\nBEGIN\nEND\n", 0, "OK\r\n7,7\r\n"),
-    run!(
-        "brain t",
-        BLOCK_FOULS,
-        BLOCK_LINES,
-        0,
-        "OK\r\n6,3\r\n7,3\r\nERROR game over\r\n"
-    ),
-];
 
 /// Inputs that fail at their first read, in their midst and where the end is told.
 static FAILING_READS: [Run; 17] = [
@@ -302,43 +242,37 @@ static UNREAD: [Run; 11] = [
 /// The rows of each test. They stand in one place, since each proof of a function that names them goes through their texts.
 fn rows(test: u8) -> &'static [Run] {
     match test {
-        0 => &SOUND_RUNS,
-        1 => &FAILING_READS,
-        2 => &READS_AFTER,
-        3 => &FAILING_WRITES,
-        4 => &FAILING_LOADS,
+        0 => &FAILING_READS,
+        1 => &READS_AFTER,
+        2 => &FAILING_WRITES,
+        3 => &FAILING_LOADS,
         _ => &UNREAD,
     }
 }
 
 #[test]
-fn each_command_answers_over_sound_devices(rt: HostRuntime) {
+fn a_failing_read_is_told(rt: HostRuntime) {
     compare_each(&rt, rows(0));
 }
 
 #[test]
-fn a_failing_read_is_told(rt: HostRuntime) {
+fn nothing_is_read_after_the_end(rt: HostRuntime) {
     compare_each(&rt, rows(1));
 }
 
 #[test]
-fn nothing_is_read_after_the_end(rt: HostRuntime) {
+fn a_failing_write_leaves_the_front_of_the_text(rt: HostRuntime) {
     compare_each(&rt, rows(2));
 }
 
 #[test]
-fn a_failing_write_leaves_the_front_of_the_text(rt: HostRuntime) {
+fn a_failing_shelf_is_told(rt: HostRuntime) {
     compare_each(&rt, rows(3));
 }
 
 #[test]
-fn a_failing_shelf_is_told(rt: HostRuntime) {
-    compare_each(&rt, rows(4));
-}
-
-#[test]
 fn an_input_that_is_not_asked_is_left(rt: HostRuntime) {
-    for row in rows(5) {
+    for row in rows(4) {
         let mut source = compare(&rt, row);
         let left = left_in(rt.alloc(), &mut source);
         same(&rt, (row.words, left), (row.words, Some(row.input.len())));
@@ -351,33 +285,4 @@ fn an_answer_is_written_before_the_next_line_is_read(rt: HostRuntime) {
     let row = run!("brain", "", "START 15\nEND\n", 8, "", piece: 1, writes: &[1]);
     let mut source = compare(&rt, &row);
     same(&rt, left_in(rt.alloc(), &mut source), Some("END\n".len()));
-}
-
-/// Inputs without an end: of these words, this byte and this text.
-const ENDLESS: [(Run, u8); 3] = [
-    (run!("check 219", "", "", 11, "input too long\n"), b'x'),
-    (run!("referee", "", "", 11, "input too long\n"), b'x'),
-    (run!("brain", "", "", 11, ""), b'\n'),
-];
-
-#[test]
-fn an_input_without_an_end_is_too_long(rt: HostRuntime) {
-    for (row, byte) in &ENDLESS {
-        compare_over(&rt, row, &mut RealSource::new(io::repeat(*byte)));
-    }
-}
-
-/// What the brain answers to so many empty lines.
-fn status_of_lines(alloc: Global, count: usize) -> Option<u8> {
-    let lines = text_of(alloc, b'\n', count)?;
-    let mut source = MemorySource::new(lines, 65_536, Vec::new(alloc));
-    let mut sink = sink_of(alloc, &SOUND).ok()?;
-    let mut shelf = shelf_of(alloc, "", b"", &SOUND).ok()?;
-    run_words(alloc, "brain", &mut source, &mut sink, &mut shelf).ok()
-}
-
-#[test]
-fn a_session_has_at_most_67108864_bytes(rt: HostRuntime) {
-    same(&rt, status_of_lines(rt.alloc(), 67_108_864), Some(0));
-    same(&rt, status_of_lines(rt.alloc(), 67_108_865), Some(11));
 }

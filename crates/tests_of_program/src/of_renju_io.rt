@@ -1,31 +1,20 @@
-//! Each public call on its happy path, and devices that fail in the middle.
+//! Inputs that are read and texts that are written over devices in memory, some of which fail in the middle. The devices of the system
+//! are those of the program.
 
 use crate::compared::same;
-use crate::devices::{
-    Failing, SOUND, read_once, shelf_of, sink_of, source_of, text_of, write_once,
-};
-use renju_io::{
-    Failed, LoadError, ReadAllError, RealShelf, RealSink, RealSource, Shelf, Sink, Source,
-    read_all, write_text,
-};
+use crate::devices::{Failing, SOUND, read_once, sink_of, source_of, text_of, write_once};
+use renju_io::{Failed, MemorySink, MemorySource, ReadAllError, read_all, write_text};
 use std::alloc::Global;
-use std::io::Read;
 use std::process::Abort;
-use std::{env, fs, io, process};
 
 /// What is read to the end.
-fn read_whole<S: Source>(alloc: Global, source: &mut S) -> Result<Vec<u8>, ReadAllError> {
+fn read_whole(alloc: Global, source: &mut MemorySource) -> Result<Vec<u8>, ReadAllError> {
     read_all(alloc, source)
 }
 
 /// What writing a text piece by piece answers.
-fn write_whole<O: Sink>(sink: &mut O, text: &[u8]) -> Result<(), Failed> {
+fn write_whole(sink: &mut MemorySink, text: &[u8]) -> Result<(), Failed> {
     write_text(sink, text)
-}
-
-/// What a load answers.
-fn load_from<H: Shelf>(alloc: Global, shelf: &mut H, name: &str) -> Result<Vec<u8>, LoadError> {
-    shelf.load(alloc, name)
 }
 
 const GAME: &[u8] = b"five in a row";
@@ -59,10 +48,15 @@ fn reads_all_in_pieces_and_nothing_after_the_end(rt: HostRuntime) {
     same(&rt, read_after(rt.alloc(), &fives), Some(Err(Failed)));
 }
 
-/// What a first reading is refused for, and what a second one reads.
-fn read_twice<S: Source>(alloc: Global, source: &mut S) -> Option<(ReadAllError, Vec<u8>)> {
+/// What a first reading is refused for, and whether a second one reads these bytes.
+fn read_twice(
+    alloc: Global,
+    source: &mut MemorySource,
+    rest: &[u8],
+) -> Option<(ReadAllError, bool)> {
     let refused = read_whole(alloc, source).err()?;
-    Some((refused, read_whole(alloc, source).ok()?))
+    let read = read_whole(alloc, source).ok()?;
+    Some((refused, read.as_slice() == rest))
 }
 
 #[test]
@@ -73,22 +67,8 @@ fn a_failing_read_gives_nothing(rt: HostRuntime) {
         ..SOUND
     };
     let mut source = source_of(rt.alloc(), GAME, &failing).expect(&rt, "a source");
-    let (refused, rest) = read_twice(rt.alloc(), &mut source).expect(&rt, "a rest");
-    same(&rt, refused, ReadAllError::Failed);
-    same(&rt, rest.as_slice(), b" in a row".as_slice());
-}
-
-/// How many bytes are read of a source of the system that gives so many.
-fn read_repeated(alloc: Global, len: u64) -> Result<usize, ReadAllError> {
-    let bytes = read_all(alloc, &mut RealSource::new(io::repeat(7).take(len)))?;
-    Ok(bytes.len())
-}
-
-#[test]
-fn reads_no_more_than_the_limit(rt: HostRuntime) {
-    same(&rt, read_repeated(rt.alloc(), 16_777_216), Ok(16_777_216));
-    let told = read_repeated(rt.alloc(), 16_777_217);
-    same(&rt, told, Err(ReadAllError::TooLong));
+    let told = read_twice(rt.alloc(), &mut source, b" in a row");
+    same(&rt, told, Some((ReadAllError::Failed, true)));
 }
 
 /// What writing so many bytes to a sink that fails so answers, how many it takes, and whether they are the first of the text.
@@ -147,101 +127,4 @@ fn nothing_is_written_after_the_last_piece(rt: HostRuntime) {
     };
     let told = write_after(rt.alloc(), 0, &first);
     same(&rt, told, Some((Err(Failed), 0)));
-}
-
-/// How many bytes a load gives.
-fn loaded<H: Shelf>(alloc: Global, shelf: &mut H, name: &str) -> Result<usize, LoadError> {
-    Ok(load_from(alloc, shelf, name)?.len())
-}
-
-#[test]
-fn a_shelf_gives_the_file_under_a_name(rt: HostRuntime) {
-    let failing = Failing {
-        loads: &[3],
-        ..SOUND
-    };
-    let shelf = shelf_of(rt.alloc(), "table", b"renju-table 1", &failing);
-    let mut shelf = shelf.expect(&rt, "a shelf");
-    let file = load_from(rt.alloc(), &mut shelf, "table").expect(&rt, "a file");
-    same(&rt, file.as_slice(), b"renju-table 1".as_slice());
-    let told = loaded(rt.alloc(), &mut shelf, "tables");
-    same(&rt, told, Err(LoadError::Failed));
-    let told = loaded(rt.alloc(), &mut shelf, "table");
-    same(&rt, told, Err(LoadError::Failed));
-    same(&rt, loaded(rt.alloc(), &mut shelf, "table"), Ok(13));
-}
-
-/// A name for the file of a test, which runs in a process of its own.
-fn file_name(rt: &HostRuntime) -> io::Result<String> {
-    let id = process::id(rt.process());
-    let folder = env::temp_dir(rt)?;
-    let folder = folder.display();
-    let name = format!(in rt.alloc(); "{folder}/tests_of_program_{id}")?;
-    Ok(name)
-}
-
-/// Makes a file of this text.
-fn make_file(rt: &HostRuntime, name: &str, text: &[u8]) -> Option<()> {
-    write_text(&mut RealSink::new(fs::create(rt, name).ok()?), text).ok()
-}
-
-/// Makes a file of so many bytes.
-fn make_long_file(rt: &HostRuntime, name: &str, len: u64) -> Option<()> {
-    fs::create(rt, name).ok()?.set_len(len).ok()
-}
-
-/// Whether the file is read as this text.
-fn is_read_as(rt: &HostRuntime, name: &str, text: &[u8]) -> Option<bool> {
-    let mut source = RealSource::new(fs::open(rt, name).ok()?);
-    let read = read_all(rt.alloc(), &mut source).ok()?;
-    Some(read.as_slice() == text)
-}
-
-/// What a shelf over the files of the system answers.
-fn load_file(rt: &HostRuntime, name: &str) -> Result<Vec<u8>, LoadError> {
-    RealShelf::new(rt).load(rt.alloc(), name)
-}
-
-/// Whether the file is loaded as this text, or why it is not.
-fn is_loaded_as(rt: &HostRuntime, name: &str, text: &[u8]) -> Result<bool, LoadError> {
-    Ok(load_file(rt, name)?.as_slice() == text)
-}
-
-#[test]
-fn real_files_are_written_and_read(rt: HostRuntime) {
-    let name = file_name(&rt).expect(&rt, "a name");
-    same(&rt, make_file(&rt, &name, GAME), Some(()));
-    same(&rt, is_read_as(&rt, &name, GAME), Some(true));
-    same(&rt, is_loaded_as(&rt, &name, GAME), Ok(true));
-    fs::remove_file(&rt, &name).expect(&rt, "a file");
-    same(&rt, is_loaded_as(&rt, &name, GAME), Err(LoadError::Failed));
-}
-
-/// What a write to a file that is open for reading answers.
-fn write_to_opened(rt: &HostRuntime, name: &str) -> Option<Result<(), Failed>> {
-    let mut sink = RealSink::new(fs::open(rt, name).ok()?);
-    Some(sink.write(b"x"))
-}
-
-/// What a read of a file that is open for writing answers.
-fn read_of_created(rt: &HostRuntime, name: &str) -> Option<Result<usize, Failed>> {
-    let mut source = RealSource::new(fs::create(rt, name).ok()?);
-    Some(source.read(&mut [0]))
-}
-
-#[test]
-fn a_real_file_is_open_to_read_or_to_write(rt: HostRuntime) {
-    let name = file_name(&rt).expect(&rt, "a name");
-    same(&rt, make_file(&rt, &name, GAME), Some(()));
-    same(&rt, write_to_opened(&rt, &name), Some(Err(Failed)));
-    same(&rt, read_of_created(&rt, &name), Some(Err(Failed)));
-    fs::remove_file(&rt, &name).expect(&rt, "a file");
-}
-
-#[test]
-fn a_real_file_that_is_too_long_is_not_loaded(rt: HostRuntime) {
-    let name = file_name(&rt).expect(&rt, "a name");
-    same(&rt, make_long_file(&rt, &name, 16_777_217), Some(()));
-    same(&rt, is_loaded_as(&rt, &name, GAME), Err(LoadError::TooLong));
-    fs::remove_file(&rt, &name).expect(&rt, "a file");
 }
