@@ -1,4 +1,4 @@
-//! Tests of what the rules of play are told by: boards, the shapes of rows, fouls and positions, and games beside a table.
+//! Tests of what the rules of play are told by: boards, the shapes of rows, fouls and positions.
 //!
 //! A module `of_NAME` tries the crate NAME. It uses public calls alone, so it stands apart from that crate, which is
 //! proved once: a crate with tests is proved a second time for them. Like cases are rows of a table, each call is made by a small
@@ -9,8 +9,6 @@
 mod compared;
 #[cfg(test)]
 mod of_foul_judge;
-#[cfg(test)]
-mod of_game_referee;
 #[cfg(test)]
 mod of_row_shapes;
 #[cfg(test)]

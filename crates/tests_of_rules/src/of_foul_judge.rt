@@ -75,9 +75,9 @@ const FOULS: [(&str, &str, Point, Option<Foul>); 7] = [
 
 #[test]
 fn fouls_are_judged_under_renju_alone(rt: HostRuntime) {
-    for (black, white, p, foul) in FOULS {
+    for (black, white, p, foul) in &FOULS {
         let mut board = board_of(rt.alloc(), black, white).expect(&rt, black);
-        same(&rt, fouls(&mut board, p), Some((foul, None)));
+        same(&rt, fouls(&mut board, *p), Some((*foul, None)));
     }
 }
 
@@ -85,11 +85,15 @@ fn fouls_are_judged_under_renju_alone(rt: HostRuntime) {
 /// position.
 fn refused(alloc: Global, marks: &str) -> Option<(PositionError, bool, bool)> {
     let board = drawn_board(alloc, marks)?;
-    let copy = board.copy().ok()?;
+    refused_board(board, &drawn_board(alloc, marks)?)
+}
+
+/// The same of a board and its copy.
+fn refused_board(board: Board, copy: &Board) -> Option<(PositionError, bool, bool)> {
     let told = refusal(RuleKind::Freestyle, &board);
     match Position::<Freestyle>::from_board(board) {
         Ok(_) => None,
-        Err((error, returned)) => Some((error, told == Some(error), returned.same(&copy))),
+        Err((error, returned)) => Some((error, told == Some(error), returned.same(copy))),
     }
 }
 
@@ -111,6 +115,11 @@ fn refused_boards_come_back(rt: HostRuntime) {
 fn outcome_on<R: Rule>(board: Board, p: Point) -> Option<Outcome> {
     let mut position = lawful::<R>(board)?;
     Some(position.outcome(p))
+}
+
+/// The outcome of a move on the board of 5 with these marks.
+fn outcome_on_drawn<R: Rule>(alloc: Global, marks: &str, p: Point) -> Option<Outcome> {
+    outcome_on::<R>(drawn_board(alloc, marks)?, p)
 }
 
 /// A rule, a board of 5, and the outcome of a move.
@@ -143,9 +152,9 @@ const OUTCOMES: [(RuleKind, &str, Point, Outcome); 4] = [
 
 #[test]
 fn outcomes_of_each_kind(rt: HostRuntime) {
-    for (rule, marks, p, outcome) in OUTCOMES {
-        let board = drawn_board(rt.alloc(), marks).expect(&rt, marks);
-        same(&rt, under_rule!(rule, outcome_on(board, p)), Some(outcome));
+    for (rule, marks, p, outcome) in &OUTCOMES {
+        let told = under_rule!(*rule, outcome_on_drawn(rt.alloc(), marks, *p));
+        same(&rt, told, Some(*outcome));
     }
     let board = board_of(rt.alloc(), "7,6 6,7 8,7 7,8", CORNERS).expect(&rt, "a board");
     let fouls = Outcome::Fouls(Foul::DoubleThree);
@@ -265,7 +274,7 @@ fn is_told(alloc: Global, error: PositionError, words: &str) -> Option<bool> {
 
 #[test]
 fn a_refused_board_has_its_words(rt: HostRuntime) {
-    for (error, words) in WORDS {
-        same(&rt, is_told(rt.alloc(), error, words), Some(true));
+    for (error, words) in &WORDS {
+        same(&rt, is_told(rt.alloc(), *error, words), Some(true));
     }
 }

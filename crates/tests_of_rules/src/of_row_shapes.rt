@@ -105,16 +105,26 @@ fn stones_past_one_gap_are_in_reach(rt: HostRuntime) {
     same(&rt, in_reach(&board, at(7, 7)), Some((2, 1)));
 }
 
+/// Whether White has a five point, Black several, and Black one on the point.
+fn fives_told(board: &Board, p: Point) -> [bool; 3] {
+    [
+        has_five::<Freestyle>(board, Side::White),
+        fives_in_short::<Freestyle>(board, Side::Black).is_several(),
+        is_five_point::<Freestyle>(board, Side::Black, p),
+    ]
+}
+
+/// Compares the five points of Black.
+fn compare_fives(rt: &(impl Abort + AllocGlobal), board: &Board) {
+    let points = five_points::<Freestyle>(rt.alloc(), board, Side::Black).expect(rt, "points");
+    same(rt, points.as_slice(), [at(3, 7), at(8, 7)].as_slice());
+}
+
 #[test]
 fn five_points_come_in_reading_order(rt: HostRuntime) {
     let board = board_of(rt.alloc(), "4,7 5,7 6,7 7,7", "0,0").expect(&rt, "a board");
-    let points = five_points::<Freestyle>(rt.alloc(), &board, Side::Black).expect(&rt, "points");
-    same(&rt, points.as_slice(), [at(3, 7), at(8, 7)].as_slice());
-    same(&rt, has_five::<Freestyle>(&board, Side::White), false);
-    let short = fives_in_short::<Freestyle>(&board, Side::Black);
-    same(&rt, short.is_several(), true);
-    let is_five = is_five_point::<Freestyle>(&board, Side::Black, at(3, 7));
-    same(&rt, is_five, true);
+    compare_fives(&rt, &board);
+    same(&rt, fives_told(&board, at(3, 7)), [false, true, true]);
 }
 
 /// Whether Black has a five point under freestyle and under renju, and White's five points in short under freestyle.
@@ -147,9 +157,9 @@ const WINDOWS: [(&str, &str, (bool, bool, FivePoints)); 3] = [
 
 #[test]
 fn a_line_with_a_window_may_have_no_five_point(rt: HostRuntime) {
-    for (black, white, told) in WINDOWS {
+    for (black, white, told) in &WINDOWS {
         let board = board_of(rt.alloc(), black, white).expect(&rt, black);
-        same(&rt, five_points_in_short(&board), told);
+        same(&rt, five_points_in_short(&board), *told);
     }
 }
 
