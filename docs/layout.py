@@ -72,6 +72,7 @@ CHAPTERS = (
         "What several commands say",
         "What a command has in common with another: a file that is loaded and held, a position that is read, a search that is told.",
         (
+            "reply_cover",
             "command_base",
             "file_loading",
             "table_commands",

@@ -121,6 +121,7 @@ GROUPS = (
             "list_any": ("list_any p xs", "whether some item passes p"),
             "list_all": ("list_all p xs", "whether each item passes p"),
             "All": ("All P xs", "P holds of each item"),
+            "Any": ("Any P xs", "P holds of some item"),
             "AllByRecursion": ("AllByRecursion P xs", "P holds of each item; as `All`, in a form for definitions that call themselves"),
             "AllPairs": ("AllPairs R xs", "R holds of each item and each later one"),
             "Contains": ("Contains xs x", "x is an item of xs"),

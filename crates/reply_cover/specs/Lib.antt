@@ -1,0 +1,3 @@
+-- covers, as they are worked out, and the laws of them
+pub mod Covers
+pub mod Laws
