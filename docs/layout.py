@@ -76,6 +76,7 @@ CHAPTERS = (
             "command_base",
             "file_loading",
             "table_commands",
+            "cover_command",
             "position_commands",
             "solve_command",
             "quiet_command",

@@ -1,0 +1,262 @@
+-- The command `cover`: when it answers, and what its statuses show.
+use Rattle.std.proofs.Common.{◌≡◌, ◌⊎◌, inl, inr, refl, sym, ap, subst, ◌∙◌, ℕ, ◌+◌, List, [], ◌∷◌, Option, Some, None, IfSome, true}
+use Rattle.std.proofs.Common.{add-zero, arith}
+use Rattle.std.specs.List.{AllByRecursion, cons_option}
+use Rattle.game_rules.proofs.Common.{Grid, IsBoard, WinsOr, LosesOr, WinsWithin, after, outcome}
+use Rattle.game_rules.specs.Games.{WinsAfter}
+use Rattle.game_rules.specs.declared.RuleKind.{RuleKind}
+use Rattle.game_rules.specs.declared.Outcome.{Outcome}
+use Rattle.game_rules.specs.declared.Outcome.TheVariants.{Refused, Wins, Fouls, Draws, GoesOn}
+use Rattle.game_rules.specs.declared.Point.{Point}
+use Rattle.game_rules.proofs.Positions.{IsBoard-put}
+use Rattle.game_rules.specs.Play.{mover}
+use Rattle.strategy_graph.specs.Roots.{AcceptedRoot, root_depth}
+use Rattle.strategy_graph.specs.declared.roots.Root.{Root}
+use Rattle.strategy_graph.specs.declared.roots.Root.TheVariants.{Attack, Defend}
+use Rattle.strategy_graph.proofs.Soundness.{accepted-wins}
+use Rattle.position_files.specs.declared.TableFile.{TableFile}
+use Rattle.position_files.specs.declared.PositionFile.{PositionFile}
+use Rattle.renju_io.specs.Files.{Files}
+use Rattle.renju_io.specs.Told.{Takes}
+use Rattle.reply_cover.specs.Covers.{cover_of}
+use Rattle.reply_cover.specs.Laws.{CoverWins, IsWonPart}
+use Rattle.reply_cover.specs.declared.Part.{Part}
+use Rattle.reply_cover.specs.declared.Cover.{Cover}
+use Rattle.reply_cover.specs.declared.Cover.TheVariants.{Covered, Open}
+use Rattle.reply_cover.proofs.CoverLaws.{covers-exact, covers-win, won-boards}
+use Rattle.command_base.specs.declared.status.Status.{Status}
+use Rattle.command_base.specs.declared.status.Status.TheVariants.{Done, NotFound, RefusedText, RefusedTable, ShelfFault, Spent, TooLong}
+use Rattle.command_base.specs.Statuses.{status_number}
+use Rattle.command_base.specs.Runs.{Change, Run, IsDelivered, IsUnbegun}
+use Rattle.command_base.specs.Told.{AnswersTold, EndsTold, IsYielded}
+use Rattle.command_base.specs.Positions.{SaysOfPosition, of_position}
+use Rattle.command_base.proofs.ToldLaws.{IsWhole, answers-by, by-end, every-told, given-told, where-told}
+use Rattle.command_base.proofs.PositionLaws.{said-of-position}
+use Rattle.file_loading.specs.TableFiles.{IsRefusedTable, IsSpentWork}
+use Rattle.file_loading.specs.HeldFiles.{IsUnheld, IsUnhinderedShelf}
+use Rattle.file_loading.proofs.HeldFileLaws.{not-told}
+use Rattle.cover_command.specs.PartFiles.{ArePartFiles, PartFileSays, part_by, parts_of}
+use Rattle.cover_command.specs.Covers.{AttackLacks, AttackSays, CoverLacks, CoverSays, CoversByFiles, IsCoverRun, IsCoverShown}
+use Rattle.cover_command.specs.Covers.{IsToldCover, IsWonAsTold, TellsOpen, TellsPart, cover_line, covers_command}
+use Rattle.cover_command.proofs.PartLaws.{part-not_told, part-under, same-parts}
+
+-- ---- what is kept of accepted tables
+
+part-won : (root : Root) (file : TableFile) (rest : List Part) → IsBoard file.board → AcceptedRoot file.kind file.table root file.board
+    → file.moves ≡ root_depth file.table root → AllByRecursion IsWonPart rest
+    → AllByRecursion IsWonPart (cons_option (part_by root file) rest)
+part-won (Attack i) file rest board accepted moves all = (
+  record {
+    board = board;
+    won = subst (λ (n : ℕ). WinsWithin file.kind n file.board) (sym moves) (accepted-wins file.kind file.table i file.board accepted);
+  },
+  all,
+)
+part-won (Defend a) file rest board accepted moves all = all
+
+kept-won : (work : ℕ) (shelf : Option Files) (names : List (List ℕ)) (files : List TableFile) → ArePartFiles work shelf names files
+    → AllByRecursion IsWonPart (parts_of files)
+kept-won work shelf [] [] h = tt
+kept-won work shelf [] (file ∷ files) h = absurd h
+kept-won work shelf (name ∷ names) [] h = absurd h
+kept-won work shelf (name ∷ names) (file ∷ files) h =
+    part-won file.root file (parts_of files) h.0.at.lawful.board h.0.accepted.accepted h.0.at.moves
+    (kept-won work shelf names files h.1)
+
+-- ---- what is said of a position
+
+module _ (rule : RuleKind) (parts : List Part) (won : AllByRecursion IsWonPart parts) (status : Status) (text : List ℕ) where
+  told-won : (b : Grid) → IsBoard b → (before : ℕ) (cover : Cover) → cover_of rule parts b ≡ cover → status_number status ≡ 0
+      → IsToldCover before cover status text
+      → (moves replies used : ℕ) × (text ≡ cover_line (moves + before) replies used) × CoverWins rule b moves
+  told-won b ok before (Covered m r k) is done told = (m, r, k, told.1, covers-win rule parts b m r k ok won is)
+  told-won b ok before (Open p) is done told = let other = ap status_number told.0 in absurd (omega (arith, done, other))
+
+  told-open : (b : Grid) → IsBoard b → (before : ℕ) (cover : Cover) → cover_of rule parts b ≡ cover → status_number status ≡ 9
+      → IsToldCover before cover status text → TellsOpen rule parts b text
+  told-open b ok before (Covered m r k) is lacks told = let other = ap status_number told.0 in absurd (omega (arith, lacks, other))
+  told-open b ok before (Open p) is lacks told = (p, (covers-exact rule parts b ok (won-boards parts won)).opens p is, told.1)
+
+  module _ (b : Grid) (ok : IsBoard b) (p : Point) where
+    attack-won : (o : Outcome) → outcome rule b p ≡ o → status_number status ≡ 0 → AttackSays rule parts b p o status text
+        → (moves replies used : ℕ) × (text ≡ cover_line moves replies used) × WinsWithin rule moves b
+    attack-won Wins is done said =
+        let now : WinsWithin rule 1 b = (
+          p,
+          subst (λ (o : Outcome). WinsOr o
+              ((true ≡ true) × ((q : Point) → LosesOr (outcome rule (after b p) q) (WinsWithin rule 0 (after (after b p) q))))) (sym is) tt,
+        ) in
+        (1, 0, 0, said.1, now)
+    attack-won GoesOn is done said =
+        let told = told-won (after b p) (IsBoard-put b (mover b) p ok) 1 (cover_of rule parts (after b p)) refl done said in
+        (told.0 + 1, told.1, told.2, told.3, told.4.attacks b p is refl)
+    attack-won Refused is done said = let other = ap status_number said.0 in absurd (omega (arith, done, other))
+    attack-won (Fouls f) is done said = let other = ap status_number said.0 in absurd (omega (arith, done, other))
+    attack-won Draws is done said = let other = ap status_number said.0 in absurd (omega (arith, done, other))
+
+    attack-lacks : (o : Outcome) → status_number status ≡ 9 → AttackSays rule parts b p o status text
+        → AttackLacks rule parts b p o text
+    attack-lacks Wins lacks said = let other = ap status_number said.0 in absurd (omega (arith, lacks, other))
+    attack-lacks GoesOn lacks said =
+        told-open (after b p) (IsBoard-put b (mover b) p ok) 1 (cover_of rule parts (after b p)) refl lacks said
+    attack-lacks Refused lacks said = said.1
+    attack-lacks (Fouls f) lacks said = said.1
+    attack-lacks Draws lacks said = said.1
+
+module _ (files : List TableFile) (won : AllByRecursion IsWonPart (parts_of files)) (file : PositionFile) (ok : IsBoard file.board)
+    (status : Status) (text : List ℕ) where
+  said-won : (attack : Option Point) → status_number status ≡ 0 → CoverSays attack (parts_of files) file status text
+      → IsWonAsTold attack files file text
+  said-won None done said =
+      let told = told-won file.kind (parts_of files) won status text file.board ok 0 _ refl done said in
+      (told.0 + 0, told.1, told.2, told.3, subst (λ (n : ℕ). WinsAfter file.kind n file.board) (sym (add-zero told.0)) told.4.replies)
+  said-won (Some p) done said = attack-won file.kind (parts_of files) won status text file.board ok p _ refl done said
+
+  said-lacks : (attack : Option Point) → status_number status ≡ 9 → CoverSays attack (parts_of files) file status text
+      → CoverLacks attack (parts_of files) file text
+  said-lacks None lacks said = told-open file.kind (parts_of files) won status text file.board ok 0 _ refl lacks said
+  said-lacks (Some p) lacks said = attack-lacks file.kind (parts_of files) won status text file.board ok p _ lacks said
+
+-- what is said is an answer
+said-answers : (attack : Option Point) (parts : List Part) (file : PositionFile) (status : Status) (text : List ℕ)
+    → CoverSays attack parts file status text → (status ≡ Done) ⊎ (status ≡ NotFound)
+said-answers attack parts file status text said = by-attack attack said where
+  by-cover : (before : ℕ) (cover : Cover) → IsToldCover before cover status text → (status ≡ Done) ⊎ (status ≡ NotFound)
+  by-cover before (Covered m r k) told = inl told.0
+  by-cover before (Open p) told = inr told.0
+
+  by-outcome : (p : Point) (o : Outcome) → AttackSays file.kind parts file.board p o status text → (status ≡ Done) ⊎ (status ≡ NotFound)
+  by-outcome p Wins told = inl told.0
+  by-outcome p GoesOn told = by-cover 1 _ told
+  by-outcome p Refused told = inr told.0
+  by-outcome p (Fouls f) told = inr told.0
+  by-outcome p Draws told = inr told.0
+
+  by-attack : (a : Option Point) → CoverSays a parts file status text → (status ≡ Done) ⊎ (status ≡ NotFound)
+  by-attack None told = by-cover 0 _ told
+  by-attack (Some p) told = by-outcome p _ told
+
+-- ---- answers
+
+module _ (work : ℕ) (attack : Option Point) (names : List (List ℕ)) (run : Run) (files : List TableFile)
+    (free : IsUnhinderedShelf (λ shelf. ArePartFiles work (Some shelf) names files) run) where
+  told-of : (P : Option Files → Type 0) → P run.shelf.before → P (Some free.files)
+  told-of P h = subst P free.told h
+
+  -- the files of the run are those that fit
+  by-files : (by : CoversByFiles work attack names run)
+      → EndsTold (SaysOfPosition (CoverSays attack (parts_of files))) run.input run.output run.status
+  by-files by =
+      let same = same-parts work free.files names files by.files free.fit (told-of (λ shelf. ArePartFiles work shelf names by.files)
+      by.accepted) in
+      subst (λ (fs : List TableFile). EndsTold (SaysOfPosition (CoverSays attack (parts_of fs))) run.input run.output run.status) same
+      by.ends
+
+  answers-end : CoversByFiles work attack names run ⊎ TellsPart work names run ⊎ IsUnbegun run.input run.output run.status
+      → AnswersTold (of_position (covers_command work attack names files)) run
+  answers-end (inl by) bytes un =
+      answers-by (of_position (covers_command work attack names files)) (λ input can status text says.
+      said-answers attack (parts_of files) can.0 status text
+      (said-of-position (CoverSays attack (parts_of files)) input can.0 can.1 status text says)) run bytes un (by-files by)
+  answers-end (inr (inl tells)) bytes un =
+      let why = tells.why in
+      let there = part-under work free.files why.before why.later why.name files
+      (subst (λ (ns : List (List ℕ)). ArePartFiles work (Some free.files) ns files) why.names_are free.fit) in
+      absurd (free.shelf_sound (not-told why.name run free.files free.told there.1.bytes there.1.found (PartFileSays work) there.1.fits
+      (part-not_told work there.0 there.1.bytes there.1.at there.1.accepted) tells.status why.line why.why))
+  answers-end (inr (inr unbegun)) bytes un = inr (record { ends = unbegun.ends; silent = unbegun.silent })
+
+pub cover-answers : (work : ℕ) (attack : Option Point) (names : List (List ℕ)) (run : Run) → IsCoverRun work attack names run
+    → (files : List TableFile) → IsUnhinderedShelf (λ shelf. ArePartFiles work (Some shelf) names files) run
+    → AnswersTold (of_position (covers_command work attack names files)) run
+cover-answers work attack names run is files free = answers-end work attack names run files free is.ends
+
+-- ---- what is shown
+
+-- the number speaks of a cover
+abbrev Speaks : ℕ → Type 0
+Speaks n = (n ≡ status_number Done) ⊎ (n ≡ status_number NotFound)
+
+silent-by : (status told : Status) → status ≡ told → (Speaks (status_number told) → ⊥) → Speaks (status_number status) → ⊥
+silent-by status told is silent speaks = silent (subst (λ (s : Status). Speaks (status_number s)) is speaks)
+
+-- what is told of a file that is not accepted speaks of none
+part-silent : (work : ℕ) (bytes : List ℕ) (status : Status) (text : List ℕ) → PartFileSays work bytes status text
+    → Speaks (status_number status) → ⊥
+part-silent work bytes status text (inl refused) = silent-by status RefusedText refused.ends (λ s. grind arith)
+part-silent work bytes status text (inr said) = by-verdict said.2 where
+  by-verdict : IsRefusedTable said.0 status text ⊎ IsSpentWork work said.0 status text → Speaks (status_number status) → ⊥
+  by-verdict (inl refused) = silent-by status RefusedTable refused.ends (λ s. grind arith)
+  by-verdict (inr spent) = silent-by status Spent spent.ends (λ s. grind arith)
+
+unheld-silent : (work : ℕ) (shelf : Change (Option Files)) (name : List ℕ) (status : Status) (text : List ℕ)
+    → IsUnheld (PartFileSays work) shelf name status text → Speaks (status_number status) → ⊥
+unheld-silent work shelf name status text (inl refused) = part-silent work refused.bytes status text refused.says
+unheld-silent work shelf name status text (inr (inl long)) = silent-by status TooLong long.ends (λ s. grind arith)
+unheld-silent work shelf name status text (inr (inr fault)) = silent-by status ShelfFault fault.ends (λ s. grind arith)
+
+delivered-silent : (status : Status) (text : List ℕ) (output : Change (Option (List ℕ))) (number : ℕ)
+    → (Speaks (status_number status) → ⊥) → IsDelivered status text output number → Speaks number → ⊥
+delivered-silent status text output number silent (inl whole) = subst (λ (n : ℕ). Speaks n → ⊥) (sym whole.0) silent
+delivered-silent status text output number silent (inr failed) = subst (λ (n : ℕ). Speaks n → ⊥) (sym failed.0) (λ s. grind arith)
+
+-- nor does a status that stands in place of others
+yields-silent : (n : ℕ) → IsYielded n → Speaks n → ⊥
+yields-silent n yielded speaks = grind arith
+
+module _ (work : ℕ) (attack : Option Point) (names : List (List ℕ)) (run : Run) (shelf : Files)
+    (told : run.shelf.before ≡ Some shelf) where
+  -- nothing is shown where the status speaks of no cover
+  silent-shown : (Speaks run.status → ⊥) → (input : List ℕ) → IsCoverShown work attack names shelf input run
+  silent-shown silent input =
+      record { covered = λ done. absurd (silent (inl done)); lacking = λ lacks. absurd (silent (inr lacks)) }
+
+  by-says : (by : CoversByFiles work attack names run) (bytes : List ℕ) (status : Status) (text : List ℕ)
+      → run.status ≡ status_number status → Takes run.output.before text run.output.after
+      → SaysOfPosition (CoverSays attack (parts_of by.files)) bytes status text → IsCoverShown work attack names shelf bytes run
+  by-says by bytes status text ends whole (inl refused) = silent-shown (λ speaks.
+      silent-by status RefusedText refused.ends (λ s. grind arith) (subst Speaks ends speaks)) bytes
+  by-says by bytes status text ends whole (inr said) =
+      let accepted = subst (λ (o : Option Files). ArePartFiles work o names by.files) told by.accepted in
+      let won = kept-won work (Some shelf) names by.files accepted in
+      let board = said.1.lawful.board in
+      record {
+        covered = λ done. record {
+          files = by.files;
+          accepted = accepted;
+          position = said.0;
+          at = said.1;
+          text = text;
+          whole = whole;
+          holds = said-won by.files won said.0 board status text attack (sym ends ∙ done) said.2;
+        };
+        lacking = λ lacks. record {
+          files = by.files;
+          accepted = accepted;
+          position = said.0;
+          at = said.1;
+          text = text;
+          whole = whole;
+          holds = said-lacks by.files won said.0 board status text attack (sym ends ∙ lacks) said.2;
+        };
+      }
+
+  shown-by : CoversByFiles work attack names run ⊎ TellsPart work names run ⊎ IsUnbegun run.input run.output run.status
+      → IfSome run.input.before (λ input. IsCoverShown work attack names shelf input run)
+  shown-by (inl by) = by-ends (by-end (SaysOfPosition (CoverSays attack (parts_of by.files))) run by.ends) where
+    by-ends : IsWhole (SaysOfPosition (CoverSays attack (parts_of by.files))) run ⊎ IsYielded run.status
+        → IfSome run.input.before (λ input. IsCoverShown work attack names shelf input run)
+    by-ends (inl w) = given-told (λ input. IsCoverShown work attack names shelf input run) run.input.before w.bytes w.given
+        (by-says by w.bytes w.status w.text w.ends w.whole w.says)
+    by-ends (inr yielded) = every-told (λ input. IsCoverShown work attack names shelf input run) run.input.before
+        (silent-shown (yields-silent run.status yielded))
+  shown-by (inr (inl tells)) = every-told (λ input. IsCoverShown work attack names shelf input run) run.input.before
+      (silent-shown (delivered-silent tells.status tells.text run.output run.status
+      (unheld-silent work run.shelf tells.why.name tells.status tells.why.line tells.why.why) tells.delivered))
+  shown-by (inr (inr unbegun)) = every-told (λ input. IsCoverShown work attack names shelf input run) run.input.before
+      (silent-shown (subst (λ (n : ℕ). Speaks n → ⊥) (sym unbegun.ends) (λ s. grind arith)))
+
+-- what statuses 0 and 9 of `cover` show
+pub cover-shown : (work : ℕ) (attack : Option Point) (names : List (List ℕ)) (run : Run) → IsCoverRun work attack names run
+    → IfSome run.shelf.before (λ shelf. IfSome run.input.before (λ input. IsCoverShown work attack names shelf input run))
+cover-shown work attack names run is = where-told run.shelf.before (λ shelf told. shown-by work attack names run shelf told is.ends)

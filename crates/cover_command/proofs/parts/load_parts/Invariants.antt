@@ -1,0 +1,12 @@
+use Rattle.std.proofs.Common.{◌≡◌, map, take, string_bytes}
+use Rattle.renju_io.specs.Asked.{IsAskedAtMost}
+use Rattle.cover_command.proofs.PartLaws.{KeptUpTo}
+use Rattle.cover_command.proofs.parts.load_parts.Given as goal
+
+abbrev pub invariant-loop-before : goal.invariant-loop-before
+invariant-loop-before g l = record {
+  so_far : KeptUpTo l.work (g.F.Shelf.files l.initial.shelf) (map string_bytes (take l.before l.names)) l.parts.items;
+  files : g.F.Shelf.files l.shelf ≡ g.F.Shelf.files l.initial.shelf;
+  faults : g.F.Shelf.faults l.shelf ≡ g.F.Shelf.faults l.initial.shelf;
+  each : IsAskedAtMost l.before (g.F.Shelf.asked l.initial.shelf) (g.F.Shelf.asked l.shelf);
+}
