@@ -41,7 +41,8 @@ MAX_INPUT_BYTES = 16_777_216
 MAX_NODES = 1_000_000
 USAGE = (
     "usage: renju check WORK, foul, fours DEPTH NODES, threats LENGTH NODES, solve DEPTH NODES, quiet DEPTH NODES, "
-    "brain [FILE], drill N, image SYMMETRY, referee [FILE], defend DEPTH NODES, bind FILE .., book WORK\n"
+    "brain [FILE], drill N, image SYMMETRY, referee [FILE], defend DEPTH NODES, bind FILE .., book WORK, "
+    "cover WORK ATTACK FILE ..\n"
 )
 
 
@@ -138,6 +139,12 @@ def words_without_a_form():
         [b"bind", b"t", b"\xff"],
         ["book"], ["book", ""], ["book", "0"], ["book", "007"], ["book", "1000000000001"], ["book", "1", "1"], ["book 1"], ["Book", "1"],
         ["books", "1"],
+        ["cover"], ["cover", "1"], ["cover", "1", "-"], ["cover", "0", "-", "t"], ["cover", "01", "-", "t"], ["cover", "1000000000001", "-", "t"],
+        ["cover", "1", "", "t"], ["cover", "1", "--", "t"], ["cover", "1", "7", "t"], ["cover", "1", "7,", "t"], ["cover", "1", ",7", "t"],
+        ["cover", "1", "32,0", "t"], ["cover", "1", "0,32", "t"], ["cover", "1", "07,7", "t"], ["cover", "1", "7,7,7", "t"],
+        ["cover", "1", "7, 7", "t"], ["cover", "1", "h8", "t"], ["cover", "1", "-", ""], ["cover", "1", "-", "t", ""],
+        ["cover", "1", "-", *1000 * ["t"], "t"], ["cover 1 - t"], ["Cover", "1", "-", "t"], ["covers", "1", "-", "t"],
+        [b"cover", b"1", b"-", b"\xff"],
         ["referee", ""], ["referee", "t", "t"], ["Referee"], ["referees"], ["referee t"], [b"referee", b"\xff"],
         ["brain", ""], ["brain", "t", "t"], ["brain", "t", ""], ["Brain"], ["BRAIN", "t"], ["brains"], ["brain t"], [b"brain", b"\xff"],
         [b"\xff"], [b"check", b"\xff"], [b"check", b"219\xff"], [b"check", b"219", b"\xff"], [b"\xc3\x28", b"219"],
@@ -763,6 +770,85 @@ def binds():
     yield Case("book: one that is bound", ["book", "219"], other_first, 0, "accepted 2 entries, 438 arrivals\n")
 
 
+# Boards of 5 on which White is to move and two points are empty, 4,0 and 0,4. Black has two rows of four that meet in 0,0, so that
+# it wins with the point that White leaves. The first board is its own image under the diagonal; on the second White wins with 4,0.
+CROSS = ("freestyle", 5, "0,0 1,0 2,0 3,0 0,1 4,1 0,2 2,2 0,3 3,3 1,4 4,4", "1,1 2,1 3,1 1,2 3,2 4,2 1,3 2,3 4,3 2,4 3,4")
+COLUMN = ("freestyle", 5, "0,0 1,0 2,0 3,0 0,1 1,1 0,2 2,2 0,3 3,3 1,4 2,4", "2,1 3,1 4,1 1,2 3,2 4,2 1,3 2,3 4,3 3,4 4,4")
+
+
+def put(board, side, point):
+    """The board with one stone more, whose sides stand in reading order."""
+    rule, size, *sides = board
+    stones = sides[side].split() + [point]
+    sides[side] = " ".join(sorted(stones, key=lambda it: [int(n) for n in reversed(it.split(","))]))
+    return rule, size, *sides
+
+
+def lift(board, side, point):
+    rule, size, *sides = board
+    sides[side] = " ".join(it for it in sides[side].split() if it != point)
+    return rule, size, *sides
+
+
+def covers():
+    """Positions that many tables cover, replies that none does, and files that are not accepted, for which no input is asked."""
+    right, below = put(CROSS, 1, "4,0"), put(CROSS, 1, "0,4")
+    early, line = lift(CROSS, 0, "0,3"), put(COLUMN, 1, "0,4")
+    files = {
+        "right": table(*right, 1, ["0,4 wins"]), "below": table(*below, 1, ["4,0 wins"]), "line": table(*line, 1, ["4,0 wins"]),
+        "exact": table("exact", *right[1:], 1, ["0,4 wins"]),
+        "start": table(*CROSS, 1, ["4,0 wins", "0,4 wins"], "start rest 0 4,0>1"),
+        "two": table(*THREE, 2, THREE_WINS), "wrong": table(*THREE, 1, ["5,7 wins"]), "moves": table(*THREE, 3, THREE_WINS),
+        "rule": "renju-table 1\nrule gomoku\n", "long": (MAX_INPUT_BYTES + 1) * b"x", "book": book(["0,4 wins"], (right, 1, "root 0")),
+    }
+    told = "covered in {} moves, {} replies by {} tables\n".format
+    runs = [
+        (CROSS, "- right", 0, told(1, 2, 1)),
+        (CROSS, "- below", 0, told(1, 2, 1)),
+        (CROSS, "- right below", 0, told(1, 2, 2)),
+        (CROSS, "- line exact start below two", 0, told(1, 2, 1)),
+        (CROSS, "- line exact start right", 0, told(1, 2, 1)),
+        (CROSS, "- exact start line", 9, "no table 4,0\n"),
+        (("exact", *CROSS[1:]), "- exact right", 0, told(1, 2, 1)),
+        (("exact", *CROSS[1:]), "- right start", 9, "no table 4,0\n"),
+        (CROSS, " ".join(["-", *1000 * ["right"]]), 0, told(1, 2, 1000)),
+        (COLUMN, "- line", 9, "no table 4,0\n"),
+        (lift(COLUMN, 0, "0,3"), "0,3 line", 9, "no table 4,0\n"),
+        (ONE_LEFT, "- right", 9, "no table 4,4\n"),
+        (early, "0,3 right", 0, told(2, 2, 1)),
+        (early, "0,3 below right two", 0, told(2, 2, 2)),
+        (early, "0,4 right", 9, "no table 4,0\n"),
+        (early, "- right", 9, "no table 4,0\n"),
+        (right, "0,4 two", 0, told(1, 0, 0)),
+        (right, "0,0 right", 9, "illegal 1\n"),
+        (right, "0,5 right", 9, "illegal 1\n"),
+        (right, "31,31 right", 9, "illegal 1\n"),
+        (ONE_LEFT, "4,4 right", 9, "drawn 1\n"),
+        (THREE, "4,7 two", 9, "no table 1,0\n"),
+    ]
+    for board, words, status, output in runs:
+        # The start has two arrivals, and the table of two moves 219; each other one has one.
+        for work in ("219",) if "two" in words or "start" in words else ("1", "219"):
+            yield Case(f"cover: {work} {words} at {board}", ["cover", work, *words.split()], position(*board), status, output, files)
+    foul = ("renju", 15, "7,6 6,7 8,7 7,8", "0,0 14,0 0,14 14,14")
+    yield Case("cover: an attack that fouls", ["cover", "1", "7,7", "right"], position(*foul), 9, "foul double-three 1\n", files)
+    refused = [
+        (["v"], 2, "file 1 shelf failed\n"),
+        (["right", "below", "v", "wrong"], 2, "file 3 shelf failed\n"),
+        (["moves", "v"], 3, "file 1 refused moves 3 2\n"),
+        (["right", "rule"], 3, "file 2 refused line 2\n"),
+        (["right", "book"], 3, "file 2 refused line 1\n"),
+        (["right", "wrong"], 4, "file 2 refused attack-refused 5,7\n"),
+        (["long", "v"], 11, "file 1 input too long\n"),
+        ([*999 * ["right"], "v"], 2, "file 1000 shelf failed\n"),
+    ]
+    for names, status, output in refused:
+        yield Case(f"cover: {' '.join(names)}", ["cover", "219", "-", *names], MAX_INPUT_BYTES * b"xx", status, output, files)
+    yield Case("cover: more arrivals than are allowed", ["cover", "218", "-", "two"], MAX_INPUT_BYTES * b"xx", 5, "file 1 spent\n", files)
+    for text, status, output in ((MAX_INPUT_BYTES * b"xx", 11, "input too long\n"), (files["right"], 3, "refused line 1\n"), (position(*CROSS) + "\n", 3, "refused line 6\n")):
+        yield Case(f"cover: an input that is {output}", ["cover", "1", "-", "right"], text, status, output, files)
+
+
 def full_books():
     """Two tables that together hold as many different nodes as a table may have, and two that hold one more. The last node of each
     wins at once, and leads to no other."""
@@ -894,7 +980,7 @@ def long_inputs():
 
 
 def all_cases():
-    for group in (words_without_a_form, checks, shared_games, refused_tables, refused_texts, fouls, fours, threats, solves, quiets, drills, images, defends, brains, held_brains, books, binds, full_books, referees, examples, rows, carriage_returns, long_tables, cut_tables, long_inputs):
+    for group in (words_without_a_form, checks, shared_games, refused_tables, refused_texts, fouls, fours, threats, solves, quiets, drills, images, defends, brains, held_brains, books, binds, covers, full_books, referees, examples, rows, carriage_returns, long_tables, cut_tables, long_inputs):
         yield from group()
 
 

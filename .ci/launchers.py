@@ -46,6 +46,10 @@ def unproved():
         expect(
             "unproved: files", launched("unproved", ["bind", "a table", "none", "a table"], input=b"text\n", env=env, cwd=folder)[1], files,
         )
+        covered = f"try --seconds 600 --data table3={folder}/a table -- cover 1 7,7 table3\ntext\n"
+        expect(
+            "unproved: files of a cover", launched("unproved", ["cover", "1", "7,7", "a table"], input=b"text\n", env=env, cwd=folder)[1], covered,
+        )
         expect("unproved: no file", launched("unproved", ["brain", "none"], env=env, cwd=folder)[1], "try --seconds 600 -- brain table\n")
         ours, theirs = pty.openpty()
         status, output, errors = launched("unproved", ["brain"], stdin=theirs, env=env)
@@ -227,6 +231,11 @@ WRONG_WORDS = [
     (["bind"], "FILE is 1 to 64 paths, not 0; ./renju help bind tells more"),
     (["bind", "t", ""], "FILE is empty; ./renju help bind tells more"),
     (["bind", *65 * ["t"]], "FILE is 1 to 64 paths, not 65; ./renju help bind tells more"),
+    (["cover", "1"], "the form is renju cover WORK ATTACK FILE .. < POSITION; ./renju help cover tells more"),
+    (["cover", "1", "-"], "FILE is 1 to 1,000 paths, not 0; ./renju help cover tells more"),
+    (["cover", "0", "-", "t"], "WORK is 1 to 1,000,000,000,000, not 0; ./renju help cover tells more"),
+    (["cover", "1", "7,32", "t"], "ATTACK is X,Y or -, not 7,32; ./renju help cover tells more"),
+    (["cover", "1", "31,31", "t", ""], "FILE is empty; ./renju help cover tells more"),
 ]
 
 
@@ -269,6 +278,8 @@ def ends_of(told):
         return [(it, True) for it in told[7:].split(", ")] + [("other", False)]
     if "path" in told:
         return [("none", True), ("", False)]
+    if told == "X,Y or -":
+        return [(it, True) for it in ("-", "0,0", "31,31")] + [(it, False) for it in ("32,0", "0,32", "00,1", "--", "")]
     least, most = (int(it.replace(",", "")) for it in told.split(" to "))
     return [(str(it), least <= it <= most) for it in (least, most, least - 1, most + 1)]
 

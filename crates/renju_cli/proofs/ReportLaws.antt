@@ -1,13 +1,15 @@
 -- What follows of a run from its report: the command of its form did what it does, and so answered where it is sure to.
-use Rattle.std.proofs.Common.{◌≡◌, inl, inr, subst, ℕ, List}
+use Rattle.std.proofs.Common.{◌≡◌, inl, inr, subst, ℕ, List, Option}
 use Rattle.renju_cli.specs.declared.commands.Form.{Form}
-use Rattle.renju_cli.specs.declared.commands.Form.TheVariants.{BrainWith, RefereeWith, Bind}
+use Rattle.renju_cli.specs.declared.commands.Form.TheVariants.{BrainWith, RefereeWith, Bind, Cover}
 use Rattle.command_base.specs.Runs.{Run}
 use Rattle.command_base.specs.Forms.{HasWords}
-use Rattle.renju_cli.proofs.Common.{second_word, words_after, command, IsForm, Report, IsComplete}
+use Rattle.renju_cli.proofs.Common.{second_word, words_after, words_after_third, command, IsForm, Report, IsComplete}
 use Rattle.brain_commands.specs.Brains.{IsBrainWith}
 use Rattle.table_commands.specs.Referees.{IsRefereeWith}
 use Rattle.table_commands.specs.Binds.{IsBind}
+use Rattle.game_rules.specs.declared.Point.{Point}
+use Rattle.cover_command.specs.Covers.{IsCoverRun}
 use Rattle.renju_cli.proofs.EachCommand.{answers}
 use Rattle.renju_cli.proofs.FormLaws.{one-form}
 
@@ -26,6 +28,12 @@ file-reported run name form is does = inr (BrainWith, form, subst (λ (n : List 
 pub bind-reported : (run : Run) (names : List (List ℕ)) → IsForm run.words Bind → names ≡ words_after run.words → IsBind names run
     → Report run
 bind-reported run names form is does = inr (Bind, form, subst (λ (ns : List (List ℕ)). IsBind ns run) is does)
+
+-- so is what `cover` did with those after the third
+pub cover-reported : (run : Run) (work : ℕ) (attack : Option Point) (names : List (List ℕ)) → IsForm run.words (Cover work attack)
+    → names ≡ words_after_third run.words → IsCoverRun work attack names run → Report run
+cover-reported run work attack names form is does =
+    inr (Cover work attack, form, subst (λ (ns : List (List ℕ)). IsCoverRun work attack ns run) is does)
 
 -- the same of `referee FILE`
 pub game-reported : (run : Run) (name : List ℕ) → IsForm run.words RefereeWith → name ≡ second_word run.words → IsRefereeWith name run

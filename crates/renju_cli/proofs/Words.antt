@@ -1,9 +1,9 @@
--- Words that forms have: the second one, those after the first, and two numbers.
+-- Words that forms have: the second one, those after the first or the third, and two numbers.
 use Rattle.std.proofs.Common.{◌≡◌, sym, ap, ◌∙◌, ℕ, ◌≤◌, ◌<◌, List, [], ◌∷◌, length, map, take, drop}
 use Rattle.std.proofs.Common.{get_or, refl, ◌-◌, arith}
 use Rattle.std.proofs.Math.Seq.{take-length}
 use Rattle.std.proofs.lemmas.List.{length-map}
-use Rattle.renju_cli.specs.Words.{second_word, words_after}
+use Rattle.renju_cli.specs.Words.{second_word, words_after, words_after_third}
 
 module _ {X : Type 0} (f : X → List ℕ) where
   -- as many words as there are in the list
@@ -48,4 +48,24 @@ module _ {X : Type 0} (f : X → List ℕ) where
   words-after (x ∷ xs) =
       let count : length (x ∷ xs) - 1 ≡ length xs = omega arith in
       let rest : take (length (x ∷ xs) - 1) xs ≡ xs = ap (λ n. take n xs) count ∙ take-length xs in
+      ap (map f) rest
+
+  -- the first two words, and those after them
+  pub two-and-rest : (xs : List X) (x y : X) → 2 ≤ length xs → x ≡ get_or xs 0 x → y ≡ get_or xs 1 y
+      → map f xs ≡ f x ∷ f y ∷ map f (take (length xs - 2) (drop 2 xs))
+  two-and-rest [] x y some first second = absurd (omega (arith, some))
+  two-and-rest (v ∷ []) x y some first second = absurd (omega (arith, some))
+  two-and-rest (v ∷ w ∷ xs) x y some first second =
+      let count : length (v ∷ w ∷ xs) - 2 ≡ length xs = omega arith in
+      let rest : take (length (v ∷ w ∷ xs) - 2) xs ≡ xs = ap (λ n. take n xs) count ∙ take-length xs in
+      ap (λ u. f u ∷ f w ∷ map f xs) (sym first) ∙ ap (λ u. f x ∷ f u ∷ map f xs) (sym second) ∙ ap (λ l. f x ∷ f y ∷ map f l) (sym rest)
+
+  -- the words after the third
+  pub words-after-third : (xs : List X) → map f (take (length xs - 3) (drop 3 xs)) ≡ words_after_third (map f xs)
+  words-after-third [] = refl
+  words-after-third (u ∷ []) = refl
+  words-after-third (u ∷ v ∷ []) = refl
+  words-after-third (u ∷ v ∷ w ∷ xs) =
+      let count : length (u ∷ v ∷ w ∷ xs) - 3 ≡ length xs = omega arith in
+      let rest : take (length (u ∷ v ∷ w ∷ xs) - 3) xs ≡ xs = ap (λ n. take n xs) count ∙ take-length xs in
       ap (map f) rest

@@ -13,16 +13,18 @@ use crate::forms;
 use board_symmetry::Symmetry;
 use brain_commands::{play, play_with, print_drill};
 use command_base::{OfPosition, Status, deliver, tell};
+use cover_command::{Covering, cover_with};
 use position_commands::{Defend, FindSequence, Fours, ListFouls};
 use quiet_command::Quiet;
 use renju_io::{Shelf, Sink, Source};
 use solve_command::Solve;
 use std::alloc::Global;
+use stone_board::Point;
 use table_commands::{Check, CheckBook, Image, Referee, bind_book, referee_with};
 
 /// The line that words without a form are answered with.
 pub const USAGE: &str =
-    "usage: renju check WORK, foul, fours DEPTH NODES, threats LENGTH NODES, solve DEPTH NODES, quiet DEPTH NODES, brain [FILE], drill N, image SYMMETRY, referee [FILE], defend DEPTH NODES, bind FILE .., book WORK\n";
+    "usage: renju check WORK, foul, fours DEPTH NODES, threats LENGTH NODES, solve DEPTH NODES, quiet DEPTH NODES, brain [FILE], drill N, image SYMMETRY, referee [FILE], defend DEPTH NODES, bind FILE .., book WORK, cover WORK ATTACK FILE ..\n";
 
 /// A form of words: the command and its numbers.
 #[derive(Clone, Copy, Debug, PartialEq, Eq)]
@@ -57,6 +59,9 @@ pub enum Form {
     Bind,
     /// `book WORK`, with WORK as that of `check`.
     Book { work: u64 },
+    /// `cover WORK ATTACK FILE ..`, with WORK as that of `check`, ATTACK a point or `-`, and 1 to `MAX_PARTS` files, none of which is
+    /// empty. They are the words after the third.
+    Cover { work: u64, attack: Option<Point> },
 }
 
 /// The form that the words have, if they have one.
@@ -80,6 +85,7 @@ pub(crate) fn form_of(words: &[String]) -> Option<Form>
         "defend" => forms::defend(rest),
         "bind" => forms::bind(rest),
         "book" => forms::book(rest),
+        "cover" => forms::cover(rest),
         _ => None,
     }
 }
@@ -141,5 +147,13 @@ pub(crate) fn run<I: Source, O: Sink, F: Shelf>(
         ),
         Some(Form::Bind) => bind_book(alloc, &words[1..], output, shelf),
         Some(Form::Book { work }) => tell(alloc, &CheckBook { work }, input, output),
+        Some(Form::Cover { work, attack }) => {
+            let covering = Covering {
+                work,
+                attack,
+                names: &words[3..],
+            };
+            cover_with(alloc, &covering, input, output, shelf)
+        }
     }
 }

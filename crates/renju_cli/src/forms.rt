@@ -10,6 +10,7 @@ use crate::Form;
 use crate::numbers::{count, two_counts};
 use brain_commands::MAX_DRILL;
 use command_base::MAX_SEARCHED;
+use cover_command::{are_part_names, attack_of_word};
 use four_search::MAX_DEPTH;
 use table_commands::{MAX_WORK, are_names, symmetry_of_word};
 use text_lines::number;
@@ -158,4 +159,21 @@ pub(crate) fn book(rest: &[String]) -> Option<Form>
     };
     let work = count(work, MAX_WORK)?;
     Some(Form::Book { work })
+}
+
+/// The form of `cover` and the words after it, if they are WORK, ATTACK and 1 to `MAX_PARTS` names, none of which is empty.
+pub(crate) fn cover(rest: &[String]) -> Option<Form>
+    ensures form { MatchOption result (¬ HasForm (codes "cover" ∷ map string_bytes rest.now))
+        (λ form. IsForm (codes "cover" ∷ map string_bytes rest.now) form) }
+{
+    let [work, attack, names @ ..] = rest else {
+        return None;
+    };
+    let work = count(work, MAX_WORK)?;
+    let attack = attack_of_word(attack.as_str())?;
+    if are_part_names(names) {
+        Some(Form::Cover { work, attack })
+    } else {
+        None
+    }
 }

@@ -117,6 +117,13 @@ const BLOCK_LINES: &str =
 const GAME: &str =
     "renju-game 1\nrule freestyle\nsize 15\nblack 5,7 6,7 7,7\nwhite 0,0 2,0 4,0\nmoves 4,7 3,7 8,7\n";
 
+/// White has two points left, and Black wins with the other; and the win after the first of them, which turned is that after the second.
+const TWO_LEFT: &str =
+    "renju-position 1\nrule freestyle\nsize 5\nblack 0,0 1,0 2,0 3,0 0,1 4,1 0,2 2,2 0,3 3,3 1,4 4,4\nwhite 1,1 2,1 3,1 1,2 3,2 4,2 1,3 2,3 4,3 2,4 3,4\n";
+
+const ONE_LEFT: &str =
+    "renju-table 1\nrule freestyle\nsize 5\nblack 0,0 1,0 2,0 3,0 0,1 4,1 0,2 2,2 0,3 3,3 1,4 4,4\nwhite 4,0 1,1 2,1 3,1 1,2 3,2 4,2 1,3 2,3 4,3 2,4 3,4\nmoves 1\nnodes 1\n0,4 wins\n";
+
 const ACCEPTED: &str = "accepted in 2 moves, 219 arrivals\n";
 
 /// A row of one of the tables below. It is a macro, since a constant calls no function.
@@ -134,7 +141,7 @@ macro_rules! run {
 }
 
 /// Inputs that fail at their first read, in their midst and where the end is told.
-static FAILING_READS: [Run; 17] = [
+static FAILING_READS: [Run; 18] = [
     run!("check 219", "", THREE_TABLE, 7, "", reads: &[1]),
     run!("check 219", "", THREE_TABLE, 7, "", piece: 1, reads: &[11]),
     run!("check 219", "", THREE_TABLE, 7, "", reads: &[2]),
@@ -146,6 +153,7 @@ static FAILING_READS: [Run; 17] = [
     run!("quiet 5 3", "", THREE, 7, "", piece: 7, reads: &[2]),
     run!("defend 2 4", "", OPEN_THREE, 7, "", piece: 7, reads: &[2]),
     run!("referee t", THREE_TABLE, GAME, 7, "", reads: &[1]),
+    run!("cover 1 - t", ONE_LEFT, TWO_LEFT, 7, "", piece: 7, reads: &[2]),
     run!("brain t", BLOCK_FOULS, BLOCK_LINES, 7, "", reads: &[1]),
     run!("brain t", BLOCK_FOULS, BLOCK_LINES, 7, "OK\r\n", piece: 1, reads: &[11]),
     run!("brain", "", "START 15\nEND\n", 7, "", reads: &[1]),
@@ -168,7 +176,7 @@ static READS_AFTER: [Run; 8] = [
 
 /// Outputs that fail and keep the front of their piece, of which the drill's has an input that is not asked; and one that would fail
 /// after the last piece.
-static FAILING_WRITES: [Run; 10] = [
+static FAILING_WRITES: [Run; 11] = [
     run!("check 219", "", THREE_TABLE, 8, "acc", piece: 3, writes: &[1], kept: 3),
     run!("check 219", "", THREE_TABLE, 0, ACCEPTED, piece: 3, writes: &[2]),
     run!("book 219", "", TWO_ENTRIES, 8, "accepted", piece: 7, writes: &[1], kept: 8),
@@ -177,15 +185,18 @@ static FAILING_WRITES: [Run; 10] = [
     run!("defend 2 4", "", OPEN_THREE, 8, "defen", piece: 7, writes: &[1], kept: 5),
     run!("drill 0", "", "", 8, "dri", piece: 1, reads: &[1], writes: &[1], kept: 3),
     run!("bind t t", THREE_TABLE, "input", 8, "renju-b", writes: &[1], kept: 7),
+    run!("cover 1 - t", ONE_LEFT, TWO_LEFT, 8, "covered in", writes: &[1], kept: 10),
     run!("referee t", THREE_TABLE, GAME, 8, "won ", writes: &[1], kept: 4),
     run!("brain t", BLOCK_FOULS, BLOCK_LINES, 8, "OK\r\n6,", writes: &[2], kept: 2),
 ];
 
 /// Files that cannot be loaded, each at its load: a table and a book that are held are loaded once.
-static FAILING_LOADS: [Run; 8] = [
+static FAILING_LOADS: [Run; 10] = [
     run!("bind t t", THREE_TABLE, "input", 2, "file 1 shelf failed\n", loads: &[1]),
     run!("bind t t", THREE_TABLE, "input", 2, "file 2 shelf failed\n", loads: &[2]),
     run!("bind t t", THREE_TABLE, "input", 0, THREE_TWICE, loads: &[3]),
+    run!("cover 1 - t t", ONE_LEFT, TWO_LEFT, 2, "file 2 shelf failed\n", loads: &[2]),
+    run!("cover 1 - t t", ONE_LEFT, TWO_LEFT, 0, "covered in 1 moves, 2 replies by 2 tables\n", loads: &[3]),
     run!("referee t", THREE_TABLE, GAME, 2, "shelf failed\n", loads: &[1]),
     run!("brain t", BLOCK_FOULS, BLOCK_LINES, 2, "shelf failed\n", loads: &[1]),
     run!("brain t", BLOCK_FOULS, BLOCK_LINES, 0, "OK\r\n6,3\r\n7,3\r\nERROR game over\r\n", loads: &[2]),
@@ -195,7 +206,7 @@ static FAILING_LOADS: [Run; 8] = [
 
 /// Runs that leave their input unread, of which one read would fail: words without a form, and files that are none, that hold no
 /// accepted table, or that are not there.
-static UNREAD: [Run; 11] = [
+static UNREAD: [Run; 12] = [
     run!("", "", "219", 1, USAGE, writes: &[2]),
     run!("check 0", "", THREE_TABLE, 1, USAGE, writes: &[2]),
     run!(
@@ -207,6 +218,13 @@ static UNREAD: [Run; 11] = [
     ),
     run!("bind t t", THREE_TABLE, "input", 0, THREE_TWICE),
     run!("bind t u", THREE_TABLE, "input", 2, "file 2 shelf failed\n"),
+    run!(
+        "cover 1 4,7 t u",
+        ONE_LEFT,
+        "input",
+        2,
+        "file 2 shelf failed\n"
+    ),
     run!(
         "referee t",
         "renju-table 1\nrule gomoku\n",

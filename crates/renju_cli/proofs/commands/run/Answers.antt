@@ -1,13 +1,13 @@
 use Rattle.std.proofs.Common.{◌≡◌, ℕ, List, arith, inl, refl, sym, subst, ◌∙◌, length, map, string_bytes}
 use Rattle.renju_io.proofs.AskedCalls.{by_each_none}
 use Rattle.renju_cli.specs.declared.commands.Form.{Form}
-use Rattle.renju_cli.specs.declared.commands.Form.TheVariants.{BrainWith, RefereeWith, Bind}
+use Rattle.renju_cli.specs.declared.commands.Form.TheVariants.{BrainWith, RefereeWith, Bind, Cover}
 use Rattle.command_base.specs.Statuses.{status_number}
 use Rattle.command_base.specs.declared.status.Status.TheVariants.{Usage}
 use Rattle.command_base.specs.Runs.{Run, IsDelivered, program_run, change}
 use Rattle.renju_cli.proofs.Common.{second_word, IsForm}
-use Rattle.renju_cli.proofs.Words.{same-count, word-after, words-after}
-use Rattle.renju_cli.proofs.ReportLaws.{bind-reported, file-reported, game-reported}
+use Rattle.renju_cli.proofs.Words.{same-count, word-after, words-after, words-after-third}
+use Rattle.renju_cli.proofs.ReportLaws.{bind-reported, cover-reported, file-reported, game-reported}
 use Rattle.renju_cli.proofs.commands.run.Goals as goal
 
 -- the literal of the usage line is that line
@@ -91,3 +91,15 @@ returns-in-Some-Bind-clause-report g c =
     let form : IsForm words Bind = subst (λ (f : Form). IsForm words f) c.in-Some-Bind.field-0-is c.in-Some-Bind.ensures.form in
     bind-reported run _ form (words-after string_bytes c.args.words.now)
     (c.bind_book.ensures.binds words input (g.I.Source.last c.args.input.now) (record { same = refl; faults = refl; asked = refl }))
+
+-- the files of `cover` are the words after the third
+pub returns-in-Some-Cover-clause-report : goal.returns-in-Some-Cover-clause-report
+returns-in-Some-Cover-clause-report g c =
+    let words = map string_bytes c.args.words.now in
+    let run : Run = program_run words (change g.I.Source.left g.I.Source.faults g.I.Source.asked c.args.input.now c.cover_with.new.input)
+    (change g.O.Sink.written g.O.Sink.faults g.O.Sink.asked c.args.output.now c.cover_with.new.output)
+    (change g.F.Shelf.files g.F.Shelf.faults g.F.Shelf.asked c.args.shelf.now c.cover_with.new.shelf)
+    (g.I.Source.last c.cover_with.new.input) (status_number c.cover_with.result) in
+    let form : IsForm words (Cover c.in-Some-Cover.work c.in-Some-Cover.attack) =
+    subst (λ (f : Form). IsForm words f) c.in-Some-Cover.field-0-is c.in-Some-Cover.ensures.form in
+    cover-reported run _ _ _ form (words-after-third string_bytes c.args.words.now) (c.cover_with.ensures.covers words)
