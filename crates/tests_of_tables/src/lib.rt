@@ -16,3 +16,5 @@ mod of_strategy_checker;
 mod of_strategy_compiler;
 #[cfg(test)]
 mod of_strategy_graph;
+#[cfg(test)]
+mod of_zone_checker;

@@ -25,7 +25,8 @@ pub const MAX_ZONE_MOVES: u32 = 60;
 /// What is said of a root at a position by zones.
 #[derive(Clone, Copy, Debug, PartialEq, Eq)]
 pub enum ZoneVerdict {
-    /// The root is accepted by a zone. It wins within `moves` attacks, and `pairs` pairs of a node and a board were looked at.
+    /// The root is accepted by a zone. It wins within `moves` attacks; `pairs`, at most the work, counts the pairs of a node and a board
+    /// that were looked at, which no clause says.
     Accepted { moves: u32, pairs: u64 },
     /// The root is not accepted by a zone.
     Refused,

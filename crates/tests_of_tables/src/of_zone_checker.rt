@@ -1,0 +1,68 @@
+//! Verdicts by zones: on an attack and on a start, with and without a reply that has to be met, with work and without, and of a side
+//! that has fouls.
+
+use crate::compared::same;
+use position_files::read_table;
+use row_shapes::{Freestyle, Renju, Rule};
+use std::alloc::Global;
+use std::process::Abort;
+use test_boards::position_of;
+use zone_checker::{ZoneVerdict, check_by_zones};
+
+/// Three in a row with both ends open: 4,7 makes a straight four, and 3,7 is answered by 8,7.
+const THREE: &str =
+    "renju-table 1\nrule freestyle\nsize 15\nblack 5,7 6,7 7,7\nwhite 0,0 2,0 4,0\nmoves 2\nnodes 3\n3,7 wins\n8,7 wins\n4,7 rest 0 3,7>1\n";
+
+const THREE_WITHOUT_THE_BLOCK: &str =
+    "renju-table 1\nrule freestyle\nsize 15\nblack 5,7 6,7 7,7\nwhite 0,0 2,0 4,0\nmoves 2\nnodes 3\n3,7 wins\n8,7 wins\n4,7 rest 0\n";
+
+/// A straight four, and White is to move.
+const FOUR: &str =
+    "renju-table 2\nrule freestyle\nsize 15\nblack 4,7 5,7 6,7 7,7\nwhite 0,0 2,0 4,0\nmoves 1\nnodes 2\n3,7 wins\n8,7 wins\nstart rest 0 3,7>1\n";
+
+/// Where its root is accepted by a zone, within how many moves, and whether none accepts it; neither where the work is spent.
+fn told<R: Rule>(
+    alloc: Global,
+    text: &str,
+    black: &str,
+    white: &str,
+    work: u64,
+) -> Option<(Option<u32>, bool)> {
+    let file = read_table(alloc, text.as_bytes()).ok()?;
+    let position = position_of::<R>(alloc, black, white)?;
+    if !file.root.names_below(file.table.len()) {
+        return None;
+    }
+    match check_by_zones(alloc, &file.table, &file.root, &position, work).ok()? {
+        ZoneVerdict::Accepted { moves, .. } => Some((Some(moves), false)),
+        ZoneVerdict::Refused => Some((None, true)),
+        ZoneVerdict::Spent => Some((None, false)),
+    }
+}
+
+/// The same of the three, with this work.
+fn told_of_three<R: Rule>(alloc: Global, text: &str, work: u64) -> Option<(Option<u32>, bool)> {
+    told::<R>(alloc, text, "5,7 6,7 7,7", "0,0 2,0 4,0", work)
+}
+
+#[test]
+fn a_zone_accepts_where_each_reply_that_harms_is_met(rt: HostRuntime) {
+    let told = told_of_three::<Freestyle>(rt.alloc(), THREE, 1000);
+    same(&rt, told, Some((Some(2), false)));
+    let told = told_of_three::<Freestyle>(rt.alloc(), THREE_WITHOUT_THE_BLOCK, 1000);
+    same(&rt, told, Some((None, true)));
+}
+
+#[test]
+fn a_zone_is_made_with_work_and_for_a_side_without_fouls(rt: HostRuntime) {
+    let told = told_of_three::<Freestyle>(rt.alloc(), THREE, 0);
+    same(&rt, told, Some((None, false)));
+    let told = told_of_three::<Renju>(rt.alloc(), THREE, 1000);
+    same(&rt, told, Some((None, true)));
+}
+
+#[test]
+fn a_start_is_accepted_by_a_zone(rt: HostRuntime) {
+    let told = told::<Freestyle>(rt.alloc(), FOUR, "4,7 5,7 6,7 7,7", "0,0 2,0 4,0", 1000);
+    same(&rt, told, Some((Some(1), false)));
+}
