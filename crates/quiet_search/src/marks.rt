@@ -1,21 +1,25 @@
-//! Marks of zones: what a zone says at one point, and which stones do harm to it.
+//! Marks of zones: what a zone says at one point, and whether a stone there does harm to it.
 //!
-//! A zone is a list of marks, one for each point of the board in reading order. A point past the end of a list says nothing.
+//! A zone is a list of marks, one for each point of the board in reading order.
 #![tactic(auto)]
 
 ghost use Rattle.std.specs.Prelude.{IsTrue};
 ghost use Rattle.game_rules.specs.Grid.{is_on};
 
-use stone_board::{Axis, Board, Point, Side};
+use stone_board::{Axis, Board, Point, Side, Way, place_on, steps_left};
 
 /// Any number of further stones: a window has five points.
 pub(crate) const ANY: u8 = 9;
 
-/// What a zone says at one point: whether it is a point of the zone, and how many further stones it bears in each of the four
-/// windows that begin there.
+/// The bits of the five places of a window that begins at the first.
+const WINDOW: u32 = 31;
+
+/// What a zone says at one point: whether it is a point of the zone, how many further stones it bears in each of the four windows
+/// that begin there, and, once the zone is made, whether the point is in a window that bears none.
 #[derive(Clone, Copy)]
 pub(crate) struct Mark {
     pub(crate) inside: bool,
+    pub(crate) full: bool,
     pub(crate) row: u8,
     pub(crate) column: u8,
     pub(crate) down: u8,
@@ -25,6 +29,7 @@ pub(crate) struct Mark {
 /// Says nothing.
 pub(crate) const BLANK: Mark = Mark {
     inside: false,
+    full: false,
     row: ANY,
     column: ANY,
     down: ANY,
@@ -32,20 +37,16 @@ pub(crate) const BLANK: Mark = Mark {
 };
 
 impl Mark {
-    /// The number for the window along the axis.
-    fn spare(self, axis: Axis) -> u8 {
-        match axis {
-            Axis::Row => self.row,
-            Axis::Column => self.column,
-            Axis::Down => self.down,
-            Axis::Up => self.up,
-        }
+    /// Whether a stone on the point does harm: it is a point of the zone, or in a window that bears no stone more.
+    pub(crate) fn is_harmed(self) -> bool {
+        self.inside || self.full
     }
 
     /// What both marks say: a point that is in either zone, and the lesser number of each window.
     pub(crate) fn covered(self, other: Mark) -> Mark {
         Mark {
             inside: self.inside || other.inside,
+            full: false,
             row: self.row.min(other.row),
             column: self.column.min(other.column),
             down: self.down.min(other.down),
@@ -57,6 +58,7 @@ impl Mark {
     pub(crate) fn kept_back(self) -> Mark {
         Mark {
             inside: self.inside,
+            full: false,
             row: less(self.row),
             column: less(self.column),
             down: less(self.down),
@@ -79,19 +81,20 @@ fn less(spare: u8) -> u8 {
 fn room(board: &Board, side: Side, axis: Axis, p: Point) -> Option<u8>
     requires on { IsTrue (is_on board.now p) }
 {
-    let mut stones: u8 = 0;
-    for k in 0..5u8 {
-        let Some(q) = board.along(p, axis, k, 0) else {
-            return Some(ANY);
-        };
-        if board.holds(side, q) {
-            return Some(ANY);
-        }
-        if board.holds(side.other(), q) {
-            stones = stones.saturating_add(1);
-        }
+    if steps_left(Way::Ahead, axis, board.width(), board.height(), p) < 4 {
+        return Some(ANY);
     }
-    if stones <= 3 { Some(3 - stones) } else { None }
+    let place = place_on(axis, p);
+    if board.line_through(side, axis, p) >> place & WINDOW != 0 {
+        return Some(ANY);
+    }
+    let others = board.line_through(side.other(), axis, p) >> place & WINDOW;
+    let stones = others.count_ones();
+    if stones <= 3 {
+        Some(3 - stones as u8)
+    } else {
+        None
+    }
 }
 
 /// The mark of a point of the board where the side has just attacked. `None` says that one of its windows has four stones of the
@@ -105,6 +108,7 @@ pub(crate) fn opened_at(board: &Board, side: Side, p: Point) -> Option<Mark>
     let up = room(board, side, Axis::Up, p)?;
     Some(Mark {
         inside: false,
+        full: false,
         row,
         column,
         down,
@@ -115,38 +119,4 @@ pub(crate) fn opened_at(board: &Board, side: Side, p: Point) -> Option<Mark>
 /// The place of a point in reading order on a board of this width.
 pub(crate) fn place_of(width: u8, p: Point) -> usize {
     p.y as usize * width as usize + p.x as usize
-}
-
-/// The mark at a place, or one that says nothing past the end.
-fn mark_at(marks: &[Mark], place: usize) -> Mark {
-    if place < marks.len() {
-        marks[place]
-    } else {
-        BLANK
-    }
-}
-
-/// Whether a window through a point of the board along the axis bears no stone more.
-fn is_full(board: &Board, marks: &[Mark], axis: Axis, q: Point) -> bool
-    requires on { IsTrue (is_on board.now q) }
-{
-    for k in 0..5u8 {
-        if let Some(p) = board.along(q, axis, 0, k) {
-            if mark_at(marks, place_of(board.width(), p)).spare(axis) == 0 {
-                return true;
-            }
-        }
-    }
-    false
-}
-
-/// Whether a stone on a point of the board does harm: it is a point of the zone, or in a window that bears no stone more.
-pub(crate) fn harms(board: &Board, marks: &[Mark], q: Point) -> bool
-    requires on { IsTrue (is_on board.now q) }
-{
-    mark_at(marks, place_of(board.width(), q)).inside
-        || is_full(board, marks, Axis::Row, q)
-        || is_full(board, marks, Axis::Column, q)
-        || is_full(board, marks, Axis::Down, q)
-        || is_full(board, marks, Axis::Up, q)
 }

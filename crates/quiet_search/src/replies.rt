@@ -16,7 +16,7 @@ use strategy_compiler::{Compiler, SearchError};
 use strategy_graph::Reply;
 
 /// The budget of threats after one reply.
-const REPLY_BUDGET: u64 = 10;
+const REPLY_BUDGET: u64 = 3;
 
 /// The numbers of a reply that stays open.
 const OPEN: Numbers = Numbers {

@@ -1,10 +1,10 @@
 //! What a point is worth to a side: the windows through it that are clear of the other side, by how many stones they would have.
 #![tactic(auto)]
 
-ghost use Rattle.std.specs.Prelude.{IsTrue};
+ghost use Rattle.std.specs.Prelude.{◌<◌, IsTrue};
 ghost use Rattle.game_rules.specs.Grid.{is_on};
 
-use stone_board::{Axis, Board, Point, Side};
+use stone_board::{Axis, Board, MAX_SIDE, Point, Side, Way, place_on, steps_left};
 
 /// The nine places of an axis around a point, as bits: where the attacker stands, where the defender, and what is off the board.
 #[derive(Clone, Copy)]
@@ -14,12 +14,11 @@ struct Around {
     off: u32,
 }
 
-/// What a point is worth to the attacker and to the defender, and whether it is near enough to be a move.
+/// What a point is worth to the attacker and to the defender.
 #[derive(Clone, Copy)]
 pub(crate) struct Worth {
     pub(crate) own: u32,
     pub(crate) other: u32,
-    pub(crate) near: bool,
 }
 
 /// The bit of the point itself among the nine.
@@ -28,30 +27,42 @@ const MIDDLE: u32 = 16;
 /// The bits of the places within two steps.
 const WITHIN_TWO: u32 = 124;
 
+/// The nine places, those behind the point, and those ahead of it.
+const PLACES: u64 = 511;
+
+const BEHIND: u32 = 15;
+
+const AHEAD: u32 = 480;
+
+/// The bits of the nine places around a place of a line.
+fn nine_around(bits: u32, place: u8) -> u32
+    requires place { place < MAX_SIDE }
+{
+    (u64::from(bits) << 4 >> place & PLACES) as u32
+}
+
+/// The places that are off the board, where so many steps ahead and behind stay on it.
+fn off_board(ahead: u8, behind: u8) -> u32 {
+    BEHIND >> behind.min(4) | AHEAD << ahead.min(4) & AHEAD
+}
+
+/// What a point is worth on an axis on which nothing is near: one stone would stand in each of its five windows.
+const ALONE: Worth = Worth { own: 5, other: 5 };
+
 /// What stands around the point on an axis, seen by the side.
 fn look_around(board: &Board, side: Side, axis: Axis, p: Point) -> Around
     requires on { IsTrue (is_on board.now p) }
 {
-    let mut found = Around {
-        own: 0,
-        other: 0,
-        off: 0,
-    };
-    for k in 0..9u8 {
-        let bit = 1u32 << k;
-        match board.along(p, axis, k, 4) {
-            None => found.off |= bit,
-            Some(q) => {
-                if board.holds(side, q) {
-                    found.own |= bit;
-                }
-                if board.holds(side.other(), q) {
-                    found.other |= bit;
-                }
-            }
-        }
+    let own = board.line_through(side, axis, p);
+    let other = board.line_through(side.other(), axis, p);
+    let ahead = steps_left(Way::Ahead, axis, board.width(), board.height(), p);
+    let behind = steps_left(Way::Behind, axis, board.width(), board.height(), p);
+    let place = place_on(axis, p);
+    Around {
+        own: nine_around(own, place),
+        other: nine_around(other, place),
+        off: off_board(ahead, behind),
     }
-    found
 }
 
 /// What a window is worth with so many stones.
@@ -83,10 +94,12 @@ fn worth_on(board: &Board, attacker: Side, axis: Axis, p: Point) -> Worth
     requires on { IsTrue (is_on board.now p) }
 {
     let found = look_around(board, attacker, axis, p);
+    if found.own | found.other | found.off == 0 {
+        return ALONE;
+    }
     Worth {
         own: windows_worth(found.own, found.other | found.off),
         other: windows_worth(found.other, found.own | found.off),
-        near: found.own != 0 || found.other & WITHIN_TWO != 0,
     }
 }
 
@@ -101,7 +114,6 @@ pub(crate) fn point_worth(board: &Board, attacker: Side, p: Point) -> Worth
     Worth {
         own: total(row.own, column.own, down.own, up.own),
         other: total(row.other, column.other, down.other, up.other),
-        near: row.near || column.near || down.near || up.near,
     }
 }
 
@@ -110,4 +122,24 @@ fn total(row: u32, column: u32, down: u32, up: u32) -> u32 {
     row.saturating_add(column)
         .saturating_add(down)
         .saturating_add(up)
+}
+
+/// Whether a stone of the attacker is within four steps of the point on the axis, or one of the defender within two.
+fn is_near_on(board: &Board, attacker: Side, axis: Axis, p: Point) -> bool
+    requires on { IsTrue (is_on board.now p) }
+{
+    let own = board.line_through(attacker, axis, p);
+    let other = board.line_through(attacker.other(), axis, p);
+    let place = place_on(axis, p);
+    nine_around(own, place) | nine_around(other, place) & WITHIN_TWO != 0
+}
+
+/// Whether the point is near enough to stones to be a move.
+pub(crate) fn is_near(board: &Board, attacker: Side, p: Point) -> bool
+    requires on { IsTrue (is_on board.now p) }
+{
+    is_near_on(board, attacker, Axis::Row, p)
+        || is_near_on(board, attacker, Axis::Column, p)
+        || is_near_on(board, attacker, Axis::Down, p)
+        || is_near_on(board, attacker, Axis::Up, p)
 }

@@ -283,6 +283,7 @@ impl<R: Rule> Zones<R> {
             lift_if_held(board, attack);
             if let Some(made) = zone {
                 self.enter(board, made, attack);
+                self.fill_windows(board, made);
             }
         }
         self.keep(board, frame.node, zone)

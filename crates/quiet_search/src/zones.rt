@@ -4,13 +4,13 @@
 //! is forgotten between two questions, never in the midst of one.
 #![tactic(auto)]
 
-use crate::marks::{BLANK, Mark, harms, opened_at, place_of};
+use crate::marks::{BLANK, Mark, opened_at, place_of};
 use crate::{MOST_MARKS, REMEMBERED};
 use position_table::{PackedPosition, WholeTable};
 use row_shapes::Rule;
 use std::alloc::{AllocError, Global};
 use std::marker::PhantomData;
-use stone_board::{Board, Point, Points, Side};
+use stone_board::{Axis, Board, Point, Points, Side};
 
 /// The zones of the pairs that were looked at.
 #[derive(Drop)]
@@ -62,15 +62,10 @@ impl<R: Rule> Zones<R> {
         u32::try_from(made).unwrap_or(u32::MAX)
     }
 
-    /// The marks of a zone, or none if there is no such zone.
-    pub(crate) fn marks_of(&self, zone: u32) -> &[Mark] {
-        let start = self.start_of(zone);
-        let end = start.saturating_add(self.size);
-        if end <= self.marks.len() {
-            &self.marks.as_slice()[start..end]
-        } else {
-            &[]
-        }
+    /// Where the mark of a point stands in a zone.
+    fn place_in(&self, board: &Board, zone: u32, p: Point) -> usize {
+        self.start_of(zone)
+            .saturating_add(place_of(board.width(), p))
     }
 
     /// A new zone that says nothing.
@@ -105,11 +100,38 @@ impl<R: Rule> Zones<R> {
 
     /// Makes a point one of the zone.
     pub(crate) fn enter(&mut self, board: &Board, zone: u32, p: Point) {
-        let place = self
-            .start_of(zone)
-            .saturating_add(place_of(board.width(), p));
+        let place = self.place_in(board, zone, p);
         if place < self.marks.len() {
             self.marks[place].inside = true;
+        }
+    }
+
+    /// Marks the points of the windows that bear no stone more, once the zone is made.
+    pub(crate) fn fill_windows(&mut self, board: &Board, zone: u32) {
+        for p in board.points() {
+            let place = self.place_in(board, zone, p);
+            if place < self.marks.len() {
+                let mark = self.marks[place];
+                self.fill_window(board, zone, Axis::Row, p, mark.row);
+                self.fill_window(board, zone, Axis::Column, p, mark.column);
+                self.fill_window(board, zone, Axis::Down, p, mark.down);
+                self.fill_window(board, zone, Axis::Up, p, mark.up);
+            }
+        }
+    }
+
+    /// Marks the points of the window along the axis that begins at the point, where it bears no stone more.
+    fn fill_window(&mut self, board: &Board, zone: u32, axis: Axis, p: Point, spare: u8) {
+        if spare > 0 || !board.on(p) {
+            return;
+        }
+        for k in 0..5u8 {
+            if let Some(q) = board.along(p, axis, k, 0) {
+                let place = self.place_in(board, zone, q);
+                if place < self.marks.len() {
+                    self.marks[place].full = true;
+                }
+            }
         }
     }
 
@@ -143,9 +165,10 @@ impl<R: Rule> Zones<R> {
         self.known.keep(PackedPosition::of(board), node, zone)
     }
 
-    /// Whether a stone on the point does harm to the zone; off the board none does.
+    /// Whether a stone on the point does harm to the zone; past the end of the marks none does.
     pub(crate) fn is_harmed(&self, board: &Board, zone: u32, q: Point) -> bool {
-        board.on(q) && harms(board, self.marks_of(zone), q)
+        let place = self.place_in(board, zone, q);
+        place < self.marks.len() && self.marks[place].is_harmed()
     }
 
     /// The empty points on which a stone does harm to the zone, in reading order.
