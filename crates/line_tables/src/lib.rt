@@ -9,6 +9,6 @@ mod line_shapes;
 mod outcome;
 mod tables;
 
-pub use line_shapes::LineShapes;
+pub use line_shapes::{LineShapes, reach};
 pub use row_shapes::{Shape, line_code};
 pub use tables::LineTables;

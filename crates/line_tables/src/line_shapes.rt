@@ -55,7 +55,7 @@ impl<R: Rule> LineShapes<R> {
 
 /// How many neighbours each way the codes of the side have.
 #[inline(always)]
-pub(crate) fn reach<R: Rule>(side: Side) -> usize
+pub fn reach<R: Rule>(side: Side) -> usize
     ensures reach { result ≡ reach_of R.KIND side }
 {
     match side {

@@ -69,11 +69,7 @@ impl Mark {
 
 /// The number with one stone kept back, if it is limited.
 fn less(spare: u8) -> u8 {
-    if spare >= ANY {
-        spare
-    } else {
-        spare.saturating_sub(1)
-    }
+    spare.saturating_sub(u8::from(spare < ANY))
 }
 
 /// How many further stones of the other side the window bears where the side has just attacked: any number where it is not

@@ -126,7 +126,7 @@ impl<R: Rule> Zones<R> {
         board: &mut Board,
         frames: &mut Vec<Frame>,
     ) -> Result<Entered, AllocError> {
-        put_if_empty(board, attack, self.side);
+        board.put_if_empty(attack, self.side);
         match self.push_opened(board)? {
             None => {
                 lift_if_held(board, attack);
@@ -166,7 +166,7 @@ impl<R: Rule> Zones<R> {
                     let taken = self.take(frame, zone);
                     match self.next_reply(nodes, taken, board) {
                         Some((asked, at, place)) => {
-                            put_if_empty(board, at, self.side.other());
+                            board.put_if_empty(at, self.side.other());
                             frames.push(Frame {
                                 place,
                                 reply: Some(at),
@@ -305,13 +305,6 @@ fn point_of(width: u8, place: usize) -> Point {
     Point {
         x: u8::try_from(across).unwrap_or(u8::MAX),
         y: u8::try_from(down).unwrap_or(u8::MAX),
-    }
-}
-
-/// Puts a stone on the point, if it is empty.
-pub(crate) fn put_if_empty(board: &mut Board, p: Point, side: Side) {
-    if board.is_empty(p) {
-        board.put(p, side);
     }
 }
 

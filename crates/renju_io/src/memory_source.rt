@@ -4,11 +4,12 @@
 //! none. It may be asked again once it has told its end, which it then tells again.
 ghost use Rattle.std.specs.Prelude.{◌≡◌, ◌<◌, ◌≤◌, [], true, min, length, take, IfOk, OnOk, OnErr, Ok, Err, None, Some, if◌then◌else◌};
 ghost use Rattle.renju_io.specs.Faults.{HasRisen, HasStayed, HasNotFallen};
-ghost use Rattle.renju_io.specs.Told.{Gives, tells_end};
+ghost use Rattle.renju_io.specs.Told.{Gives, tells_end as tells_end_lem};
 ghost use Rattle.renju_io.specs.Asked.{IsAskedOnce};
 ghost use Rattle.renju_io.specs.Memory.{no_calls, fails_next, given_count, after_read};
 
 use crate::failures::Failures;
+use crate::source::tells_end;
 use crate::{Failed, Source};
 use std::marker::Model;
 
@@ -61,13 +62,10 @@ impl Source for MemorySource {
     ghost asked = { λ s. s.calls.made };
 
     fn has_ended(&self) -> bool
-        ensures told { result ≡ tells_end self.now.last }
+        ensures told { result ≡ tells_end_lem self.now.last }
         ensures at_end { result ≡ true → self.now.left ≡ [] }
     {
-        match self.last {
-            Some(count) => count == 0,
-            None => false,
-        }
+        tells_end(self.last)
     }
 
     fn read(&mut self, buf: &mut [u8]) -> Result<usize, Failed>

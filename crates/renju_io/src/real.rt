@@ -8,8 +8,9 @@ ghost use Rattle.std.specs.Prelude.{◌≡◌, ◌<◌, ◌≤◌, true, None, S
 ghost use Rattle.std.specs.Io.KnownBytes.{Appends, ReadConsumes};
 ghost use Rattle.renju_io.specs.Faults.{HasRisen, HasStayed, HasNotFallen};
 ghost use Rattle.renju_io.specs.Asked.{IsAskedOnce, no_counts};
-ghost use Rattle.renju_io.specs.Told.{tells_end};
+ghost use Rattle.renju_io.specs.Told.{tells_end as tells_end_lem};
 
+use crate::source::tells_end;
 use crate::{Failed, LoadError, MAX_INPUT_BYTES, ReadAllError, Shelf, Sink, Source, read_all};
 use std::alloc::Global;
 use std::fs;
@@ -58,12 +59,9 @@ impl<R: Read + Drop> Source for RealSource<R> {
     ghost asked = { λ s. s.asked };
 
     fn has_ended(&self) -> bool
-        ensures told { result ≡ tells_end self.now.last }
+        ensures told { result ≡ tells_end_lem self.now.last }
     {
-        match self.last {
-            Some(count) => count == 0,
-            None => false,
-        }
+        tells_end(self.last)
     }
 
     /// One read of the reader into the whole buffer.

@@ -6,7 +6,7 @@ ghost use Rattle.std.specs.Prelude.{◌≡◌, ◌<◌, ◌≤◌, ℕ, false, t
 ghost use Rattle.std.specs.Io.KnownBytes.{IsAtEnd};
 ghost use Rattle.renju_io.specs.Faults.{HasRisen, HasStayed, HasNotFallen};
 ghost use Rattle.renju_io.specs.Asked.{IsAskedOnce};
-ghost use Rattle.renju_io.specs.Told.{Gives, tells_end};
+ghost use Rattle.renju_io.specs.Told.{Gives, tells_end as tells_end_lem};
 
 use crate::Failed;
 
@@ -26,14 +26,14 @@ pub trait Source {
 
     /// Whether a read has told the end of the input. Then nothing is left, and the source may not be asked again.
     fn has_ended(&self) -> bool
-        ensures told { result ≡ tells_end (last self.now) }
+        ensures told { result ≡ tells_end_lem (last self.now) }
         ensures at_end { result ≡ true → IsAtEnd (left self.now) };
 
     /// Moves the next bytes that are left to the front of `buf`, which has room, and answers how many. The bytes of `buf` behind
     /// them may be any. 0 means that the input has ended, and no read may follow.
     fn read(&mut self, buf: &mut [u8]) -> Result<usize, Failed>
         requires room { 0 < length buf.old }
-        requires open { tells_end (last self.old) ≡ false }
+        requires open { tells_end_lem (last self.old) ≡ false }
         ensures fits { IfOk result (λ count. count ≤ length buf.old) }
         ensures given { IfOk result (λ count. Gives (left self.old) (take count buf.new) (left self.new)) }
         ensures end { result ≡ Ok 0 → IsAtEnd (left self.new) }
@@ -46,4 +46,14 @@ pub trait Source {
         ensures uncounted { OnOk result (HasStayed (faults self.old) (faults self.new)) }
         ensures counted { HasNotFallen (faults self.old) (faults self.new) }
         ensures asks { IsAskedOnce (asked self.old) (asked self.new) };
+}
+
+/// Whether that last read told the end.
+pub(crate) fn tells_end(last: Option<usize>) -> bool
+    ensures told { result ≡ tells_end_lem last }
+{
+    match last {
+        Some(count) => count == 0,
+        None => false,
+    }
 }

@@ -4,7 +4,7 @@
 //! `empties` look at no cell, and so are the lines as bits, so that what a whole line holds is told at once.
 #![tactic(auto)]
 
-ghost use Rattle.std.specs.Prelude.{◌≡◌, ◌↔◌, ◌≤◌, ◌<◌, ◌+◌, ◌*◌, pos, negsuc, ◌≤ℤ◌, ℕ, true, IsTrue, IfOk, replicate};
+ghost use Rattle.std.specs.Prelude.{◌≡◌, ◌↔◌, ◌≤◌, ◌<◌, ◌+◌, ◌*◌, pos, negsuc, ◌≤ℤ◌, ℕ, true, IsTrue, IfOk, if◌then◌else◌, replicate};
 ghost use Rattle.std.specs.List.{find};
 ghost use Rattle.game_rules.specs.declared.Side.{Side};
 ghost use Rattle.game_rules.specs.declared.Point.{Point};
@@ -136,6 +136,15 @@ impl Board {
                 self.white += 1;
                 turn_all(&mut self.lines, Side::White, p);
             }
+        }
+    }
+
+    /// Puts a stone of the side on the point, where it is empty.
+    pub fn put_if_empty(&mut self, p: Point, side: Side)
+        ensures put { self.new ≡ if is_empty_lem self.old p then put_lem self.old side p else self.old }
+    {
+        if self.is_empty(p) {
+            self.put(p, side);
         }
     }
 

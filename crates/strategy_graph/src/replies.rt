@@ -141,9 +141,7 @@ impl Replies {
         ensures pushed { OnOk result (self.new ≡ self.old ++ item ∷ []) }
         ensures unchanged { OnErr result (self.new ≡ self.old) }
     {
-        if self.items.push(item).is_err() {
-            return Err(AllocError);
-        }
+        self.items.push(item)?;
         Ok(())
     }
 }

@@ -74,9 +74,7 @@ impl Entries {
         ensures pushed { OnOk result (self.new ≡ self.old ++ item ∷ []) }
         ensures unchanged { OnErr result (self.new ≡ self.old) }
     {
-        if self.items.push(item).is_err() {
-            return Err(AllocError);
-        }
+        self.items.push(item)?;
         Ok(())
     }
 }

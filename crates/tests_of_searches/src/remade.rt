@@ -5,7 +5,7 @@ ghost use Rattle.stone_board.specs.Steps.{holds_stone};
 
 use crate::compared::same;
 use foul_judge::{Position, Seen};
-use line_tables::LineTables;
+use line_tables::{LineTables, reach};
 use row_shapes::{Rule, Shape, Shapes, fours_through, line_code, straight_through, three_points};
 use std::process::Abort;
 use stone_board::{Axis, Board, Point, Side};
@@ -37,14 +37,6 @@ fn walked_shape<R: Rule>(board: &mut Board, p: Point, axis: Axis, side: Side) ->
     let shape = shape_of_stone::<R>(board, p, axis, side);
     board.lift(p);
     Some(shape)
-}
-
-/// How many neighbours each way the codes of the side have.
-fn reach<R: Rule>(side: Side) -> usize {
-    match side {
-        Side::Black => R::Black::REACH,
-        Side::White => R::White::REACH,
-    }
 }
 
 /// The code of an empty point that the tables tell, and the one made from scratch.

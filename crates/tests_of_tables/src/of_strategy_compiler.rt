@@ -3,6 +3,7 @@
 ghost use Rattle.std.specs.Prelude.{◌↔◌, ◌<◌, All, IsTrue};
 
 use crate::compared::same;
+use crate::of_strategy_graph::start_depth;
 use std::alloc::{AllocError, Global};
 use std::process::Abort;
 use strategy_compiler::{CompileError, Compiler, SearchError, WrittenWin};
@@ -248,15 +249,6 @@ fn a_start_has_its_answers_in_brief(rt: HostRuntime) {
     same(&rt, in_brief(&start), (Rest::To(2), 2));
     same(&rt, first_answers(&start), [Some(3), Some(2), Some(2)]);
     same(&rt, start.lookup(at(3, 0)), Some(1));
-}
-
-/// How many moves the start takes, if it names nodes of the table.
-fn start_depth(table: &Table, start: &Start) -> Option<u32> {
-    if start.names_below(table.len()) {
-        table.start_depth(start).ok()
-    } else {
-        None
-    }
 }
 
 /// The node of the rest comes after its own rest and its own reply, and then those that are listed.

@@ -185,8 +185,8 @@ fn told_of_start(start: &Start) -> (usize, Rest, [Option<u32>; 2]) {
     )
 }
 
-/// How many moves a start takes.
-fn start_depth(table: &Table, start: &Start) -> Option<u32> {
+/// How many moves a start takes, if it names nodes of the table.
+pub(crate) fn start_depth(table: &Table, start: &Start) -> Option<u32> {
     if start.names_below(table.len()) {
         table.start_depth(start).ok()
     } else {

@@ -97,9 +97,7 @@ impl Threats {
         ensures ok { OnOk result (self.new ≡ self.old ++ item ∷ []) }
         ensures err { OnErr result (self.new ≡ self.old) }
     {
-        if self.items.push(item).is_err() {
-            return Err(AllocError);
-        }
+        self.items.push(item)?;
         Ok(())
     }
 

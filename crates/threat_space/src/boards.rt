@@ -7,7 +7,7 @@
 ghost use Rattle.std.specs.Prelude.{◌≡◌, IfOk};
 ghost use Rattle.game_rules.specs.Play.{other};
 ghost use Rattle.stone_board.specs.Steps.{holds_stone as holds_stone_lem};
-ghost use Rattle.threat_space.specs.Sequences.{played as played_lem, with_stone as with_stone_lem, with_stones as with_stones_lem, without_stone};
+ghost use Rattle.threat_space.specs.Sequences.{played as played_lem, with_stones as with_stones_lem, without_stone};
 
 use std::alloc::AllocError;
 use stone_board::{Board, Point, Side};
@@ -20,18 +20,9 @@ pub(crate) fn played(board: &Board, side: Side, threat: &Threat) -> Result<Board
     ensures played { IfOk result (λ b. b ≡ played_lem board.now side threat.now) }
 {
     let mut next = board.copy()?;
-    put_if_empty(&mut next, side, threat.gain);
+    next.put_if_empty(threat.gain, side);
     put_all(&mut next, side.other(), threat.costs.as_slice());
     Ok(next)
-}
-
-/// Puts a stone of the side on the point, where it is empty.
-fn put_if_empty(board: &mut Board, side: Side, p: Point)
-    ensures put { board.new ≡ with_stone_lem board.old side p }
-{
-    if board.is_empty(p) {
-        board.put(p, side);
-    }
 }
 
 /// Puts stones of the side on all of the points that are empty.
@@ -39,7 +30,7 @@ fn put_all(board: &mut Board, side: Side, points: &[Point])
     ensures put { board.new ≡ with_stones_lem board.old side points.now }
 {
     for p in points {
-        put_if_empty(board, side, *p);
+        board.put_if_empty(*p, side);
     }
 }
 
