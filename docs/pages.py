@@ -162,7 +162,7 @@ class Pages:
         """The page of a claim: its clause, what is read before, and its own definitions in full."""
         places = self.layout.read_before(claim)
         head = [f"# The claim {claim.title}", "", self.said[claim.name], "", f"    {claim.clause}", ""]
-        before = ["Read before:", "", *(self.before(claim, it) for it in places), ""] if places else []
+        before = [f"Read before: {'; '.join(self.before(claim, it) for it in places)}.", ""] if places else []
         return [*head, *before, *self.section(claim.found, in_full, [it for place in places for it in of_words(place.found)])]
 
     def before(self, claim, place):
@@ -170,7 +170,7 @@ class Pages:
         needed = [it for it in place.found if it in claim.rests]
         words, all_words = of_words(needed), of_words(place.found)
         left = [it.name for it in all_words if it not in claim.rests]
-        link = f"- [{place.title}]({place.name}.md)"
+        link = f"[{place.name}]({place.name}.md)"
         if not words:
             return f"{link}: {quoted(it.name for it in needed)} alone"
         if not left:
