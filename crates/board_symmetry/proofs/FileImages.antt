@@ -1,5 +1,5 @@
 -- The image of a table as a file has it: it is one again, and has a text.
-use Rattle.std.proofs.Common.{◌≡◌, ℕ, true, ◌∙◌, List, [], ◌∷◌, rules}
+use Rattle.std.proofs.Common.{◌≡◌, ℕ, true, List, [], ◌∷◌, rules}
 use Rattle.std.proofs.lemmas.List.{length-map}
 use Rattle.game_rules.proofs.Common.{Grid}
 use Rattle.strategy_graph.proofs.Common.{TableOnBoard, RootOnBoard}

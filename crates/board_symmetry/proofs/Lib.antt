@@ -20,6 +20,7 @@ mod TurnedWins
 mod TurnedReplies
 mod RisingReplies
 mod OneReply
+mod Marking
 mod TurnedTables
 -- images as they are made: of boards, of tables
 mod BoardImages

@@ -1,5 +1,5 @@
 -- A board and what a turn makes of it: sums and tests over all points, numbers of stones, threes, fouls, outcomes.
-use Rattle.std.proofs.Common.{◌≡◌, ℕ, zero, suc, ◌+◌, Bool, true, ◌&&◌, ◌||◌, nat_eq, nat_le, cond, refl, sym}
+use Rattle.std.proofs.Common.{◌≡◌, ℕ, zero, suc, Bool, true, ◌&&◌, nat_eq, nat_le, cond, refl, sym}
 use Rattle.std.proofs.Common.{ap, ◌∙◌, List, [], ◌∷◌, map, Option, None, is_none, sum_by, count_by, rules}
 use Rattle.std.specs.Cmp.{both_ways}
 use Rattle.std.specs.List.{list_any, list_all}
