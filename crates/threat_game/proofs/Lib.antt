@@ -19,6 +19,8 @@ mod FreeMoves
 -- where new double points can be, and the stones around a point as bits
 mod NearDoubles
 mod AroundBits
+-- stones outside open windows
+mod WindowLaws
 -- points where Black neither wins nor fouls, also after a stone of White
 mod QuietLaws
 -- double points that are kept to settle replies by, and that they are the first ones

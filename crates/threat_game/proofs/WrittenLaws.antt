@@ -1,5 +1,5 @@
 -- Wins that are judged, compiled: what is written of each is a win after its reply. Wins of one move as nodes of a table.
-use Rattle.std.proofs.Common.{◌≡◌, ℕ, ◌+◌, ◌≤◌, true, ap, subst, arith, List, zero, suc, [], rules}
+use Rattle.std.proofs.Common.{◌≡◌, ℕ, ◌≤◌, true, ap, subst, arith, List, zero, suc, [], rules}
 use Rattle.game_rules.specs.declared.RuleKind.{RuleKind}
 use Rattle.game_rules.specs.declared.Outcome.TheVariants.{GoesOn, Wins as WinsNow, Draws}
 use Rattle.game_rules.specs.declared.Point.{Point}

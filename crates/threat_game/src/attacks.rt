@@ -13,6 +13,7 @@ ghost use Rattle.game_rules.specs.Shapes.{is_same_point};
 ghost use Rattle.game_rules.specs.Play.{IsPosition, outcome as outcome_lem, mover, other, after, goes_on as goes_on_lem};
 ghost use Rattle.game_rules.specs.Games.{has_five as has_five_lem, five_points as five_points_lem, has_threat};
 ghost use Rattle.row_shapes.specs.FivePoints.{in_short};
+ghost use Rattle.open_windows.specs.PointSets.{TellsWindows};
 ghost use Rattle.threat_game.specs.ThreatGame.{is_threat_move as is_threat_move_lem};
 ghost use Rattle.threat_game.specs.FreeMoves.{EachGoesOn};
 ghost use Rattle.threat_game.specs.NearDoubles.{AreNearStones, is_some_point as is_some_point_lem, makes_two as makes_two_lem};
@@ -25,6 +26,7 @@ use crate::near_doubles::leaves_double;
 use crate::near_stones::{NearStones, near_stones};
 use crate::quiet_points::is_quiet;
 use foul_judge::{Outcome, Seen};
+use open_windows::{PointSet, window_points};
 use row_shapes::{FivePoints, Rule, takes};
 use std::alloc::{AllocError, Global};
 use stone_board::{Board, Point, Points};
@@ -123,25 +125,30 @@ pub(crate) fn all_twos<R: Rule, V: Seen<R>>(alloc: Global, view: &V) -> Result<P
     requires none { has_five_lem R.KIND (V.position view.now) (mover (V.position view.now)) ≡ false }
     ensures twos { IfOk result (λ twos. twos ≡ points_of_two R.KIND (V.position view.now) (mover (V.position view.now))) }
 {
+    let windows = window_points(view.board(), view.side(), 3);
     let mut twos = Points::new(alloc);
     for p in view.board().points() {
-        if makes_two::<R, V>(view, p) {
+        if makes_two::<R, V>(view, &windows, p) {
             twos.push(p)?;
         }
     }
     Ok(twos)
 }
 
-/// Whether the point is empty and a stone of the side to move, which has no five point, leaves it two there or more.
-fn makes_two<R: Rule, V: Seen<R>>(view: &V, p: Point) -> bool
+/// Whether the point is empty and a stone of the side to move, which has no five point, leaves it two there or more. It does not but in
+/// these windows.
+fn makes_two<R: Rule, V: Seen<R>>(view: &V, windows: &PointSet, p: Point) -> bool
     requires none { has_five_lem R.KIND (V.position view.now) (mover (V.position view.now)) ≡ false }
+    requires windows { TellsWindows (V.position view.now) (mover (V.position view.now)) 3 windows.now }
     ensures two { result ≡ makes_two_lem R.KIND (V.position view.now) (mover (V.position view.now)) p }
 {
+    if !windows.has(p) {
+        return false;
+    }
     if !view.board().is_empty(p) {
         return false;
     }
-    let near = near_stones(view.board(), view.side(), p);
-    fives_by::<R, V>(view, near, p).is_several()
+    view.fives_made(p).is_several()
 }
 
 /// The five points that the side to move has after its stone on an empty point, where it has none before it and at most so many

@@ -15,7 +15,7 @@ ghost use Rattle.threat_game.specs.NearDoubles.{AreNearStones, DoublesAreNear, i
 ghost use Rattle.threat_game.specs.NearDoubles.{reach as reach_lem, points_of_two};
 
 use crate::attacks::is_some_point;
-use crate::near_stones::{NearStones, near_stones};
+use crate::near_stones::NearStones;
 use row_shapes::{FivePoints, Rule, with_axis};
 use stone_board::{Axis, Board, MAX_SIDE, Point, Side, Way};
 use threat_moves::is_new_double_point;
@@ -80,7 +80,7 @@ fn some_double<R: Rule>(board: &mut Board, side: Side, points: &[Point]) -> bool
     ensures same { board.new ≡ board.old }
 {
     for q in points {
-        if double_here::<R>(board, side, *q) {
+        if is_new_double_point::<R>(board, side, *q) {
             return true;
         }
     }
@@ -169,19 +169,4 @@ fn makes_on<R: Rule>(board: &Board, side: Side, axis: Axis, q: Point) -> bool
     ensures made { result ≡ makes_on_lem R.KIND board.now side axis q }
 {
     is_some_point(with_axis::<R>(board, side, q, FivePoints::None, axis))
-}
-
-/// Whether the point is a double point of the side, which has no five point. The board is as before.
-pub(crate) fn double_here<R: Rule>(board: &mut Board, side: Side, q: Point) -> bool
-    requires none { has_five_lem R.KIND board.old side ≡ false }
-    ensures double { result ≡ is_double_point R.KIND board.old side q }
-    ensures same { board.new ≡ board.old }
-{
-    if !board.is_empty(q) {
-        return false;
-    }
-    if !near_stones(board, side, q).some(3) {
-        return false;
-    }
-    is_new_double_point::<R>(board, side, q)
 }

@@ -1,7 +1,8 @@
-use Rattle.std.proofs.Common.{rules, ◌≡◌, subst, ◌∙◌, arith, List, [], ◌∷◌}
+use Rattle.std.proofs.Common.{rules, ◌≡◌, subst, sym, ◌∙◌, arith, List, [], ◌∷◌}
 use Rattle.std.proofs.lemmas.Grind.{common_steps}
 use Rattle.game_rules.specs.Grid.{Grid}
 use Rattle.game_rules.specs.declared.Point.{Point}
+use Rattle.open_windows.specs.PointSets.{TellsWindows}
 use Rattle.threat_game.specs.Replies.{IsKeptAt}
 use Rattle.threat_game.proofs.FirstDoubles.{FirstSoFar, first-all, first-enough, first-more}
 use Rattle.threat_game.proofs.doubles.first_doubles.Goals as goal
@@ -31,3 +32,8 @@ returns-clause-kept g c =
     let done : c.loop-p.p-iterator ≡ [] = first_of (search rules, grind (arith, common_steps)) in
     first-all g.R.Rule.KIND c.args.board.now c.args.side c.loop-p.found.items
     (subst (λ (ps : List Point). FirstSoFar g.R.Rule.KIND c.args.board.now c.args.side c.loop-p.found.items ps) done c.loop-p.invariant.1)
+
+pub kept_at-requires-clause-windows : goal.kept_at-requires-clause-windows
+kept_at-requires-clause-windows g c =
+    subst (λ (b : Grid). TellsWindows b c.args.side 3 c.window_points-windows.result) (sym c.loop-p.invariant.0)
+    c.window_points-windows.ensures.points

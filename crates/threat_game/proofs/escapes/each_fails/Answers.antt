@@ -1,4 +1,4 @@
-use Rattle.std.proofs.Common.{◌≡◌, sym, subst, ◌∙◌, All, List, get_or}
+use Rattle.std.proofs.Common.{◌≡◌, sym, subst, ◌∙◌, All, get_or}
 use Rattle.std.proofs.lemmas.List.{take_all}
 use Rattle.std.proofs.lemmas.List.Elements.{All-more}
 use Rattle.game_rules.proofs.Common.{Grid, outcome, after}

@@ -1,0 +1,15 @@
+-- The laws of open windows. What is declared by `pub mod` the layers above may cite; the rest serves this crate alone.
+
+-- five numbers added bit by bit
+mod Sums
+-- rows of bits, and what they tell along an axis
+mod RowBits
+-- the rows of a board
+mod BoardRows
+-- the windows that begin at a point, and the points that lie in one
+mod WindowBits
+pub mod Points
+-- a stone that makes a five point lies in a window with three stones
+pub mod NewFives
+-- windows with fewer stones, or before a stone
+pub mod Fewer

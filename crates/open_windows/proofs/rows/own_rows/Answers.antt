@@ -1,0 +1,35 @@
+use Rattle.std.proofs.Common.{refl, subst, ap, ◌+◌, ◌-◌, ◌/◌, ◌^◌, arith, ◌∙◌, ◌<◌, ◌≡◌, ℕ, bit_and}
+use Rattle.std.specs.Int.{bit_at}
+use Rattle.game_rules.specs.Shapes.{stone_at}
+use Rattle.open_windows.specs.Rows.{TellsTo}
+use Rattle.open_windows.proofs.BoardRows.{own-bit, own-rows}
+use Rattle.open_windows.proofs.RowBits.{tells-none, tells-more}
+use Rattle.open_windows.proofs.rows.own_rows.Goals as goal
+
+pub loop-y-init : goal.loop-y-init
+loop-y-init c = tells-none (stone_at c.args.board.now c.args.side) refl
+
+pub loop-y-preserved : goal.loop-y-preserved
+loop-y-preserved c =
+    let ok = c.line.ensures.board in
+    let fits = ok.height_fits in
+    let end = c.height-y-end.ensures.height in
+    let test = c.loop-y-test.true in
+    let low : c.loop-y.y < c.args.board.now.height = omega (arith, test, end) in
+    let next : c.loop-y.y + 4 + 1 ≡ c.loop-y.y + 1 + 4 = omega arith in
+    tells-more (stone_at c.args.board.now c.args.side) refl c.loop-y.rows (c.loop-y.y + 4) (c.loop-y.y + 1 + 4) _ next
+    (omega (arith, low, fits)) c.loop-y.invariant
+    (λ x. ap (λ w. bit_at (bit_and c.line.result (4294967295 / 2 ^ (32 - w))) x) c.width.ensures.width
+    ∙ own-bit c.args.board.now ok c.loop-y.y low c.line.result c.args.side c.line.ensures.tells x)
+
+pub returns : goal.returns
+returns c =
+    let end = c.height-y-end.ensures.height in
+    let test = c.loop-y-test.false in
+    let bound = c.loop-y.auto.y-end in
+    let last : c.loop-y.y + 4 ≡ c.args.board.now.height + 4 = omega (arith, end, test, bound) in
+    record {
+      rows = own-rows c.args.board.now c.height-y-end.ensures.board c.args.side c.loop-y.rows
+          (subst (λ (n : ℕ). TellsTo (stone_at c.args.board.now c.args.side) c.loop-y.rows n) last c.loop-y.invariant);
+      board = c.height-y-end.ensures.board;
+    }

@@ -1,0 +1,52 @@
+use Rattle.std.proofs.Common.{◌≡◌, ◌+◌, ◌-◌, ℕ, refl, arith, bit_or}
+use Rattle.std.specs.Int.{bit_at}
+use Rattle.std.specs.List.{list_any, range_with_len}
+use Rattle.game_rules.specs.Grid.{Grid, along, axes}
+use Rattle.game_rules.specs.declared.Side.{Side}
+use Rattle.game_rules.proofs.Boards.{on_y}
+use Rattle.open_windows.specs.OpenWindows.{is_window}
+use Rattle.open_windows.proofs.RowBits.{one}
+use Rattle.open_windows.proofs.WindowBits.{all-covered, point-bit, points-more, window-none}
+use Rattle.open_windows.proofs.windows.window_points.Goals as goal
+
+pub loop-y-init : goal.loop-y-init
+loop-y-init c = (refl, λ p low on. absurd (omega (arith, low)))
+
+pub loop-y-preserved : goal.loop-y-preserved
+loop-y-preserved c =
+    let b : Grid = c.args.board.now in
+    let s : Side = c.args.side in
+    let least : ℕ = c.args.least in
+    let y : ℕ = c.loop-y.y in
+    let ok = c.own_rows-own.ensures.board in
+    let mine = c.own_rows-own.ensures.rows in
+    let others = c.open_rows-clear.ensures.rows in
+    let within = c.loop-y-test.true in
+    points-more b s least c.loop-y.rows y _ ok within c.loop-y.invariant (λ x column.
+    let near : bit_at (bit_or (bit_or (bit_or c.covered.result c.covered-in-loop-y.result) c.covered-in-loop-y-2.result)
+    c.covered-in-loop-y-3.result) x ≡ one
+    (list_any (λ d. list_any (λ k. is_window b s least d (along d (record { x = x; y = y + 4 - 4 }) 0 k))
+    (range_with_len 0 5)) axes) =
+    rw (
+      c.covered.ensures.covered,
+      c.covered-in-loop-y.ensures.covered,
+      c.covered-in-loop-y-2.ensures.covered,
+      c.covered-in-loop-y-3.ensures.covered,
+    )
+    (all-covered (is_window b s least) (window-none b s least) (y + 4) x (omega arith) (omega (arith, within)) column
+    c.starts-row.result c.starts-column.result c.starts-down.result c.starts-up.result (c.starts-row.ensures.starts b s ok mine others)
+    (c.starts-column.ensures.starts b s ok mine others) (c.starts-down.ensures.starts b s ok mine others)
+    (c.starts-up.ensures.starts b s ok mine others)) in
+    point-bit b s least (y + 4) x (omega arith) (omega (arith, within)) c.own_rows-own.result c.open_rows-clear.result mine others _ near)
+
+pub returns : goal.returns
+returns c = record {
+  points = record {
+    board = c.own_rows-own.ensures.board;
+    points = λ p on.
+        let high = on_y c.args.board.now p on in
+        let fits = c.own_rows-own.ensures.board.height_fits in
+        let end = c.loop-y-test.false in
+        c.loop-y.invariant.1 p (omega (arith, high, fits, end)) on;
+  };
+}

@@ -1,0 +1,3 @@
+pub mod OpenWindows
+pub mod PointSets
+pub mod Rows

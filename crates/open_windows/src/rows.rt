@@ -1,0 +1,73 @@
+//! The rows of a board as numbers, and steps from row to row.
+//!
+//! Row y is number y + 4, and bit x of it tells of the point in column x; four numbers before the rows and four after them are 0, so
+//! that a step of four rows needs no test.
+#![tactic(auto)]
+
+ghost use Rattle.std.specs.Prelude.{◌≡◌, ◌≤◌, ◌<◌, ◌+◌};
+ghost use Rattle.game_rules.specs.Grid.{IsBoard};
+ghost use Rattle.game_rules.specs.Shapes.{stone_at};
+ghost use Rattle.open_windows.specs.OpenWindows.{is_open_at};
+ghost use Rattle.open_windows.specs.Rows.{TellsRows, stepped as stepped_lem, stepped_back as stepped_back_lem};
+
+use stone_board::{Axis, Board, MAX_SIDE, Side};
+
+/// How many numbers there are.
+pub(crate) const ROWS: usize = 40;
+
+/// The stones of the side.
+pub(crate) fn own_rows(board: &Board, side: Side) -> [u32; ROWS]
+    ensures rows { TellsRows (stone_at board.now side) result }
+    ensures board { IsBoard board.now }
+{
+    let full = u32::MAX >> (MAX_SIDE - board.width());
+    let mut rows = [0; ROWS];
+    for y in 0..board.height() {
+        rows[y as usize + 4] = board.line(side, Axis::Row, y) & full;
+    }
+    rows
+}
+
+/// The points on which the other side has no stone.
+pub(crate) fn open_rows(board: &Board, side: Side) -> [u32; ROWS]
+    ensures rows { TellsRows (is_open_at board.now side) result }
+{
+    let full = u32::MAX >> (MAX_SIDE - board.width());
+    let mut rows = [0; ROWS];
+    for y in 0..board.height() {
+        rows[y as usize + 4] = !board.line(side.other(), Axis::Row, y) & full;
+    }
+    rows
+}
+
+/// The number whose bit tells of the point so many steps ahead on the axis.
+#[inline(always)]
+pub(crate) fn stepped(rows: &[u32; ROWS], axis: Axis, i: usize, k: u8) -> u32
+    requires low { 4 ≤ i }
+    requires high { i < 36 }
+    requires near { k < 5 }
+    ensures stepped { result ≡ stepped_lem rows.now axis i k }
+{
+    match axis {
+        Axis::Row => rows[i] >> k,
+        Axis::Column => rows[i + k as usize],
+        Axis::Down => rows[i + k as usize] >> k,
+        Axis::Up => rows[i - k as usize] >> k,
+    }
+}
+
+/// The number whose bit tells of the point so many steps back on the axis.
+#[inline(always)]
+pub(crate) fn stepped_back(rows: &[u32; ROWS], axis: Axis, i: usize, k: u8) -> u32
+    requires low { 4 ≤ i }
+    requires high { i < 36 }
+    requires near { k < 5 }
+    ensures stepped { result ≡ stepped_back_lem rows.now axis i k }
+{
+    match axis {
+        Axis::Row => rows[i] << k,
+        Axis::Column => rows[i - k as usize],
+        Axis::Down => rows[i - k as usize] << k,
+        Axis::Up => rows[i + k as usize] << k,
+    }
+}

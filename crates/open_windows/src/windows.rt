@@ -1,0 +1,95 @@
+//! The points of open windows.
+#![tactic(auto)]
+
+ghost use Rattle.std.specs.Prelude.{◌≡◌, ◌≤◌, ◌<◌, ℕ};
+ghost use Rattle.std.specs.Int.{bit_at};
+ghost use Rattle.game_rules.specs.Grid.{Grid, IsBoard};
+ghost use Rattle.game_rules.specs.Shapes.{stone_at};
+ghost use Rattle.game_rules.specs.declared.Side.{Side};
+ghost use Rattle.open_windows.specs.OpenWindows.{is_open_at, is_window};
+ghost use Rattle.open_windows.specs.PointSets.{TellsWindows};
+ghost use Rattle.open_windows.specs.Rows.{TellsRows, covered as covered_lem, start_bit};
+
+use crate::added::set_in;
+use crate::point_set::{PointSet, SIDE};
+use crate::rows::{ROWS, open_rows, own_rows, stepped, stepped_back};
+use stone_board::{Axis, Board, Side};
+
+/// The empty points that lie in an open window of the side with so many of its stones or more, two to four.
+pub fn window_points(board: &Board, side: Side, least: u32) -> PointSet
+    requires some { 2 ≤ least }
+    requires few { least ≤ 4 }
+    ensures points { TellsWindows board.now side least result }
+{
+    let own = own_rows(board, side);
+    let clear = open_rows(board, side);
+    let row = starts(&own, &clear, Axis::Row, least);
+    let column = starts(&own, &clear, Axis::Column, least);
+    let down = starts(&own, &clear, Axis::Down, least);
+    let up = starts(&own, &clear, Axis::Up, least);
+    let mut rows = [0; SIDE];
+    for y in 0..SIDE {
+        let i = y + 4;
+        let inside = covered(&row, Axis::Row, i)
+            | covered(&column, Axis::Column, i)
+            | covered(&down, Axis::Down, i)
+            | covered(&up, Axis::Up, i);
+        // A stone of the side stands on a point that is open to it, so these are the empty ones.
+        let empty = clear[i] ^ own[i];
+        rows[y] = inside & empty;
+    }
+    PointSet { rows }
+}
+
+/// The points from which such a window begins on the axis.
+#[inline(always)]
+fn starts(own: &[u32; ROWS], clear: &[u32; ROWS], axis: Axis, least: u32) -> [u32; ROWS]
+    requires some { 2 ≤ least }
+    requires few { least ≤ 4 }
+    ensures starts { (b : Grid) (s : Side) → IsBoard b → TellsRows (stone_at b s) own.now → TellsRows (is_open_at b s) clear.now
+        → TellsRows (is_window b s least axis) result }
+{
+    let mut found = [0; ROWS];
+    for i in 4..36 {
+        found[i] = start_at(own, clear, axis, i, least);
+    }
+    found
+}
+
+/// The same of those in one row.
+#[inline(always)]
+fn start_at(own: &[u32; ROWS], clear: &[u32; ROWS], axis: Axis, i: usize, least: u32) -> u32
+    requires some { 2 ≤ least }
+    requires few { least ≤ 4 }
+    requires low { 4 ≤ i }
+    requires high { i < 36 }
+    ensures bits { (x : ℕ) → bit_at result x ≡ start_bit own.now clear.now axis least i x }
+{
+    let held = set_in(
+        least,
+        stepped(own, axis, i, 0),
+        stepped(own, axis, i, 1),
+        stepped(own, axis, i, 2),
+        stepped(own, axis, i, 3),
+        stepped(own, axis, i, 4),
+    );
+    held & stepped(clear, axis, i, 0)
+        & stepped(clear, axis, i, 1)
+        & stepped(clear, axis, i, 2)
+        & stepped(clear, axis, i, 3)
+        & stepped(clear, axis, i, 4)
+}
+
+/// The points in one row that are among the five of a window which begins at one of these on the axis.
+#[inline(always)]
+fn covered(starts: &[u32; ROWS], axis: Axis, i: usize) -> u32
+    requires low { 4 ≤ i }
+    requires high { i < 36 }
+    ensures covered { result ≡ covered_lem starts.now axis i }
+{
+    stepped_back(starts, axis, i, 0)
+        | stepped_back(starts, axis, i, 1)
+        | stepped_back(starts, axis, i, 2)
+        | stepped_back(starts, axis, i, 3)
+        | stepped_back(starts, axis, i, 4)
+}
