@@ -1,6 +1,5 @@
-use Rattle.std.proofs.Common.{rules, ◌≡◌, ◌+◌, ◌<◌, refl, sym, ap, subst, ◌∙◌, arith, List, length}
-use Rattle.std.proofs.Common.{get_or, map}
-use Rattle.std.specs.List.{sum_by}
+use Rattle.std.proofs.Common.{rules, ◌≡◌, ℕ, ◌+◌, ◌<◌, refl, sym, ap, subst, ◌∙◌, arith, List, length}
+use Rattle.std.proofs.Common.{get_or}
 use Rattle.std.proofs.lemmas.Result.{err_from_is_err_and}
 use Rattle.std.proofs.lemmas.List.{get_or_default, length-map}
 use Rattle.game_rules.proofs.Common.{Grid, put, other, points_of}
@@ -9,13 +8,11 @@ use Rattle.game_rules.specs.declared.Point.{Point}
 use Rattle.strategy_graph.proofs.Filling.{IsTable-lower}
 use Rattle.relevance_zone.specs.Zones.{HasZone}
 use Rattle.zone_checker.specs.Marks.{AreCovered, IsEntered, IsGreatest, kept_back}
-use Rattle.zone_checker.specs.Pairs.{reply_pairs}
 use Rattle.zone_checker.specs.declared.marks.Mark.{Mark}
-use Rattle.zone_checker.specs.Replies.{AreReplied, IsReplied}
-use Rattle.zone_checker.specs.Walks.{IsWithstoodBy, Stopped, Took, asked_of}
+use Rattle.zone_checker.specs.Walks.{IsWithstoodBy, asked_of}
 use Rattle.zone_checker.proofs.Counting.{pairs-some, took-pair, took-behind, stopped-then, taken-more, taken-all}
 use Rattle.zone_checker.proofs.Counting.{taken-short, taken-stopped}
-use Rattle.zone_checker.proofs.Replying.{reply-idle, reply-found, reply-took, reply-stopped, replied-more, replied-all, RepliedTo}
+use Rattle.zone_checker.proofs.Replying.{reply-idle, reply-found, reply-took, reply-stopped, replied-more, replied-all}
 use Rattle.zone_checker.proofs.Steps.{four-fails, replies-greatest}
 use Rattle.zone_checker.proofs.Walking.{taken-fails, restless-fails, left-greatest, left-stopped, behind-few, won-greatest, asked-below}
 use Rattle.zone_checker.proofs.Walking.{answer-lower, lifted-same, stone-there, same_size}
@@ -29,7 +26,7 @@ node_zone-returns-then-walk-eq0-clause-found g t c =
 
 pub node_zone-returns-then-not-is_empty-clause-found : goal.node_zone-returns-then-not-is_empty-clause-found
 node_zone-returns-then-not-is_empty-clause-found g t c = λ z h.
-    taken-fails g.R.Rule.KIND c.args.ground.table.now (IsTable-lower _ c.node-node.ensures.table) c.args.ground.side c.args.i
+    taken-fails g.R.Rule.KIND _ (IsTable-lower _ c.node-node.ensures.table) _ c.args.i
     c.args.walk.now.board c.node-node.result.now c.node-node.ensures.node (sym c.is_empty.ensures.empty ∙ c.if-not-is_empty.true) z h
 
 pub node_zone-returns-then-not-is_empty-clause-took : goal.node_zone-returns-then-not-is_empty-clause-took
@@ -42,7 +39,7 @@ node_zone-returns-in_default-clause-took g t c =
 
 pub node_zone-returns-then-is_five_point-clause-found : goal.node_zone-returns-then-is_five_point-clause-found
 node_zone-returns-then-is_five_point-clause-found g t c =
-    won-greatest g.R.Rule.KIND c.args.ground.table.now (IsTable-lower _ c.node-node.ensures.table) c.args.ground.side c.args.i
+    won-greatest g.R.Rule.KIND _ (IsTable-lower _ c.node-node.ensures.table) _ c.args.i
     c.args.walk.now.board c.node-node.result.now c.node-node.ensures.node (sym c.is_five_point.ensures.five ∙ c.if-is_five_point.true)
     (sym c.is_empty.ensures.empty ∙ c.if-not-is_empty.false) c.in-Ok.marks.items c.enter.new.marks.items c.enter.ensures.entered
     c.in-Ok.ensures.blanks c.in-Ok.ensures.size
@@ -53,7 +50,7 @@ node_zone-returns-then-is_five_point-clause-took g t c =
 
 pub node_zone-returns-in_default-rest : goal.node_zone-returns-in_default-rest
 node_zone-returns-in_default-rest g t c = record {
-  found = restless-fails g.R.Rule.KIND c.args.ground.table.now (IsTable-lower _ c.node-node.ensures.table) c.args.ground.side c.args.i
+  found = restless-fails g.R.Rule.KIND _ (IsTable-lower _ c.node-node.ensures.table) _ c.args.i
       c.args.walk.now.board c.node-node.result.now c.node-node.ensures.node (sym c.is_five_point.ensures.five ∙ c.if-is_five_point.false)
       c.in_default-rest.not-To;
   same = refl;
@@ -88,7 +85,7 @@ node_zone-returns-in-Err-clause-same g t c =
 pub node_zone-returns-in-Ok-withstood-clause-took : goal.node_zone-returns-in-Ok-withstood-clause-took
 node_zone-returns-in-Ok-withstood-clause-took g t c =
     took-behind _ _ c.args.walk.now.left _
-    (behind-few g.R.Rule.KIND c.args.ground.table.now (IsTable-lower _ c.node-node.ensures.table) c.args.ground.side c.args.i
+    (behind-few g.R.Rule.KIND _ (IsTable-lower _ c.node-node.ensures.table) _ c.args.i
     c.args.walk.now.board c.node-node.result.now c.node-node.ensures.node c.in-To.rest c.in-To.is
     (sym c.is_five_point.ensures.five ∙ c.if-is_five_point.false) c.put.new.self c.put.ensures.put) (omega arith)
     c.withstand-withstood.ensures.took
@@ -96,14 +93,14 @@ node_zone-returns-in-Ok-withstood-clause-took g t c =
 pub node_zone-returns-in-Err-clause-took : goal.node_zone-returns-in-Err-clause-took
 node_zone-returns-in-Err-clause-took g t c =
     took-behind _ _ c.args.walk.now.left _
-    (behind-few g.R.Rule.KIND c.args.ground.table.now (IsTable-lower _ c.node-node.ensures.table) c.args.ground.side c.args.i
+    (behind-few g.R.Rule.KIND _ (IsTable-lower _ c.node-node.ensures.table) _ c.args.i
     c.args.walk.now.board c.node-node.result.now c.node-node.ensures.node c.in-To.rest c.in-To.is
     (sym c.is_five_point.ensures.five ∙ c.if-is_five_point.false) c.put.new.self c.put.ensures.put) (omega arith)
     c.withstand-withstood.ensures.took
 
 pub node_zone-returns-in-Err-clause-found : goal.node_zone-returns-in-Err-clause-found
 node_zone-returns-in-Err-clause-found g t c =
-    left-stopped g.R.Rule.KIND c.args.ground.table.now (IsTable-lower _ c.node-node.ensures.table) c.args.ground.side c.args.i
+    left-stopped g.R.Rule.KIND _ (IsTable-lower _ c.node-node.ensures.table) _ c.args.i
     c.args.walk.now.board c.node-node.result.now c.node-node.ensures.node c.in-To.rest c.in-To.is
     (sym c.is_five_point.ensures.five ∙ c.if-is_five_point.false) c.put.new.self c.put.ensures.put c.args.walk.now.left c.in-Err.stop
     (omega arith) c.in-Err.ensures.found
@@ -128,9 +125,7 @@ node_zone-returns-in-Ok-withstood-clause-found g t c =
 -- ---- a reply
 
 pub reply-returns-in_default-clause-replied : goal.reply-returns-in_default-clause-replied
-reply-returns-in_default-clause-replied g t c =
-    reply-idle g.R.Rule.KIND c.args.ground.table.now c.args.ground.side c.args.asked.replies.now c.args.asked.rest c.args.walk.now.board
-    c.args.passed.now c.requires.passed c.args.q c.args.marks.now.items c.in_default.ensures.walked
+reply-returns-in_default-clause-replied g t c = reply-idle _ _ _ _ _ _ _ c.requires.passed c.args.q _ c.in_default.ensures.walked
 
 pub reply-node_zone-found-requires : goal.reply-node_zone-found-requires
 reply-node_zone-found-requires g t c =
@@ -148,8 +143,7 @@ reply-lift-requires g t c = record {
 
 pub reply-returns-in-Err-clause-replied : goal.reply-returns-in-Err-clause-replied
 reply-returns-in-Err-clause-replied g t c =
-    reply-stopped g.R.Rule.KIND c.args.ground.table.now c.args.ground.side c.args.asked.replies.now c.args.asked.rest c.args.walk.now.board
-    c.args.passed.now c.requires.passed c.args.q c.in-Some.next c.in-Some.ensures.walked c.put.new.self
+    reply-stopped _ _ _ _ _ _ _ c.requires.passed c.args.q c.in-Some.next c.in-Some.ensures.walked c.put.new.self
     (c.put.ensures.put ∙ ap (λ (s : Side). put c.args.walk.now.board s c.args.q) c.other.ensures.other) c.args.walk.now.left c.in-Err.stop
     c.in-Err.ensures.found
 
@@ -165,14 +159,12 @@ reply-returns-in-Ok-clause-same g t c =
 
 pub reply-returns-in-Err-clause-took : goal.reply-returns-in-Err-clause-took
 reply-returns-in-Err-clause-took g t c =
-    reply-took g.R.Rule.KIND c.args.ground.table.now c.args.ground.side c.args.asked.replies.now c.args.asked.rest c.args.walk.now.board
-    c.args.passed.now c.requires.passed c.args.q c.in-Some.next c.in-Some.ensures.walked c.put.new.self
+    reply-took _ _ _ _ _ _ _ c.requires.passed c.args.q c.in-Some.next c.in-Some.ensures.walked c.put.new.self
     (c.put.ensures.put ∙ ap (λ (s : Side). put c.args.walk.now.board s c.args.q) c.other.ensures.other) _ _ c.node_zone-found.ensures.took
 
 pub reply-returns-in-Ok-clause-took : goal.reply-returns-in-Ok-clause-took
 reply-returns-in-Ok-clause-took g t c =
-    reply-took g.R.Rule.KIND c.args.ground.table.now c.args.ground.side c.args.asked.replies.now c.args.asked.rest c.args.walk.now.board
-    c.args.passed.now c.requires.passed c.args.q c.in-Some.next c.in-Some.ensures.walked c.put.new.self
+    reply-took _ _ _ _ _ _ _ c.requires.passed c.args.q c.in-Some.next c.in-Some.ensures.walked c.put.new.self
     (c.put.ensures.put ∙ ap (λ (s : Side). put c.args.walk.now.board s c.args.q) c.other.ensures.other) _ _ c.node_zone-found.ensures.took
 
 pub reply-returns-in-Ok-clause-replied : goal.reply-returns-in-Ok-clause-replied
@@ -190,81 +182,42 @@ reply-returns-in-Ok-clause-replied g t c =
 
 -- ---- all replies
 
+-- the next point, as the walk reads it
+next-point : (ps : List Point) (i : ℕ) → i < length ps → (d : Point) → get_or ps i d ≡ get_or ps i (record { x = 0; y = 0 })
+next-point ps i l d = get_or_default ps i d (record { x = 0; y = 0 }) l
+
 pub reply_all-loop-q-preserved : goal.reply_all-loop-q-preserved
 reply_all-loop-q-preserved g t c =
-    let table = c.args.ground.table.now in
-    let s = c.args.ground.side in
-    let a = asked_of c.args.asked.replies.now c.args.asked.rest in
-    let b = c.args.walk.now.board in
-    let ps = c.args.ground.points.now in
-    let i = c.loop-q.q-index in
-    let left = c.loop-q.walk.left in
-    let q : Point = get_or ps i (record { x = 0; y = 0 }) in
-    let here = λ (d : Point). get_or_default ps i d (record { x = 0; y = 0 }) c.loop-q-test.true in
-    let took = subst (λ (d : Grid). Took (reply_pairs table s a d q) left c.reply.new.walk.left) c.loop-q.invariant.board
-    c.reply.ensures.took in
-    let has = HasZone g.R.Rule.KIND table s in
-    let old = c.loop-q.marks.items in
-    let new = c.reply.new.marks.items in
+    let here = next-point c.args.ground.points.now c.loop-q.q-index c.loop-q-test.true in
     record {
       board = c.reply.ensures.same ∙ c.loop-q.invariant.board;
-      taken = taken-more (reply_pairs table s a b) ps i q c.args.walk.now.left left c.reply.new.walk.left c.loop-q-test.true here
-          c.loop-q.invariant.taken took;
-      replied = replied-more s a has b c.args.passed.now ps i q c.args.marks.now.items old new c.loop-q.invariant.replied here
-          (subst (λ (d : Grid). IsReplied s a has d c.args.passed.now q old new) c.loop-q.invariant.board c.in_ok-reply.ensures.replied);
+      taken = taken-more _ c.args.ground.points.now c.loop-q.q-index _ _ _ _ c.loop-q-test.true here c.loop-q.invariant.taken
+          (rw c.loop-q.invariant.board at c.reply.ensures.took);
+      replied = replied-more _ _ _ _ _ c.args.ground.points.now c.loop-q.q-index _ _ _ _ c.loop-q.invariant.replied here
+          (rw c.loop-q.invariant.board at c.in_ok-reply.ensures.replied);
     }
 
 pub reply_all-returns-clause-replied : goal.reply_all-returns-clause-replied
 reply_all-returns-clause-replied g t c =
-    let table = c.args.ground.table.now in
-    let s = c.args.ground.side in
-    let a = asked_of c.args.asked.replies.now c.args.asked.rest in
-    let b = c.args.walk.now.board in
-    let ps = c.args.ground.points.now in
-    let has = HasZone g.R.Rule.KIND table s in
-    let all : c.loop-q.q-index ≡ length ps = omega arith in
-    replied-all s a has b c.args.passed.now ps c.args.marks.now.items c.loop-q.marks.items c.requires.points
-    (subst (λ n. RepliedTo s a has b c.args.passed.now ps n c.args.marks.now.items c.loop-q.marks.items) all c.loop-q.invariant.replied)
+    let all : c.loop-q.q-index ≡ length c.args.ground.points.now = omega arith in
+    replied-all _ _ _ _ _ c.args.ground.points.now _ _ c.requires.points (rw all at c.loop-q.invariant.replied)
 
 pub reply_all-returns-clause-took : goal.reply_all-returns-clause-took
-reply_all-returns-clause-took g t c =
-    taken-all _ c.args.ground.points.now (points_of c.args.walk.now.board) c.loop-q.q-index c.args.walk.now.left c.loop-q.walk.left
-    c.requires.points c.loop-q.invariant.taken
+reply_all-returns-clause-took g t c = taken-all _ c.args.ground.points.now _ c.loop-q.q-index _ _ c.requires.points c.loop-q.invariant.taken
 
 pub reply_all-returns-in_err-reply-clause-replied : goal.reply_all-returns-in_err-reply-clause-replied
 reply_all-returns-in_err-reply-clause-replied g t c =
-    let table = c.args.ground.table.now in
-    let s = c.args.ground.side in
-    let a = asked_of c.args.asked.replies.now c.args.asked.rest in
-    let b = c.args.walk.now.board in
-    let ps = c.args.ground.points.now in
-    let i = c.loop-q.q-index in
-    let left = c.loop-q.walk.left in
-    let q : Point = get_or ps i (record { x = 0; y = 0 }) in
-    let here = λ (d : Point). get_or_default ps i d (record { x = 0; y = 0 }) c.loop-q-test.true in
-    let by = IsWithstoodBy g.R.Rule.KIND table s a in
-    let stop = c.in_err-reply.field-0.0 in
+    let here = next-point c.args.ground.points.now c.loop-q.q-index c.loop-q-test.true in
     let p = err_from_is_err_and c.from_residual.result c.from_residual.ensures.1 in
-    rw (p.1, p.2) (stopped-then (by b) (by b) left c.args.walk.now.left _ _ stop (λ none. none)
-    (taken-short (reply_pairs table s a b) ps (points_of b) i q c.args.walk.now.left left c.requires.points c.loop-q-test.true here
-    c.loop-q.invariant.taken)
-    (subst (λ (d : Grid). Stopped (by d) left (reply_pairs table s a d q) stop) c.loop-q.invariant.board c.in_err-reply.ensures.replied))
+    rw (p.1, p.2) (stopped-then _ _ c.loop-q.walk.left c.args.walk.now.left _ _ c.in_err-reply.field-0.0 (λ none. none)
+    (taken-short _ c.args.ground.points.now _ c.loop-q.q-index _ _ _ c.requires.points c.loop-q-test.true here c.loop-q.invariant.taken)
+    (rw c.loop-q.invariant.board at c.in_err-reply.ensures.replied))
 
 pub reply_all-returns-in_err-reply-clause-took : goal.reply_all-returns-in_err-reply-clause-took
 reply_all-returns-in_err-reply-clause-took g t c =
-    let table = c.args.ground.table.now in
-    let s = c.args.ground.side in
-    let a = asked_of c.args.asked.replies.now c.args.asked.rest in
-    let b = c.args.walk.now.board in
-    let ps = c.args.ground.points.now in
-    let i = c.loop-q.q-index in
-    let left = c.loop-q.walk.left in
-    let q : Point = get_or ps i (record { x = 0; y = 0 }) in
-    let here = λ (d : Point). get_or_default ps i d (record { x = 0; y = 0 }) c.loop-q-test.true in
-    let took = subst (λ (d : Grid). Took (reply_pairs table s a d q) left c.reply.new.walk.left) c.loop-q.invariant.board
-    c.reply.ensures.took in
-    taken-stopped (reply_pairs table s a b) ps (points_of b) i q c.args.walk.now.left left c.reply.new.walk.left c.requires.points
-    c.loop-q-test.true here c.loop-q.invariant.taken took
+    taken-stopped _ c.args.ground.points.now _ c.loop-q.q-index _ _ _ _ c.requires.points c.loop-q-test.true
+    (next-point c.args.ground.points.now c.loop-q.q-index c.loop-q-test.true) c.loop-q.invariant.taken
+    (rw c.loop-q.invariant.board at c.reply.ensures.took)
 
 -- ---- the answers of a node
 
@@ -276,35 +229,15 @@ withstand-returns-in-Ok-None-clause-found g t c =
 
 pub withstand-returns-clause-found : goal.withstand-returns-clause-found
 withstand-returns-clause-found g t c =
-    let table = c.args.ground.table.now in
-    let s = c.args.ground.side in
-    let a = asked_of c.args.asked.replies.now c.args.asked.rest in
-    let b = c.args.walk.now.board in
-    let has = HasZone g.R.Rule.KIND table s in
-    let passed = c.in_ok-passed.passed.items in
-    let first = c.cover_back.new.marks.items in
-    let last = c.reply_all.new.marks.items in
-    let best = c.in_ok-passed.ensures.found in
     let opened = rw c.in-Ok-Some.field-0-is at c.in-Ok-Some.ensures.opened in
-    let covered = subst (λ (ms : List Mark). AreCovered c.in-Ok-Some.marks.items (map kept_back ms) first) c.deref.ensures.value
-    c.cover_back.ensures.covered in
-    let replied = subst (λ (d : Grid). AreReplied s a has d passed (points_of d) first last) c.node_zone.ensures.same
-    (subst (λ (ms : List Mark). AreReplied s a has c.node_zone.new.walk.board ms (points_of c.node_zone.new.walk.board) first last)
-    c.deref-2.ensures.value c.in_ok-reply_all.ensures.replied) in
-    replies-greatest s a has b passed c.in-Ok-Some.marks.items first last c.args.asked.rest c.opened.ensures.board refl best opened covered
-    (length-map passed kept_back ∙ best.size ∙ sym opened.size) replied
+    replies-greatest _ _ _ c.args.walk.now.board c.in_ok-passed.passed.items c.in-Ok-Some.marks.items _ _ c.args.asked.rest
+    c.opened.ensures.board refl c.in_ok-passed.ensures.found opened (rw c.deref.ensures.value at c.cover_back.ensures.covered)
+    (length-map c.in_ok-passed.passed.items kept_back ∙ c.in_ok-passed.ensures.found.size ∙ sym opened.size)
+    (rw (c.deref-2.ensures.value, c.node_zone.ensures.same) at c.in_ok-reply_all.ensures.replied)
 
 pub withstand-returns-in_err-reply_all-clause-found : goal.withstand-returns-in_err-reply_all-clause-found
 withstand-returns-in_err-reply_all-clause-found g t c =
-    let table = c.args.ground.table.now in
-    let s = c.args.ground.side in
-    let a = asked_of c.args.asked.replies.now c.args.asked.rest in
-    let b = c.args.walk.now.board in
-    let by = IsWithstoodBy g.R.Rule.KIND table s a in
-    let left = c.node_zone.new.walk.left in
-    let stop = c.in_err-reply_all.field-0.0 in
     let took = c.node_zone.ensures.took.most in
     let p = err_from_is_err_and c.from_residual-in_err-reply_all.result c.from_residual-in_err-reply_all.ensures.1 in
-    rw (p.1, p.2) (stopped-then (by b) (by b) left c.args.walk.now.left _ _ stop (λ none. none) (λ short. omega (arith, took, short))
-    (subst (λ (d : Grid). Stopped (by d) left (sum_by (reply_pairs table s a d) (points_of d)) stop) c.node_zone.ensures.same
-    c.in_err-reply_all.ensures.replied))
+    rw (p.1, p.2) (stopped-then _ _ c.node_zone.new.walk.left c.args.walk.now.left _ _ c.in_err-reply_all.field-0.0 (λ none. none)
+    (λ short. omega (arith, took, short)) (rw c.node_zone.ensures.same at c.in_err-reply_all.ensures.replied))
