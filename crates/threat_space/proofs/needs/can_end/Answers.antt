@@ -3,5 +3,4 @@ use Rattle.threat_space.proofs.BarrenLists.{not-final}
 use Rattle.threat_space.proofs.needs.can_end.Goals as goal
 
 pub returns-clause-none : goal.returns-clause-none
-returns-clause-none g c none start us ends is =
-    not-final g.R.Rule.KIND c.args.side c.args.board.now start us c.args.p is (sym c.is_final_point.ensures.least ∙ none)
+returns-clause-none g c none start us ends is = not-final _ _ _ start us _ is (sym c.is_final_point.ensures.least ∙ none)

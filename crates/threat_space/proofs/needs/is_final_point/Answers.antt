@@ -4,5 +4,4 @@ use Rattle.threat_space.proofs.needs.is_final_point.Goals as goal
 
 pub returns-then-not-some_five-clause-least : goal.returns-then-not-some_five-clause-least
 returns-then-not-some_five-clause-least g c =
-    c.is_new_double_point.ensures.double ∙ sym
-    (new-final g.R.Rule.KIND c.args.board.now c.args.side c.args.p (sym c.requires.five ∙ c.if-not-some_five.true))
+    c.is_new_double_point.ensures.double ∙ sym (new-final _ _ _ _ (sym c.requires.five ∙ c.if-not-some_five.true))

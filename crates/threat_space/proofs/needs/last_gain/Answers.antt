@@ -9,7 +9,6 @@ returns g c =
     let gain = ap (λ (t : Threat). t.gain) c.index-threats-count.is in
     record {
       last = record { last = c.index-threats-count.result; some = some; place = c.index-threats-count.is; gain = gain };
-      near = rw gain at (near-after g.R.Rule.KIND c.args.side c.args.board.now c.args.threats.now c.index-threats-count.result
-          c.args.far.now c.is_empty.ensures.board some c.index-threats-count.is (sym c.requires.five ∙ c.if-some_five.false)
-          c.requires.far);
+      near = rw gain at (near-after _ _ _ _ _ _ c.is_empty.ensures.board some c.index-threats-count.is
+          (sym c.requires.five ∙ c.if-some_five.false) c.requires.far);
     }

@@ -17,9 +17,7 @@ walk-returns-then-to_come-eq0-clause-looked g t c =
     c.if-to_come-eq0.true) c.look_at.ensures.looked
 
 pub walk-returns-then-to_come-eq0-clause-barren : goal.walk-returns-then-to_come-eq0-clause-barren
-walk-returns-then-to_come-eq0-clause-barren g t c =
-    rw (lists-zero g.R.Rule.KIND c.args.origin.now.side c.args.board.now c.args.to_come.now.more c.if-to_come-eq0.true)
-    c.look_at.ensures.barren
+walk-returns-then-to_come-eq0-clause-barren g t c = rw (lists-zero _ _ _ _ c.if-to_come-eq0.true) c.look_at.ensures.barren
 
 -- a board that is remembered
 pub walk-returns-in-Some-clause-looked : goal.walk-returns-in-Some-clause-looked
@@ -28,9 +26,7 @@ walk-returns-in-Some-clause-looked g t c =
     c.passed.ensures.passed ∙ sym (barren c.args.origin.now.start.now c.args.trail.now.path c.requires.played c.args.budget)
 
 pub walk-returns-in-Some-clause-barren : goal.walk-returns-in-Some-clause-barren
-walk-returns-in-Some-clause-barren g t c barren =
-    barren-found g.R.Rule.KIND c.args.origin.now.side c.args.board.now c.args.trail.now.path c.args.to_come.now.more c.in-Some.count
-    (rw c.requires.side at c.in-Some.ensures.barren)
+walk-returns-in-Some-clause-barren g t c barren = barren-found _ _ _ _ _ _ (rw c.requires.side at c.in-Some.ensures.barren)
 
 pub walk-walk_from-requires : goal.walk-walk_from-requires
 walk-walk_from-requires g t c κs within =
@@ -55,20 +51,15 @@ walk-returns-clause-looked g t c =
     let final : List Threat → Option Point = final_of g.R.Rule.KIND c.args.origin.now.side c.args.origin.now.start.now in
     let lists : Grid → List (List Threat) = lists_of g.R.Rule.KIND c.args.origin.now.side (c.args.to_come.now.more - 1) in
     let found = c.in_ok-walked.ensures.looked in
-    found
-    ∙ ap (λ (w : Grid). from_threats final c.args.trail.now.path lists c.args.origin.now.side w c.args.budget c.as_slice-2.result.now)
-    c.all_threats.ensures.same
-    ∙ threats-all g.R.Rule.KIND final c.args.trail.now.path c.args.origin.now.side c.args.board.now c.args.budget c.args.to_come.now.more
-    c.as_slice-2.result.now some (c.as_slice-2.ensures.items ∙ c.in_ok-threats.ensures.threats)
+    found ∙ ap (λ (w : Grid). from_threats final c.args.trail.now.path lists c.args.origin.now.side w c.args.budget c.as_slice-2.result.now)
+    c.all_threats.ensures.same ∙ threats-all _ final _ _ _ _ _ _ some (c.as_slice-2.ensures.items ∙ c.in_ok-threats.ensures.threats)
 
 pub walk-returns-clause-barren : goal.walk-returns-clause-barren
 walk-returns-clause-barren g t c barren =
     let some : 0 < c.args.to_come.now.more = let more = c.if-to_come-eq0.false in omega (arith, more) in
     let s : Side = c.args.origin.now.side in
-    let lists : Grid → List (List Threat) = lists_of g.R.Rule.KIND s (c.args.to_come.now.more - 1) in
-    barren-any g.R.Rule.KIND s c.args.board.now (lists_of g.R.Rule.KIND s c.args.to_come.now.more c.args.board.now) c.args.trail.now.path
-    (barren-all g.R.Rule.KIND s c.args.board.now c.args.to_come.now.more c.as_slice-2.result.now some
-    (c.as_slice-2.ensures.items ∙ c.in_ok-threats.ensures.threats)
+    barren-any _ s _ (lists_of g.R.Rule.KIND s c.args.to_come.now.more c.args.board.now) _
+    (barren-all _ s _ _ _ some (c.as_slice-2.ensures.items ∙ c.in_ok-threats.ensures.threats)
     (rw c.all_threats.ensures.same at (c.in_ok-walked.ensures.barren barren)))
 
 -- what is remembered of it
@@ -82,13 +73,12 @@ walk-remember-requires g t c = record {
       let lists : Grid → List (List Threat) = lists_of g.R.Rule.KIND s (c.args.to_come.now.more - 1) in
       let found = c.in_ok-walked.ensures.looked in
       let all = found ∙ ap (λ (w : Grid). from_threats final c.args.trail.now.path lists s w c.args.budget c.as_slice-2.result.now) same
-      ∙ threats-all g.R.Rule.KIND final c.args.trail.now.path s c.args.board.now c.args.budget c.args.to_come.now.more
-      c.as_slice-2.result.now some (c.as_slice-2.ensures.items ∙ c.in_ok-threats.ensures.threats) in
-      let here = barren-all g.R.Rule.KIND s c.args.board.now c.args.to_come.now.more c.as_slice-2.result.now some
-      (c.as_slice-2.ensures.items ∙ c.in_ok-threats.ensures.threats) (rw same at (c.in_ok-walked.ensures.barren barren)) in
+      ∙ threats-all _ final c.args.trail.now.path s _ c.args.budget _ _ some
+      (c.as_slice-2.ensures.items ∙ c.in_ok-threats.ensures.threats) in
+      let here = barren-all _ s _ _ _ some (c.as_slice-2.ensures.items ∙ c.in_ok-threats.ensures.threats)
+      (rw same at (c.in_ok-walked.ensures.barren barren)) in
       let side = sym (c.walk_from.ensures.side ∙ ap (λ (m : BarrenMemory). m.side) c.find.ensures.entries ∙ c.requires.side) in
-      let kept = barren-kept g.R.Rule.KIND s c.args.board.now c.args.origin.now.start.now c.args.trail.now.path c.args.to_come.now.more
-      c.args.budget left c.in_ok-walked.walked.found c.requires.played here all none in (
+      let kept = barren-kept _ s _ c.args.origin.now.start.now c.args.trail.now.path _ _ left _ c.requires.played here all none in (
         kept.0,
         rw same (rw side at kept.1),
       );
@@ -105,8 +95,7 @@ walk_from-walk-requires g t c κs within =
     let some : 0 < length c.args.threats.now = let low = c.loop-threat-test.true in omega (arith, low) in
     let pairs : c.args.to_come.now.more ≡ 0 → HasPairsAfter g.R.Rule.KIND c.in_ok-next.next c.args.origin.now.side c.lengthen.new.path
     c.args.to_come.now.far.now = λ e. rw c.in_ok-next.ensures.played
-    (pairs-after g.R.Rule.KIND c.args.board.now c.args.origin.now.side c.args.trail.now.path c.lengthen.new.path c.threat-item.result
-    c.args.to_come.now.far.now c.requires.board (c.requires.far e some) longer) in
+    (pairs-after _ _ _ _ _ _ _ c.requires.board (c.requires.far e some) longer) in
     let side = c.loop-threat.invariant.side in
     search rules
 
@@ -123,16 +112,12 @@ walk_from-loop-threat-preserved g t c =
     ∙ ap (λ (w : Grid). looked final c.loop-threat.left (after_path (c.args.trail.now.path ++ c.threat-item.result ∷ []) (lists w)))
     c.in_ok-next.ensures.played in
     record {
-      path = c.drop_last.ensures.dropped ∙ shorter c.args.trail.now.path c.walk.new.trail.path c.threat-item.result
-          (c.in_ok-walked.ensures.path ∙ longer);
-      rest = sym (threat-goes_on g.R.Rule.KIND final c.args.trail.now.path lists s b c.loop-threat.left c.loop-threat.threat-index
-          c.args.threats.now c.threat-item.result c.loop-threat-test.true c.threat-item.is c.in_ok-walked.walked.found found
-          c.in-NoSequence.rest c.in-NoSequence.is) ∙ c.loop-threat.invariant.rest;
-      barren = λ barren rest. c.loop-threat.invariant.barren (and_left c.loop-threat.barren c.in_ok-walked.walked.barren barren)
-          (barren-next g.R.Rule.KIND s b lists c.args.trail.now.path c.lengthen.new.path c.loop-threat.threat-index c.args.threats.now
-          c.threat-item.result c.loop-threat-test.true c.threat-item.is longer
-          (rw c.in_ok-next.ensures.played at
-          (c.in_ok-walked.ensures.barren (and_right c.loop-threat.barren c.in_ok-walked.walked.barren barren))) rest);
+      path = c.drop_last.ensures.dropped ∙ shorter _ _ _ (c.in_ok-walked.ensures.path ∙ longer);
+      rest = sym (threat-goes_on g.R.Rule.KIND final _ lists s b _ _ _ _ c.loop-threat-test.true c.threat-item.is _ found _
+          c.in-NoSequence.is) ∙ c.loop-threat.invariant.rest;
+      barren = λ barren rest. c.loop-threat.invariant.barren (and_left _ _ barren)
+          (barren-next _ s b lists _ _ _ _ _ c.loop-threat-test.true c.threat-item.is longer
+          (rw c.in_ok-next.ensures.played at (c.in_ok-walked.ensures.barren (and_right _ _ barren))) rest);
       side = c.walk.ensures.side ∙ c.loop-threat.invariant.side;
     }
 
@@ -148,20 +133,13 @@ walk_from-returns-in_default g t c =
     ∙ ap (λ (w : Grid). looked final c.loop-threat.left (after_path (c.args.trail.now.path ++ c.threat-item.result ∷ []) (lists w)))
     c.in_ok-next.ensures.played in
     record {
-      looked = sym (threat-ends g.R.Rule.KIND final c.args.trail.now.path lists c.args.origin.now.side b c.loop-threat.left
-          c.loop-threat.threat-index
-          c.args.threats.now c.threat-item.result c.loop-threat-test.true c.threat-item.is c.in_ok-walked.walked.found found
+      looked = sym (threat-ends g.R.Rule.KIND final _ lists _ b _ _ _ _ c.loop-threat-test.true c.threat-item.is _ found
           c.in_default.not-NoSequence) ∙ c.loop-threat.invariant.rest;
       barren = λ barren. absurd (let bad : false ≡ true = barren in cc);
-      path = c.drop_last.ensures.dropped ∙ shorter c.args.trail.now.path c.walk.new.trail.path c.threat-item.result
-          (c.in_ok-walked.ensures.path ∙ longer);
+      path = c.drop_last.ensures.dropped ∙ shorter _ _ _ (c.in_ok-walked.ensures.path ∙ longer);
       side = c.walk.ensures.side ∙ c.loop-threat.invariant.side ∙ sym c.requires.side;
     }
 
 pub walk_from-returns-clause-barren : goal.walk_from-returns-clause-barren
 walk_from-returns-clause-barren g t c barren =
-    let s : Side = c.args.origin.now.side in
-    let lists : Grid → List (List Threat) = lists_of g.R.Rule.KIND s c.args.to_come.now.more in
-    c.loop-threat.invariant.barren barren
-    (rw (drop_all c.loop-threat.threat-index c.args.threats.now c.loop-threat-test.false)
-    (barren-none g.R.Rule.KIND s c.args.board.now))
+    c.loop-threat.invariant.barren barren (rw (drop_all _ _ c.loop-threat-test.false) (barren-none _ _ _))

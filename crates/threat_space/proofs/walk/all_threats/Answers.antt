@@ -10,9 +10,8 @@ loop-gain-preserved-then-is_empty g c =
     ∙ ap (λ (w : Grid). threats_at g.R.Rule.KIND w c.args.side c.in-Some.gain) c.loop-gain.invariant.same in
     record {
       same = c.threats_at.ensures.same ∙ c.loop-gain.invariant.same;
-      all = more-threats g.R.Rule.KIND c.args.side c.args.board.now c.in-Some.gain c.loop-gain.gain-iterator c.next.new.self
-          c.in-Some.ensures.steps c.loop-gain.found c.add_copies.new.found (c.in_ok-add_copies.ensures.longer ∙ ap (λ (ts : List Threat).
-          c.loop-gain.found ++ ts) here) ∙ c.loop-gain.invariant.all;
+      all = more-threats _ _ _ _ _ _ c.in-Some.ensures.steps _ _
+          (c.in_ok-add_copies.ensures.longer ∙ ap (λ (ts : List Threat). c.loop-gain.found ++ ts) here) ∙ c.loop-gain.invariant.all;
     }
 
 pub loop-gain-preserved : goal.loop-gain-preserved
@@ -21,7 +20,6 @@ loop-gain-preserved g c =
     ap (λ (w : Grid). is_empty w c.in-Some.gain) (sym c.loop-gain.invariant.same) ∙ sym c.is_empty.ensures.empty ∙ c.if-is_empty.false in
     record {
       same = c.loop-gain.invariant.same;
-      all = ap (λ (ts : List Threat). c.loop-gain.found ++ ts)
-          (taken-none g.R.Rule.KIND c.args.side c.args.board.now c.in-Some.gain c.loop-gain.gain-iterator c.next.new.self
-          c.in-Some.ensures.steps taken) ∙ c.loop-gain.invariant.all;
+      all = ap (λ (ts : List Threat). c.loop-gain.found ++ ts) (taken-none _ _ _ _ _ _ c.in-Some.ensures.steps taken)
+          ∙ c.loop-gain.invariant.all;
     }

@@ -6,9 +6,8 @@ use Rattle.threat_space.proofs.barren.BarrenBoards.find.Goals as goal
 
 pub invariant_of-self : goal.invariant_of-self
 invariant_of-self g c =
-    memory-looked g.R.Rule.KIND (record { side = c.self.inside.side; late = c.self.inside.table }) c.args.board.now c.args.more
-    c.width.ensures.board c.self.invariant (record { side = c.self.inside.side; late = c.find.new.self }) refl
-    (ap (λ (m : Late). m.table) c.find.ensures.entries)
+    memory-looked _ (record { side = c.self.inside.side; late = c.self.inside.table }) _ _ c.width.ensures.board c.self.invariant
+    (record { side = c.self.inside.side; late = c.find.new.self }) refl (ap (λ (m : Late). m.table) c.find.ensures.entries)
 
 pub returns-clause-barren : goal.returns-clause-barren
 returns-clause-barren g c =
