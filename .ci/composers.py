@@ -16,17 +16,13 @@ import tempfile
 import zlib
 from pathlib import Path
 
+import opening_cases
 import page_picture
 from cases import CORNERS, FOUR_OF_BLACK, ONE_LEFT, SIX, THREE, TWO_LEFT, book, deepest_table, position, table
-from trying import EXAMPLES, PROGRAM, SECONDS, TABLE, TEXT, expect, fails, run, tried
+from trying import EXAMPLES, PROGRAM, SECONDS, TABLE, TEXT, asked, expect, fails, run, tried
 
 FOULS = (EXAMPLES / "allowed-double-three.txt").read_text()
 BOOK = (EXAMPLES / "book.txt").read_text()
-
-
-def asked(words, text):
-    done = subprocess.run([PROGRAM, *words], input=text.encode(), capture_output=True, timeout=SECONDS)
-    return done.stdout.decode()
 
 
 def drawn_position(numbers):
@@ -664,8 +660,8 @@ def players():
 
 # The scripts that take a text, with the words before its file.
 TAKERS = {
-    "books.py": ["--list"], "deepen.py": [], "foul.py": [], "many.py": ["foul"], "page.py": [], "pictures.py": [], "play.py": [],
-    "position.py": [], "solutions.py": [], "tree.py": [], "why.py": [], "line.py": [],
+    "books.py": ["--list"], "deepen.py": [], "foul.py": [], "many.py": ["foul"], "openings.py": ["/no/folder", "7,7"],
+    "page.py": [], "pictures.py": [], "play.py": [], "position.py": [], "solutions.py": [], "tree.py": [], "why.py": [], "line.py": [],
 }
 
 
@@ -701,4 +697,5 @@ def plain():
 
 
 if __name__ == "__main__":
-    sys.exit(tried(fouls_explained, pictures_of_fouls, kept, books, solutions, refusals, solution_lines, batches, deepened, pages, page_is_shown, players, plain))
+    groups = [fouls_explained, pictures_of_fouls, kept, books, solutions, refusals, solution_lines, batches, *opening_cases.GROUPS, deepened]
+    sys.exit(tried(*groups, pages, page_is_shown, players, plain))

@@ -40,6 +40,12 @@ def expect(name, got, wanted):
         failed.append(f"FAILED {name}: {got!r}; wanted {wanted.pattern if isinstance(wanted, re.Pattern) else wanted!r}")
 
 
+def asked(words, text):
+    """What the program prints of a text."""
+    done = subprocess.run([PROGRAM, *words], input=text.encode(), capture_output=True, timeout=SECONDS)
+    return done.stdout.decode()
+
+
 def run(script, words=(), text=b"", **more):
     text = text.encode() if isinstance(text, str) else text
     done = subprocess.run([EXAMPLES / script, *map(str, words)], input=text, capture_output=True, timeout=SECONDS, **more)

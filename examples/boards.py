@@ -324,12 +324,13 @@ def game_text(position, moves):
 RUNNING, ENDING, LAUNCHED = set(), [], []
 
 
-def answered(words, text):
-    """What the program prints of a text, and its status."""
+def answered(words, text, memory=None):
+    """What the program prints of a text, and its status. With `memory` it takes no more bytes than that."""
     if ENDING:
         raise Wrong("interrupted")
+    limit = ["sh", "-c", 'ulimit -v "$0"; exec "$@"', str(memory // 1024)] if memory else []
     try:
-        run = subprocess.Popen([BUILT if LAUNCHED else PROGRAM, *map(str, words)], stdin=subprocess.PIPE, stdout=subprocess.PIPE)
+        run = subprocess.Popen([*limit, BUILT if LAUNCHED else PROGRAM, *map(str, words)], stdin=subprocess.PIPE, stdout=subprocess.PIPE)
     except OSError as error:
         raise Wrong(f"{PROGRAM} cannot be started: {error.strerror}")
     RUNNING.add(run)

@@ -1,0 +1,112 @@
+"""The cases of examples/openings.py, which .ci/composers.py runs."""
+import os
+import re
+import signal
+import subprocess
+import tempfile
+from pathlib import Path
+
+from cases import CORNERS, FOUR_OF_BLACK, ONE_LEFT, TWO_LEFT, position
+from trying import EXAMPLES, PROGRAM, SECONDS, asked, expect, fails, path_with, run
+
+# Black's quiet move 2,3 (c6) makes neither a four nor a three, and wins.
+QUIET = (EXAMPLES / "openings" / "quiet-move.txt").read_text()
+# White's 4,4 makes a four with two ends, on a board that has the same right as left.
+EVEN = position("freestyle", 8, "0,0 7,0 0,7 7,7", "2,4 3,4 5,4")
+WON = position("freestyle", 15, "4,7 5,7 6,7 7,7", CORNERS)
+FOUL = position("renju", 15, "7,6 6,7 8,7 7,8", CORNERS)
+# Programs that neither search nor check, tell the memory that they have, and don't end.
+PROGRAMS = {
+    "idle": f"case $1 in quiet | check) exit 1 ;; esac\nexec '{PROGRAM}' \"$@\"",
+    "limited": f"[ $1 = cover ] || ulimit -v >>limits\nexec '{PROGRAM}' \"$@\"",
+    "stuck": f"[ $1 != quiet ] || exec sleep 60\nexec '{PROGRAM}' \"$@\"",
+}
+
+
+def openings():
+    """An opening is taken apart, also by command lines and after an interrupt, and covered in the end."""
+    with path_with(**PROGRAMS) as (_, folder):
+        by = lambda name: {**os.environ, "RENJU": f"{folder}/{name}"}
+        ask = lambda *words, text="", **more: run("openings.py", words, text, cwd=folder, **more)
+        held = lambda *kinds: {path.stem: path for kind in kinds for path in Path(folder, kind).glob("*.txt")}
+        begun = "after 2,3 (c6) there are 58 replies to ask, and {} are left\n".format
+        status, told, errors = ask("--jobs", "2", "o", "2,3", "-", text=QUIET)
+        tables = held("o/tables", "o/served")
+        moves = 1 + max(int(re.search(r"^moves (\d+)$", path.read_text(), re.M).group(1)) for path in tables.values())
+        covered = f"covered in {moves} moves, 58 replies by 58 tables\n"
+        expect("openings.py: an opening", (status, told, errors), (0, covered, begun(58)))
+        expect("openings.py: a table for each reply", (len(tables), sorted(tables)), (58, sorted(held("o/replies"))))
+        for reply, path in tables.items():
+            told = asked(["check", "1000000"], path.read_text())
+            expect(f"openings.py: the table of {reply}", told.startswith("accepted in "), True)
+            expect(f"openings.py: its position", path.read_text().splitlines()[1:5], held("o/replies")[reply].read_text().splitlines()[1:])
+        # What is known isn't asked again, and a table that is lost is.
+        expect("openings.py: a run that goes on", ask("o", env=by("idle")), (0, covered, begun(0)))
+        lost = sorted(held("o/tables"))[0]
+        held("o/tables")[lost].unlink()
+        expect("openings.py: a table that is lost", ask("o"), (0, covered, begun(1)))
+        wrong = sorted(tables.values())[0]
+        wrong.write_text(re.sub(r"\nmoves .*", "\nmoves 1\nnodes 1\n0,0 wins\n", wrong.read_text(), flags=re.S))
+        status, told, _ = ask("o")
+        expect("openings.py: a table that isn't accepted", (status, told), (4, f"o/{wrong.parent.name}/{wrong.name} refused not-won 0,0\n"))
+        opened(ask, held, by, covered, begun)
+        status, told, errors = ask("e", "e4", "-", text=EVEN)
+        expect("openings.py: two sides that are alike", (status, told), (0, "covered in 2 moves, 56 replies by 28 tables\n"))
+        ask("--jobs", "1", "--memory", "100", "m", "4,4", "-", text=EVEN, env=by("limited"))
+        limits = Path(folder, "limits").read_text().split()
+        expect("openings.py: the memory of a run", (limits[0], {*limits[1:]}), ("unlimited", {"102400"}))
+
+
+def opened(ask, held, by, covered, begun):
+    """Replies that are left with few nodes are asked with more, by command lines and by a run after an interrupt."""
+    status, told, _ = ask("--depth", "3", "--nodes", "1", "--most", "4", "few", "2,3", "-", text=QUIET)
+    left = sorted({*held("few/replies")} - {*held("few/tables", "few/served")})
+    said = status, told.partition(":")[0], sorted(re.findall(r"\d+,\d+", told))
+    expect("openings.py: replies that are left", said, (5, f"{len(left)} of 58 replies are left with 4", left))
+    spent = [asked(["quiet", "3", "4"], held("few/replies")[it].read_text()) for it in left]
+    expect("openings.py: what was asked of them", (len(left) > 1, {*spent}), (True, {"spent\n"}))
+    lines = ask("--lines", "--depth", "12", "few")[1].splitlines() + ask("--lines", "--depth", "3", "--nodes", "2", "few")[1].splitlines()[:1]
+    folder = held("few/replies")[left[0]].parent
+    subprocess.run(["sh", "-c", "\n".join(lines)], cwd=folder.parents[1], timeout=SECONDS)
+    # The first attack of a table falls on a stone, and one line didn't come to its end.
+    spoilt, empty = folder / f"{left[0]}.12.100000.answer", folder / f"{left[1]}.1.1.answer"
+    spoilt.write_text(re.sub(r"\n\d+,\d+( .*\n)$", r"\n2,3\1", spoilt.read_text()))
+    empty.write_text("")
+    status, told, errors = ask("few")
+    is_told = f"few/replies/{spoilt.name} is left there: renju check says refused attack-refused 2,3\n" in errors
+    expect("openings.py: what command lines wrote", (len(lines), status, told, is_told), (len(left) + 1, 0, covered, True))
+    expect("openings.py: what is left of it", sorted(folder.glob("*.answer")), sorted([spoilt, empty]))
+    expect("openings.py: what was spent", f"{left[0]} quiet-3-2 5 0.0\n" in Path(folder.parent, "tried.txt").read_text(), True)
+    words = [EXAMPLES / "openings.py", "i", "2,3", "few/position.txt"]
+    stuck = subprocess.Popen(words, cwd=folder.parents[1], env=by("stuck"), stdout=subprocess.PIPE, stderr=subprocess.PIPE)
+    expect("openings.py: a run that doesn't end", stuck.stderr.readline().decode(), begun(58))
+    stuck.send_signal(signal.SIGINT)
+    stuck.communicate(timeout=SECONDS)
+    expect("openings.py: an interrupt", (stuck.returncode, ask("i")[:2]), (130, (0, covered)))
+
+
+def unopened():
+    """What is no opening, and folders that are of something else."""
+    fails("openings.py: no folder", "openings.py", ["/no/folder"], "", "/no/folder is no folder of this script; X,Y and FILE begin one")
+    with tempfile.TemporaryDirectory() as folder:
+        Path(folder, "mine").mkdir()
+        Path(folder, "mine", "a.txt").write_text("mine\n")
+        run("openings.py", ["--lines", "o", "4,4", "-"], EVEN, cwd=folder)
+        for name, words, text, said in [
+            ("a folder of the user's", ["mine", "4,4", "-"], EVEN, "mine is there already, and is no folder of this script; name another"),
+            ("another attack", ["o", "1,4", "-"], EVEN, "o is of another opening; name another folder"),
+            ("another position", ["o", "4,4", "-"], QUIET, "o is of another opening; name another folder"),
+            ("two points", ["p", "4,4 5,5", "-"], EVEN, "X,Y is one point, as 7,7 or h8"),
+            ("a stone", ["p", "3,4", "-"], EVEN, r"a stone stands on 3,4 \(d4\) already"),
+            ("a foul", ["p", "7,7", "-"], FOUL, r"7,7 \(h8\) is a double-three, and leaves nothing to take apart"),
+            ("a win", ["p", "8,7", "-"], WON, r"8,7 \(i8\) wins at once, and leaves nothing to take apart"),
+            ("a reply that wins", ["p", "4,4", "-"], position(*FOUR_OF_BLACK), r"4,4 \(e1\) lets 4,0 \(e5\) win, and leaves nothing to take apart"),
+            ("the last point", ["p", "4,4", "-"], position(*ONE_LEFT), r"4,4 \(e1\) fills the board, and leaves nothing to take apart"),
+            ("the last reply", ["p", "3,4", "-"], position(*TWO_LEFT), r"3,4 \(d1\) lets the board be filled, and leaves nothing to take apart"),
+        ]:
+            status, output, errors = run("openings.py", words, text, cwd=folder)
+            expect(f"openings.py: {name}", f"{status} {output}{errors}", re.compile(rf"1 openings.py: {said}\n"))
+        expect("openings.py: what was there", (sorted(os.listdir(folder)), os.listdir(f"{folder}/mine")), (["mine", "o"], ["a.txt"]))
+
+
+GROUPS = (openings, unopened)

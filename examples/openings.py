@@ -1,0 +1,341 @@
+#!/usr/bin/env python3
+"""Takes an opening apart: of a position and an attack it looks for a win after each reply, with all processors, keeps what is found in
+a folder, and has `renju cover` tell in the end whether the tables cover the position.
+
+    openings.py [--depth D] [--nodes N] [--most M] [--jobs J] [--memory MB] FOLDER [X,Y FILE]
+    openings.py --lines [--depth D] [--nodes N] FOLDER [X,Y FILE]
+
+A folder begins with X,Y, the attack, and FILE, or - for standard input, a text that examples/position.py takes, or a table, whose
+position is meant. All that is known stands in its files, so that an interrupted run goes on where it was, with the folder alone.
+
+Replies far from all stones come first. At each reply the tables found so far are tried: the nodes of one, under the position of the
+reply, are given to `renju check`, which costs less than a search, and where they are accepted the text is kept in FOLDER/served. Else
+`renju quiet D NODES` is asked, and its table is kept in FOLDER/tables. NODES begins with N, and the replies that are left are asked
+again with four times as many each time, up to M. Of replies that a symmetry of the board exchanges the first is asked. A run may take
+MB of memory, or all runs at once half of the machine's, and where it runs out the reply is left.
+
+--lines prints a command line of the shell for each reply that is left, for GNU parallel. What such a line writes stands beside the
+position in FOLDER/replies, and when the script goes on its table is taken in, if `renju check` accepts it.
+
+Standard error tells how far it is. The script itself never says that an opening is won: it prints the answer of `renju cover`, or
+which replies are left. The status is that of `renju cover`, or 5 where replies are left.
+"""
+import argparse
+import os
+import re
+import shlex
+import sys
+import threading
+import time
+from collections import Counter
+from concurrent.futures import ThreadPoolExecutor, wait
+from pathlib import Path
+
+sys.dont_write_bytecode = True
+
+from boards import PROGRAM, Wrong, answered, asked, bytes_of, end_runs, numbers, read_file, saying, spelled, tell
+from foul import an
+from outputs import replace
+from position import EXCHANGING, IMAGES, image, points, rule_of, size_of, understood
+from solutions import all_of, both
+from solving import DEPTHS, NODES, SECONDS_OF_SILENCE, Clock, add_jobs, ranged
+
+HEAD = "renju-opening 1"
+# The most files that `renju cover` takes, and the most arrivals that it and `check` take.
+MOST_FILES, MOST_ARRIVALS = 1_000, 1_000_000_000_000
+# How many tables are tried at a reply each time, and with how many arrivals.
+TRIES, FEW_ARRIVALS = 8, 10_000_000_000
+TIMES = 4
+DONE, SPENT, MEMORY, FULL = 0, 5, 6, 12
+ANSWER = re.compile(r"(\d+,\d+)\.(\d+)\.(\d+)\.answer")
+
+
+def end_of(position, attack):
+    """Why an attack has no replies that can be answered, in words, or nothing."""
+    fouls, after = position.fouls(), position.after(attack)
+    if attack in fouls:
+        return f"is {an(fouls[attack])}"
+    if after.won_at() or not after.empties():
+        return "wins at once" if after.won_at() else "fills the board"
+    fives = after.fives(after.side())
+    if fives:
+        return f"lets {both(fives[0], after)} win"
+    return "" if after.empties()[1:] else "lets the board be filled"
+
+
+def replies_to(after):
+    """The replies that go on, far ones first, of those that a symmetry of the position exchanges the first one in reading order."""
+    fits = [it for it in IMAGES if after.width == after.height or it not in EXCHANGING]
+    same = [IMAGES[it] for it in fits if image(after, it).text() == after.text()]
+    images = lambda point: [move(*point, after.width - 1, after.height - 1)[::-1] for move in same]
+    stones, fouls = after.stones(), after.fouls()
+    found = [it for it in after.empties() if it not in fouls and it[::-1] == min(images(it))]
+    return sorted(found, key=lambda point: -min(apart(point, stone) for stone in stones))
+
+
+def apart(p, q):
+    return max(abs(p[0] - q[0]), abs(p[1] - q[1]))
+
+
+class Opening:
+    """A folder: a position and an attack, the replies, the tables found or served at them, and what was tried."""
+
+    def __init__(self, folder):
+        self.folder, self.lock = Path(folder), threading.Lock()
+        self.attack = numbers((self.folder / "opening.txt").read_text().split()[-1])
+        self.position = read_file(self.folder / "position.txt")
+        self.after = self.position.after(self.attack)
+        self.replies = replies_to(self.after)
+        for kind in ("replies", "tables", "served"):
+            (self.folder / kind).mkdir(exist_ok=True)
+        for reply in self.replies:
+            if not self.path("replies", reply).exists():
+                replace(self.path("replies", reply), self.after.after(reply).text())
+        self.found, self.served = ({it for it in self.replies if self.path(kind, it).exists()} for kind in ("tables", "served"))
+        self.log = self.folder / "tried.txt"
+        self.tried, self.uses, self.answers = {}, Counter(), {}
+        self.begin()
+
+    def begin(self):
+        """Reads what was tried, without a line that an interrupt left without its end, and which answers stand beside the replies."""
+        text = self.log.read_text() if self.log.exists() else ""
+        whole = text[: text.rfind("\n") + 1]
+        replace(self.log, whole)
+        for line in whole.splitlines():
+            self.note(*line.split()[:3])
+        for path in sorted((self.folder / "replies").glob("*.answer")):
+            found = ANSWER.fullmatch(path.name)
+            if found:
+                self.answers.setdefault(numbers(found.group(1)), []).append((path, f"quiet-{found.group(2)}-{found.group(3)}"))
+
+    def path(self, kind, reply):
+        return self.folder / kind / f"{spelled(reply)}.txt"
+
+    def left(self):
+        return [it for it in self.replies if it not in self.found and it not in self.served]
+
+    def note(self, reply, what, status):
+        self.tried[reply, what] = int(status)
+        if what.startswith("table-") and int(status) == DONE:
+            self.uses[numbers(what[6:])] += 1
+
+    def add(self, reply, what, status, seconds):
+        """Notes what was tried at a reply, and how it ended."""
+        with self.lock:
+            self.note(spelled(reply), what, status)
+            with open(self.log, "a") as out:
+                out.write(f"{spelled(reply)} {what} {status} {seconds:.1f}\n")
+
+    def is_lost(self, reply, what):
+        """Whether this was tried at a reply, without a table."""
+        return self.tried.get((spelled(reply), what), DONE) != DONE
+
+    def put(self, kind, reply, text):
+        """Keeps the table of a reply."""
+        replace(self.path(kind, reply), text)
+        with self.lock:
+            (self.found if kind == "tables" else self.served).add(reply)
+
+    def under(self, reply, text):
+        """The nodes of a table's text under the position of a reply."""
+        return "".join([self.after.after(reply).text("renju-table 1"), *text.splitlines(keepends=True)[5:]])
+
+    def sources(self, reply):
+        """The replies whose tables are to be tried at this one: those that served most before, and then near ones."""
+        with self.lock:
+            found = sorted(self.found, key=lambda it: (-self.uses[it], apart(it, reply), it))
+        return [it for it in found if not self.is_lost(reply, f"table-{spelled(it)}")][:TRIES]
+
+    def files(self):
+        """The file of each reply's table, in reading order."""
+        found = sorted(self.found | self.served, key=lambda it: it[::-1])
+        return [str(self.path("tables" if it in self.found else "served", it)) for it in found]
+
+
+def begun(folder, attack, position):
+    """Makes the folder of an opening."""
+    end = end_of(position, attack)
+    if end:
+        raise Wrong(f"{both(attack, position)} {end}, and leaves nothing to take apart")
+    if len(replies_to(position.after(attack))) > MOST_FILES:
+        raise Wrong(f"there are more than {MOST_FILES:,} replies, and renju cover takes no more files")
+    folder = Path(folder)
+    if folder.exists() and (not folder.is_dir() or any(folder.iterdir())):
+        raise Wrong(f"{folder} is there already, and is no folder of this script; name another")
+    folder.mkdir(exist_ok=True)
+    replace(folder / "position.txt", position.text())
+    # Its head comes last: a folder without it has not begun.
+    replace(folder / "opening.txt", f"{HEAD}\nattack {spelled(attack)}\n")
+
+
+class Work:
+    """The runs of the program at the replies that are left."""
+
+    def __init__(self, opening, given):
+        self.opening, self.depth, self.jobs, self.memory = opening, given.depth, given.jobs, given.memory
+        self.clock = Clock()
+
+    def rounds(self, nodes, most):
+        """Asks the replies that are left with more each time. It answers with how many they were asked at last."""
+        while True:
+            self.round(nodes)
+            if not self.opening.left() or nodes >= most:
+                return nodes
+            nodes = min(TIMES * nodes, most)
+
+    def round(self, nodes):
+        left = self.opening.left()
+        began, pool = time.monotonic(), ThreadPoolExecutor(self.jobs)
+        runs = [pool.submit(self.settle, reply, nodes) for reply in left]
+        try:
+            going = runs
+            while going:
+                done, going = wait(going, SECONDS_OF_SILENCE)
+                for run in done:
+                    run.result()
+                self.say(nodes, len(left), len(going), time.monotonic() - began)
+        except BaseException:
+            end_runs()
+            raise
+        finally:
+            for run in runs:
+                run.cancel()
+            pool.shutdown()
+
+    def say(self, nodes, all_of_round, going, seconds):
+        """Tells how far it is, and how long the round takes at its pace so far."""
+        opening, ended = self.opening, all_of_round - going
+        more = f", {seconds * going / ended:.0f} s more at this pace" if ended and going else ""
+        told = f"{len(opening.found) + len(opening.served)} of {len(opening.replies)} replies have a table, {len(opening.served)} of them another's"
+        self.clock.say(f"{told}; {ended} of {all_of_round} asked with {nodes:,}{more}")
+
+    def settle(self, reply, nodes):
+        """Looks for a table at a reply: in what stands beside its position, among those found so far, and by a search."""
+        if not (self.take_in(reply) or self.serve(reply)):
+            self.search(reply, nodes)
+
+    def run(self, words, text):
+        """What the program says, its status, and its seconds."""
+        began = time.monotonic()
+        told, status = answered(words, text, self.memory)
+        # A run that the system has ended for want of memory has no status of its own.
+        status = MEMORY if status < 0 else status
+        if status not in (DONE, 3, 4, SPENT, MEMORY, FULL):
+            raise Wrong(f"renju {' '.join(map(str, words))} ended with status {status}: {told.strip() or 'it printed nothing'}")
+        return told, status, time.monotonic() - began
+
+    def take_in(self, reply):
+        """Takes in what a command line has written beside the position of a reply, and removes it. It says whether there was a table."""
+        for path, what in self.opening.answers.pop(reply, []):
+            text = path.read_text(errors="replace")
+            if text.startswith("renju-table 1\n"):
+                text = self.opening.under(reply, text)
+                told, status, _ = self.run(["check", MOST_ARRIVALS], text)
+                if status != DONE:
+                    tell(f"{path} is left there: renju check says {told.strip() or 'nothing'}")
+                    continue
+                self.opening.put("tables", reply, text)
+            elif text == "spent\n":
+                self.opening.add(reply, what, SPENT, 0)
+            else:
+                # Its line has not ended yet, or was interrupted.
+                continue
+            path.unlink()
+        return reply in self.opening.found
+
+    def serve(self, reply):
+        """Tries the tables found so far at a reply. It says whether one is accepted there."""
+        for source in self.opening.sources(reply):
+            text = self.opening.under(reply, self.opening.path("tables", source).read_text())
+            _, status, seconds = self.run(["check", FEW_ARRIVALS], text)
+            if status == DONE:
+                self.opening.put("served", reply, text)
+            self.opening.add(reply, f"table-{spelled(source)}", status, seconds)
+            if status == DONE:
+                return True
+        return False
+
+    def search(self, reply, nodes):
+        what = f"quiet-{self.depth}-{nodes}"
+        if self.opening.is_lost(reply, what):
+            return
+        text, status, seconds = self.run(["quiet", self.depth, nodes], self.opening.after.after(reply).text())
+        if status == DONE:
+            self.opening.put("tables", reply, text)
+        self.opening.add(reply, what, status, seconds)
+
+
+def lines(opening, depth, nodes):
+    """Prints a command line for each reply that is left."""
+    for reply in opening.left():
+        path = opening.path("replies", reply)
+        out = path.with_suffix(f".{depth}.{nodes}.answer")
+        print(f"{shlex.quote(PROGRAM)} quiet {depth} {nodes} < {shlex.quote(str(path))} > {shlex.quote(str(out))}")
+    return DONE
+
+
+def closed(opening):
+    """Prints what the program says of all tables, with the path of a file that it counts, and answers its status."""
+    files = opening.files()
+    told, status = answered(["cover", MOST_ARRIVALS, spelled(opening.attack), *files], opening.position.text())
+    sys.stdout.write(re.sub(r"^file (\d+)", lambda number: files[int(number.group(1)) - 1], told))
+    return status
+
+
+def opening_of(given):
+    """The opening of the folder, which begins where an attack and a position are given and it isn't there."""
+    folder = Path(given.folder)
+    if given.attack:
+        position = understood(bytes_of(given.file), given.rule and rule_of(given.rule), given.size and size_of(given.size))
+        attack, *more = points(given.attack, position) or [None]
+        if not attack or more:
+            raise Wrong("X,Y is one point, as 7,7 or h8")
+        if not (folder / "opening.txt").exists():
+            begun(folder, attack, position)
+    if not (folder / "opening.txt").exists():
+        raise Wrong(f"{folder} is no folder of this script; X,Y and FILE begin one")
+    opening = Opening(folder)
+    if given.attack and (opening.attack, opening.position.text()) != (attack, position.text()):
+        raise Wrong(f"{folder} is of another opening; name another folder")
+    return opening
+
+
+def memory_of(given):
+    """How many bytes a run may take."""
+    if given.memory:
+        return given.memory << 20
+    return os.sysconf("SC_PHYS_PAGES") * os.sysconf("SC_PAGE_SIZE") // 2 // given.jobs
+
+
+def main():
+    words = argparse.ArgumentParser(description=__doc__, formatter_class=argparse.RawDescriptionHelpFormatter)
+    words.add_argument("--depth", type=ranged(*DEPTHS, "DEPTH"), default=40, metavar="D", help="the most moves after a reply; 40")
+    words.add_argument("--nodes", type=ranged(*NODES, "NODES"), default=100_000, metavar="N", help="NODES at first; 100,000")
+    words.add_argument("--most", type=ranged(*NODES, "NODES"), default=4_000_000, metavar="M", help="the most of NODES; 4,000,000")
+    add_jobs(words)
+    words.add_argument("--memory", type=ranged(64, 1_000_000, "MB"), metavar="MB", help="the most memory of a run")
+    words.add_argument("--lines", action="store_true", help="print command lines, and run nothing")
+    words.add_argument("--rule", help="the rule of a text that says none"), words.add_argument("--size", help="its size")
+    words.add_argument("folder", metavar="FOLDER"), words.add_argument("attack", nargs="?", metavar="X,Y")
+    words.add_argument("file", nargs="?", metavar="FILE")
+    given = words.parse_args()
+    if given.attack and not given.file:
+        words.error("FILE goes with X,Y; - is standard input")
+    opening = opening_of(given)
+    left = opening.left()
+    if given.lines:
+        return lines(opening, given.depth, given.nodes)
+    # The first run of the program may build it, which takes as much memory as it needs.
+    asked(["foul"], opening.position.text())
+    tell(f"after {both(opening.attack, opening.position)} there are {len(opening.replies)} replies to ask, and {len(left)} are left")
+    given.memory = memory_of(given)
+    nodes = Work(opening, given).rounds(min(given.nodes, given.most), given.most)
+    left = opening.left()
+    if left:
+        print(f"{len(left)} of {len(opening.replies)} replies are left with {nodes:,}: {all_of(left, opening.after)}")
+        return SPENT
+    return closed(opening)
+
+
+if __name__ == "__main__":
+    saying(main)
