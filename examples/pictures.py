@@ -40,6 +40,7 @@ PICTURES = {
     "wins/quiet-three": ["--mark", "1=7,2", "--mark", "2=6,2", "--mark", "3=5,3", "--mark", "4=4,4"],
     "wins/block-fouls": ["--play", "14,10 12,12 10,13 9,13 10,12"],
     "wins/defended": ["--mark", "1=8,5", "--mark", "2=6,5"],
+    "openings/quiet-move": ["--mark", "1=2,3"],
 }
 STEP, EDGE, BELOW = 34, 52, 36
 LINE, INK, PALE, BLUE, RED, GREEN = "#5a4326", "#6d5330", "#85683f", "#1d5c8f", "#b3261e", "#2f6b2f"
