@@ -13,6 +13,8 @@ from trying import EXAMPLES, PROGRAM, SECONDS, asked, expect, fails, path_with, 
 QUIET = (EXAMPLES / "openings" / "quiet-move.txt").read_text()
 # White's 4,4 makes a four with two ends, on a board that has the same right as left.
 EVEN = position("freestyle", 8, "0,0 7,0 0,7 7,7", "2,4 3,4 5,4")
+# White's 5,9 makes such a four too, and of Black's 111 points 6,2 alone, between two pairs, is a double-three.
+FOULING = position("renju", 11, "6,1 5,2 7,2 6,3 10,10", "0,0 2,9 3,9 4,9")
 WON = position("freestyle", 15, "4,7 5,7 6,7 7,7", CORNERS)
 FOUL = position("renju", 15, "7,6 6,7 8,7 7,8", CORNERS)
 # Programs that neither search nor check, tell the memory that they have, and don't end.
@@ -52,6 +54,8 @@ def openings():
         opened(ask, held, by, covered, begun)
         status, told, errors = ask("e", "e4", "-", text=EVEN)
         expect("openings.py: two sides that are alike", (status, told), (0, "covered in 2 moves, 56 replies by 28 tables\n"))
+        told = ask("f", "5,9", "-", text=FOULING)[:2]
+        expect("openings.py: fouls are no replies", told, (0, "covered in 2 moves, 110 replies by 110 tables\n"))
         ask("--jobs", "1", "--memory", "100", "m", "4,4", "-", text=EVEN, env=by("limited"))
         limits = Path(folder, "limits").read_text().split()
         expect("openings.py: the memory of a run", (limits[0], {*limits[1:]}), ("unlimited", {"102400"}))
