@@ -334,6 +334,9 @@ def answered(words, text, memory=None):
     except OSError as error:
         raise Wrong(f"{PROGRAM} cannot be started: {error.strerror}")
     RUNNING.add(run)
+    # Where all runs were ended before this one was among them.
+    if ENDING:
+        run.kill()
     try:
         told, _ = run.communicate(text if isinstance(text, bytes) else text.encode())
     finally:

@@ -33,7 +33,7 @@ from pathlib import Path
 
 sys.dont_write_bytecode = True
 
-from boards import PROGRAM, Wrong, answered, asked, bytes_of, end_runs, numbers, read_file, saying, spelled, tell
+from boards import ENDING, PROGRAM, Wrong, answered, asked, bytes_of, end_runs, numbers, read_file, saying, spelled, tell
 from foul import an
 from outputs import replace
 from position import EXCHANGING, IMAGES, image, points, rule_of, size_of, understood
@@ -218,6 +218,8 @@ class Work:
         """What the program says, its status, and its seconds."""
         began = time.monotonic()
         told, status = answered(words, text, self.memory)
+        if status < 0 and ENDING:
+            raise Wrong("interrupted")
         # A run that the system has ended for want of memory has no status of its own.
         status = MEMORY if status < 0 else status
         if status not in (DONE, 3, 4, SPENT, MEMORY, FULL):
