@@ -6,8 +6,10 @@ import subprocess
 import tempfile
 from pathlib import Path
 
-from cases import CORNERS, FOUR_OF_BLACK, ONE_LEFT, TWO_LEFT, position
+# It names the program that is tried, and so comes before what asks it.
 from trying import EXAMPLES, PROGRAM, SECONDS, asked, expect, fails, path_with, run
+
+from cases import CORNERS, FOUR_OF_BLACK, ONE_LEFT, TWO_LEFT, position
 
 # Black's quiet move 2,3 (c6) makes neither a four nor a three, and wins.
 QUIET = (EXAMPLES / "openings" / "quiet-move.txt").read_text()
