@@ -96,7 +96,7 @@ def unopened():
     fails("openings.py: no folder", "openings.py", ["/no/folder"], "", "/no/folder is no folder of this script; X,Y and FILE begin one")
     with tempfile.TemporaryDirectory() as folder:
         Path(folder, "mine").mkdir()
-        Path(folder, "mine", "a.txt").write_text("mine\n")
+        Path(folder, "mine", "opening.txt").write_text("mine\n")
         run("openings.py", ["--lines", "o", "4,4", "-"], EVEN, cwd=folder)
         for name, words, text, said in [
             ("a folder of the user's", ["mine", "4,4", "-"], EVEN, "mine is there already, and is no folder of this script; name another"),
@@ -112,7 +112,7 @@ def unopened():
         ]:
             status, output, errors = run("openings.py", words, text, cwd=folder)
             expect(f"openings.py: {name}", f"{status} {output}{errors}", re.compile(rf"1 openings.py: {said}\n"))
-        expect("openings.py: what was there", (sorted(os.listdir(folder)), os.listdir(f"{folder}/mine")), (["mine", "o"], ["a.txt"]))
+        expect("openings.py: what was there", (sorted(os.listdir(folder)), os.listdir(f"{folder}/mine")), (["mine", "o"], ["opening.txt"]))
 
 
 GROUPS = (openings, unopened)

@@ -40,13 +40,14 @@ from position import EXCHANGING, IMAGES, image, points, rule_of, size_of, unders
 from solutions import all_of, both
 from solving import DEPTHS, NODES, SECONDS_OF_SILENCE, Clock, add_jobs, ranged
 
-HEAD = "renju-opening 1"
+HEAD = re.compile(r"renju-opening 1\nattack (\d+,\d+)\n")
 # The most files that `renju cover` takes, and the most arrivals that it and `check` take.
 MOST_FILES, MOST_ARRIVALS = 1_000, 1_000_000_000_000
 # How many tables are tried at a reply each time, and with how many arrivals.
 TRIES, FEW_ARRIVALS = 8, 10_000_000_000
 TIMES = 4
-DONE, SPENT, MEMORY, FULL = 0, 5, 6, 12
+# The statuses of `quiet`, and of `check` of another's nodes, after which a script goes on.
+DONE, UNREAD, REFUSED, SPENT, MEMORY, FULL = 0, 3, 4, 5, 6, 12
 ANSWER = re.compile(r"(\d+,\d+)\.(\d+)\.(\d+)\.answer")
 
 
@@ -82,7 +83,7 @@ class Opening:
 
     def __init__(self, folder):
         self.folder, self.lock = Path(folder), threading.Lock()
-        self.attack = numbers((self.folder / "opening.txt").read_text().split()[-1])
+        self.attack = numbers(HEAD.fullmatch((self.folder / "opening.txt").read_text()).group(1))
         self.position = read_file(self.folder / "position.txt")
         self.after = self.position.after(self.attack)
         self.replies = replies_to(self.after)
@@ -165,7 +166,7 @@ def begun(folder, attack, position):
     folder.mkdir(exist_ok=True)
     replace(folder / "position.txt", position.text())
     # Its head comes last: a folder without it has not begun.
-    replace(folder / "opening.txt", f"{HEAD}\nattack {spelled(attack)}\n")
+    replace(folder / "opening.txt", f"renju-opening 1\nattack {spelled(attack)}\n")
 
 
 class Work:
@@ -222,7 +223,7 @@ class Work:
             raise Wrong("interrupted")
         # A run that the system has ended for want of memory has no status of its own.
         status = MEMORY if status < 0 else status
-        if status not in (DONE, 3, 4, SPENT, MEMORY, FULL):
+        if status not in (DONE, UNREAD, REFUSED, SPENT, MEMORY, FULL):
             raise Wrong(f"renju {' '.join(map(str, words))} ended with status {status}: {told.strip() or 'it printed nothing'}")
         return told, status, time.monotonic() - began
 
@@ -284,17 +285,23 @@ def closed(opening):
     return status
 
 
+def is_opening(folder):
+    path = folder / "opening.txt"
+    return path.is_file() and bool(HEAD.fullmatch(path.read_text(errors="replace")))
+
+
 def opening_of(given):
     """The opening of the folder, which begins where an attack and a position are given and it isn't there."""
     folder = Path(given.folder)
+    has_begun = is_opening(folder)
     if given.attack:
         position = understood(bytes_of(given.file), given.rule and rule_of(given.rule), given.size and size_of(given.size))
         attack, *more = points(given.attack, position) or [None]
         if not attack or more:
             raise Wrong("X,Y is one point, as 7,7 or h8")
-        if not (folder / "opening.txt").exists():
+        if not has_begun:
             begun(folder, attack, position)
-    if not (folder / "opening.txt").exists():
+    elif not has_begun:
         raise Wrong(f"{folder} is no folder of this script; X,Y and FILE begin one")
     opening = Opening(folder)
     if given.attack and (opening.attack, opening.position.text()) != (attack, position.text()):
