@@ -1,10 +1,11 @@
 -- The words of the game of threats, all in one place for the files of laws.
-pub use Rattle.threat_game.specs.Attacks.{AreAttacks, IsAttempt, IsDoubleWin, IsKept, IsStillKept, LeavesBoth, OthersFail, has_reply}
+pub use Rattle.threat_game.specs.Attacks.{AreAttacks, AreWindows, IsAttempt, IsDoubleWin, IsKept, IsStillKept, LeavesBoth, OthersFail}
+pub use Rattle.threat_game.specs.Attacks.{has_reply}
 pub use Rattle.threat_game.specs.Attacks.{has_saving, is_fouled, tried_moves}
 unfoldable pub use Rattle.threat_game.specs.Attacks.{best_reply, is_last_move, is_settled_move, is_tried}
 pub use Rattle.threat_game.specs.FreeMoves.{EachGoesOn}
 pub use Rattle.threat_game.specs.NearDoubles.{AreNearStones, DoublesAreNear, IsInReach, is_double_on, is_some_point, makes_two}
-pub use Rattle.threat_game.specs.NearDoubles.{points_of_two, reach, some_has, stones_around}
+pub use Rattle.threat_game.specs.NearDoubles.{points_of_two, reach, stones_around}
 unfoldable pub use Rattle.threat_game.specs.NearDoubles.{makes_on}
 pub use Rattle.threat_game.specs.QuietPoints.{HasTwoQuiet, IsQuiet}
 pub use Rattle.threat_game.specs.Replies.{AreChildren, AreJudged, AreKept, AreReplies, AreStopped, EscapesBy, HasEscape, IsBeside, IsChild}

@@ -2,14 +2,14 @@
 -- of its side stand within four steps. The stone and that on the double point are in a winning run of five stones or more, with one
 -- five point, so at least two more are.
 use Rattle.std.proofs.Common.{◌≡◌, ◌≢◌, ◌⊎◌, inl, inr, ℕ, zero, suc, ◌+◌, ◌-◌, ◌≤◌, ◌<◌, Bool, true}
-use Rattle.std.proofs.Common.{false, cond, ◌&&◌, ◌||◌, not, length, List, [], ◌∷◌, refl, sym, ap, subst, ◌∙◌, arith}
+use Rattle.std.proofs.Common.{false, cond, ◌&&◌, not, length, List, [], ◌∷◌, refl, sym, ap, subst, ◌∙◌, arith}
 use Rattle.std.proofs.Common.{nat_le, Option, Some, None, unwrap_or, filter, find, rules}
 use Rattle.std.specs.List.{list_any, range_with_len}
 use Rattle.std.proofs.lemmas.Bool.{cases_lt, false_from_ne_true, both_ways, not-true}
 use Rattle.std.proofs.lemmas.Bool.Decides.{nat_tests}
 use Rattle.std.proofs.lemmas.List.Sums.{length-filter, sum_by-le-sum_by}
 use Rattle.game_rules.proofs.Common.{Grid, IsBoard, is_on, is_empty, put, along, points_of, holds, same_line, stone_at, wins_on, five}
-use Rattle.game_rules.proofs.Common.{go, towards, opposite, stones_towards, run_end, has_five, five_points, has_threat}
+use Rattle.game_rules.proofs.Common.{go, towards, opposite, stones_towards, run_end, has_five, five_points}
 use Rattle.game_rules.proofs.Common.{is_double_point}
 use Rattle.game_rules.specs.declared.RuleKind.{RuleKind}
 use Rattle.game_rules.specs.declared.Side.{Side}
@@ -33,17 +33,19 @@ use Rattle.stone_board.proofs.LineStones.{along-places, place_low}
 use Rattle.game_rules.proofs.Positions.{IsBoard-put}
 use Rattle.game_rules.proofs.RunEnds.{new_end}
 use Rattle.game_rules.proofs.Tests.{more_pass}
-use Rattle.game_rules.proofs.Ways.{go-then, go-same, go-opposite, go-zero, else_at, leads, leads_back, towards-put, beyond-put}
-use Rattle.game_rules.proofs.Ways.{run_before_end}
-use Rattle.game_rules.proofs.Wins.{wins_on-ways, no_win, row_wins-five}
+use Rattle.game_rules.proofs.Ways.{go-then, go-same, go-opposite, go-zero, else_at, leads, leads_back}
+use Rattle.game_rules.proofs.Wins.{no_win}
 use Rattle.row_shapes.specs.FivePoints.{in_short, is_several}
 use Rattle.row_shapes.specs.FiveEnds.{end_five, with_more}
 use Rattle.row_shapes.specs.declared.fives.FivePoints.TheVariants.{None as NoPoint}
 use Rattle.row_shapes.proofs.NewFives.{end_wins}
 use Rattle.row_shapes.proofs.FiveLaws.{none-short}
+use Rattle.open_windows.specs.OpenWindows.{in_window}
+use Rattle.open_windows.proofs.Fewer.{in-before}
+use Rattle.open_windows.proofs.NewFives.{end, joins-in, many, win_on}
 use Rattle.threat_moves.proofs.Common.{has_double_point}
-use Rattle.threat_moves.proofs.GainLaws.{several, few-double, double-empty, threat-by_double, taken-no_gain, no_gain-double}
-use Rattle.threat_game.proofs.Common.{AreNearStones, DoublesAreNear, IsInReach, is_double_on, makes_on, makes_two, reach, some_has}
+use Rattle.threat_moves.proofs.GainLaws.{several, few-double, double-empty, taken-no_gain, no_gain-double}
+use Rattle.threat_game.proofs.Common.{AreNearStones, DoublesAreNear, IsInReach, is_double_on, makes_on, makes_two, reach}
 use Rattle.threat_game.proofs.Common.{is_some_point, points_of_two, stones_around}
 use Rattle.threat_game.specs.declared.near_stones.NearStones.{NearStones}
 
@@ -95,59 +97,21 @@ module _ (y z : ℕ → Bool) (n b m : ℕ) (three : 3 ≤ n + b + m) (near : (j
 -- a stone of the side on p wins at w on the axis, where none did before
 module _ (rule : RuleKind) (b : Grid) (s : Side) (p w : Point) (d : Axis) (ok : IsBoard b) (free : is_empty b p ≡ true)
     (before : wins_on rule b s d w ≡ false) (made : wins_on rule (put b s p) s d w ≡ true) where
-  point_on : is_on b p ≡ true
-  point_on = is_empty-on b p free
-
-  win_on : is_on b w ≡ true
-  win_on = is_empty-on (put b s p) w (and_left (is_empty (put b s p) w) _ made)
-
-  end : (v : Way) × (run_end b s d v p ≡ Some w)
-  end = new_end b s p ok free rule d w before made
-
   module _ (v : Way) (here : run_end b s d v p ≡ Some w) where
-    mine : holds (put b s p) s p ≡ true
-    mine = holds-put_same b s p ok point_on
-
-    abbrev fore_run : ℕ
-    fore_run = stones_towards v b s d p
-
-    abbrev back_run : ℕ
-    back_run = stones_towards (opposite v) b s d p
-
-    abbrev past_run : ℕ
-    past_run = stones_towards v b s d w
-
-    many : 3 ≤ fore_run + back_run + past_run
-    many =
-        let five = row_wins-five rule s _ (and_right (is_empty (put b s p) w) _
-        (sym (wins_on-ways rule (put b s p) s v d w (IsBoard-put b s p ok)) ∙ made)) in
-        let fore = beyond-put b s p point_on v d fore_run w here win_on in
-        let same_near = towards-put b s p point_on v d in
-        let same_back = towards-put b s p point_on (opposite v) d in
-        let behind = run_before_end (put b s p) s v d p w mine (ap (λ k. towards v d p (1 + k)) same_near ∙ here) win_on in
-        omega (arith, five, fore, same_near, same_back, behind)
-
     -- three others stand within four steps of p
     three_there : 3 ≤ among (λ k. stone_at b s (go v d p k 0)) + among (λ k. stone_at b s (go v d p 0 k))
-    three_there = at_least (λ k. stone_at b s (go v d p k 0)) (λ k. stone_at b s (go v d p 0 k)) fore_run back_run past_run many
-        (leads b s d p point_on v).holds (leads_back b s d p point_on v).holds
-        (λ j low high. ap (stone_at b s) (sym (go-then v d p w (1 + fore_run) 0 j 0 here))
-        ∙ (leads b s d w win_on v).holds j low high)
+    three_there =
+        let on = is_empty-on b p free in
+        at_least (λ k. stone_at b s (go v d p k 0)) (λ k. stone_at b s (go v d p 0 k)) (stones_towards v b s d p)
+        (stones_towards (opposite v) b s d p) (stones_towards v b s d w) (many rule b s p w d ok free before made v here)
+        (leads b s d p on v).holds (leads_back b s d p on v).holds
+        (λ j low high. ap (stone_at b s) (sym (go-then v d p w (1 + stones_towards v b s d p) 0 j 0 here))
+        ∙ (leads b s d w (win_on rule b s p w d ok free before made) v).holds j low high)
 
 -- stones on both sides of a point, whichever way is first
 around : (b : Grid) (s : Side) (d : Axis) (p : Point) (v : Way) (n : ℕ)
     → n ≤ among (λ k. stone_at b s (go v d p k 0)) + among (λ k. stone_at b s (go v d p 0 k)) → n ≤ stones_around b s d p
 around b s d p v n h = search rules
-
--- a stone that makes a five point, where its side has none, has three others within four steps on some axis
-pub crowded : (rule : RuleKind) (b : Grid) (s : Side) (p : Point) → IsBoard b → is_empty b p ≡ true → has_five rule b s ≡ false
-    → has_five rule (put b s p) s ≡ true → (d : Axis) × (3 ≤ stones_around b s d p)
-crowded rule b s p ok free none five_there =
-    let found = any_witness (five rule (put b s p) s) (points_of (put b s p)) five_there in
-    let made = some_axis (λ d. wins_on rule (put b s p) s d found.0) found.1 in
-    let before : wins_on rule b s made.0 found.0 ≡ false = no_win rule b s made.0 found.0 none in
-    let at = end rule b s p found.0 made.0 ok free before made.1 in
-    (made.0, around b s made.0 p at.0 3 (three_there rule b s p found.0 made.0 ok free before made.1 at.0 at.1))
 
 -- the stone itself is not among those around it
 pub around-put : (b : Grid) (s : Side) (d : Axis) (p : Point) → is_on b p ≡ true → stones_around (put b s p) s d p ≡ stones_around b s d p
@@ -279,6 +243,10 @@ module _ (rule : RuleKind) (b : Grid) (s : Side) (p q : Point) (ok : IsBoard b) 
     again =
         sym (wins_alike full (put with_q s p) s d w (λ z line. holds_both z) refl rule ok_full (IsBoard-put with_q s p ok_q)
         (free_w ∙ sym (is_empty-put with_q s p w on_p beside_p.0 ∙ free_w_q))) ∙ wins
+
+    -- so p lies in a window with two stones, without q's
+    pub in_two : in_window b s 2 p ≡ true
+    in_two = in-before b s q ok beside.1 2 p (joins-in rule with_q s p w d ok_q free_p no_win_q again)
 
     -- q's stone makes it one on the axis
     made_on : makes_on rule with_p s d q ≡ true
@@ -412,33 +380,48 @@ module _ (rule : RuleKind) (b : Grid) (s : Side) (p q : Point) (ok : IsBoard b) 
       → list_any new_there (points_of b) ≡ true
   two_before quiet two = search (rules, more_then, several, both_ways)
 
-  pub near_when : makes_two rule b s q ≡ false → is_several (in_short (five_points rule full s)) ≡ true → IsInReach rule with_p s p q
-  near_when quiet two =
+  -- else it makes one where p's stone joins its run
+  pub joined_when : makes_two rule b s q ≡ false → is_several (in_short (five_points rule full s)) ≡ true
+      → IsInReach rule with_p s p q × (in_window b s 2 p ≡ true)
+  joined_when quiet two =
       let many : nat_le 2 (length (five_points rule full s)) ≡ true = sym (several (five_points rule full s)) ∙ two in
       let w : Point = unwrap_or (find new_there (points_of b)) p in
       let new = find-some new_there (points_of b) p (two_before quiet many) in
       let made = some_axis (λ d. wins_on rule full s d w) (and_left (five rule full s w) _ new) in
-      in_reach w made.0 made.1 (not-true (five rule with_q s w) (and_right (five rule full s w) _ new))
+      let before = not-true (five rule with_q s w) (and_right (five rule full s w) _ new) in
+      (in_reach w made.0 made.1 before, in_two w made.0 made.1 before)
 
 -- ---- as the code tells it
 
--- a double point after a stone on p that leaves no five point made two before it, or is near p
-pub doubles-near : (rule : RuleKind) (b : Grid) (s : Side) (p : Point) → IsBoard b → is_empty b p ≡ true
-    → has_five rule (put b s p) s ≡ false → DoublesAreNear rule (put b s p) s p (points_of_two rule b s)
-doubles-near rule b s p ok empty none = record { near = λ none_two q double. by_two none_two q double (makes_two rule b s q) refl } where
-  by_test : (q : Point) → is_double_point rule (put b s p) s q ≡ true → makes_two rule b s q ≡ false → (r : Bool)
-      → is_several (in_short (five_points rule (put (put b s p) s q) s)) ≡ r → IsInReach rule (put b s p) s p q
-  by_test q double quiet true two = near_when rule b s p q ok empty none (double-empty rule (put b s p) s q double) quiet two
-  by_test q double quiet false few = absurd (both_ways _ (few-double rule (put b s p) s q few) double)
+-- a double point after a stone on p that leaves no five point made two before it, or is near p, which lies in a window with two stones
+module _ (rule : RuleKind) (b : Grid) (s : Side) (p : Point) (ok : IsBoard b) (empty : is_empty b p ≡ true)
+    (none : has_five rule (put b s p) s ≡ false) where
+  double-joined : list_any (is_double_point rule (put b s p) s) (points_of_two rule b s) ≡ false → (q : Point)
+      → is_double_point rule (put b s p) s q ≡ true → IsInReach rule (put b s p) s p q × (in_window b s 2 p ≡ true)
+  double-joined none_two q double = by_two (makes_two rule b s q) refl where
+    by_test : makes_two rule b s q ≡ false → (r : Bool) → is_several (in_short (five_points rule (put (put b s p) s q) s)) ≡ r
+        → IsInReach rule (put b s p) s p q × (in_window b s 2 p ≡ true)
+    by_test quiet true two = joined_when rule b s p q ok empty none (double-empty rule (put b s p) s q double) quiet two
+    by_test quiet false few = absurd (both_ways _ (few-double rule (put b s p) s q few) double)
 
-  by_two : list_any (is_double_point rule (put b s p) s) (points_of_two rule b s) ≡ false → (q : Point)
-      → is_double_point rule (put b s p) s q ≡ true → (r : Bool) → makes_two rule b s q ≡ r → IsInReach rule (put b s p) s p q
-  by_two none_two q double false quiet = by_test q double quiet (is_several (in_short (five_points rule (put (put b s p) s q) s))) refl
-  by_two none_two q double true two =
-      let both : (makes_two rule b s q && is_double_point rule (put b s p) s q) ≡ true = rw (two, double) refl in
-      absurd (both_ways _ none_two (any-filter (makes_two rule b s) (is_double_point rule (put b s p) s) (points_of b)
-      ∙ points-found b (λ x. makes_two rule b s x && is_double_point rule (put b s p) s x) q
-      (is_empty-on b q (and_left (is_empty b q) _ two)) both))
+    by_two : (r : Bool) → makes_two rule b s q ≡ r → IsInReach rule (put b s p) s p q × (in_window b s 2 p ≡ true)
+    by_two false quiet = by_test quiet (is_several (in_short (five_points rule (put (put b s p) s q) s))) refl
+    by_two true two =
+        let both : (makes_two rule b s q && is_double_point rule (put b s p) s q) ≡ true = rw (two, double) refl in
+        absurd (both_ways _ none_two (any-filter (makes_two rule b s) (is_double_point rule (put b s p) s) (points_of b)
+        ∙ points-found b (λ x. makes_two rule b s x && is_double_point rule (put b s p) s x) q
+        (is_empty-on b q (and_left (is_empty b q) _ two)) both))
+
+  pub doubles-near : DoublesAreNear rule (put b s p) s p (points_of_two rule b s)
+  doubles-near = record { near = λ none_two q double. (double-joined none_two q double).0 }
+
+  -- where no point makes two, a stone outside such windows leaves no double point
+  pub outside-no_new_double : in_window b s 2 p ≡ false → points_of_two rule b s ≡ [] → has_double_point rule (put b s p) s ≡ false
+  outside-no_new_double out quiet = false_from_ne_true _ (λ h.
+      let found = any_witness (is_double_point rule (put b s p) s) (points_of (put b s p)) h in
+      let no_two : list_any (is_double_point rule (put b s p) s) (points_of_two rule b s) ≡ false =
+      ap (list_any (is_double_point rule (put b s p) s)) quiet in
+      both_ways _ out (double-joined no_two found.0 found.1).1)
 
 -- ---- at most so many stones on each axis
 
@@ -448,30 +431,12 @@ near_on near Column = near.column
 near_on near Down = near.down
 near_on near Up = near.up
 
--- one of four tests
-abbrev pick : Axis → Bool → Bool → Bool → Bool → Bool
-pick Row r t u v = r
-pick Column r t u v = t
-pick Down r t u v = u
-pick Up r t u v = v
-
-some_of : (d : Axis) (r t u v : Bool) → pick d r t u v ≡ true → (r || t || u || v) ≡ true
-some_of d r t u v h = search rules
-
-test_of : (d : Axis) (near : NearStones) (n : ℕ) → n ≤ near_on near d
-    → pick d (nat_le n near.row) (nat_le n near.column) (nat_le n near.down) (nat_le n near.up) ≡ true
-test_of d near n h = search rules
-
 reach-more : (m n : ℕ) → m ≤ n → reach m ≤ reach n
 reach-more m n h = grind (arith, nat_tests)
 
 module _ (b : Grid) (s : Side) (p : Point) (near : NearStones) (are : AreNearStones b s p near) where
   at_most : (d : Axis) → stones_around b s d p ≤ near_on near d
   at_most d = search rules
-
-  -- where an axis has so many stones, some number says so
-  pub some-on : (d : Axis) (n : ℕ) → n ≤ stones_around b s d p → some_has near n ≡ true
-  some-on d n many = search (rules, some_of, test_of, at_most)
 
   -- where no double point was found as near as it may be, there is none
   pub none-near : (rule : RuleKind) → ((q : Point) → is_double_point rule b s q ≡ true → IsInReach rule b s p q)
@@ -498,34 +463,6 @@ module _ (b : Grid) (s : Side) (p : Point) (near : NearStones) (are : AreNearSto
         down = rw d are.down;
         up = rw u are.up;
       }
-
-  module _ (rule : RuleKind) (ok : IsBoard b) (empty : is_empty b p ≡ true) (none : has_five rule b s ≡ false) where
-    -- with fewer than three on each axis the stone makes no five point
-    pub few-no_five : some_has near 3 ≡ false → has_five rule (put b s p) s ≡ false
-    few-no_five few = false_from_ne_true _ (λ five_there.
-        let many = crowded rule b s p ok empty none five_there in
-        both_ways _ few (some-on many.0 3 many.1))
-
-    -- with fewer than two, and where no point makes two five points, it makes no threat
-    pub few-no_threat : some_has near 2 ≡ false → points_of_two rule b s ≡ [] → false ≡ has_threat rule (put b s p) s
-    few-no_threat few quiet =
-        let five_none : has_five rule (put b s p) s ≡ false = false_from_ne_true _ (λ five_there.
-        let many = crowded rule b s p ok empty none five_there in
-        let two : 2 ≤ stones_around b s many.0 p = let three = many.1 in omega (arith, three) in
-        both_ways _ few (some-on many.0 2 two)) in
-        let far = doubles-near rule b s p ok empty five_none in
-        let no_two : list_any (is_double_point rule (put b s p) s) (points_of_two rule b s) ≡ false =
-        ap (list_any (is_double_point rule (put b s p) s)) quiet in
-        let no_double : has_double_point rule (put b s p) s ≡ false = false_from_ne_true _ (λ h.
-        let found = any_witness (is_double_point rule (put b s p) s) (points_of (put b s p)) h in
-        let at = far.near no_two found.0 found.1 in
-        let same = around-put b s at.axis p (is_empty-on b p empty) in
-        let steps = at.some in
-        let low = at.near in
-        both_ways _ few (some-on at.axis 2 (reached (stones_around (put b s p) s at.axis p) _ at.steps steps low same))) in
-        sym no_double ∙ threat-by_double rule (put b s p) s five_none where
-          reached : (m n k : ℕ) → 1 ≤ k → k ≤ reach m → m ≡ n → 2 ≤ n
-          reached m n k some low same = grind (arith, nat_tests)
 
 -- a stone that leaves no five point is on no double point
 pub no_five-no_double : (rule : RuleKind) (b : Grid) (s : Side) (q : Point) → has_five rule (put b s q) s ≡ false

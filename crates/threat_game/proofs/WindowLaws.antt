@@ -1,18 +1,27 @@
 -- What a stone outside the open windows of its side does not make.
-use Rattle.std.proofs.Common.{rules, ◌≡◌, Bool, true, false, ◌&&◌, ap}
+use Rattle.std.proofs.Common.{rules, ◌≡◌, ◌∙◌, ℕ, List, subst, Bool, true, false, ◌&&◌, [], arith, ap, sym}
 use Rattle.std.proofs.lemmas.Bool.{false_from_ne_true, both_ways}
-use Rattle.game_rules.proofs.Common.{Grid, IsBoard, is_empty, put, has_five, is_double_point}
+use Rattle.game_rules.proofs.Common.{Grid, IsBoard, is_empty, put, has_five, has_threat, is_double_point}
 use Rattle.game_rules.specs.declared.RuleKind.{RuleKind}
 use Rattle.game_rules.specs.declared.Side.{Side}
 use Rattle.game_rules.specs.declared.Point.{Point}
 use Rattle.row_shapes.specs.FivePoints.{is_several}
 use Rattle.row_shapes.proofs.FiveLaws.{none-short}
 use Rattle.open_windows.specs.OpenWindows.{in_window}
+use Rattle.open_windows.specs.PointSets.{TellsWindows}
+use Rattle.open_windows.proofs.Fewer.{in-fewer}
 use Rattle.open_windows.proofs.NewFives.{five-in}
-use Rattle.threat_moves.proofs.GainLaws.{double-empty}
-use Rattle.threat_game.proofs.Common.{makes_two}
-use Rattle.threat_game.proofs.NearDoubles.{no_five-no_double}
+use Rattle.threat_moves.proofs.GainLaws.{double-empty, threat-by_double}
+use Rattle.threat_game.proofs.Common.{makes_two, points_of_two}
+use Rattle.threat_game.proofs.NearDoubles.{no_five-no_double, outside-no_new_double}
 
+-- the windows of a board and a side that are these
+pub windows-of : (a b : Grid) (t s : Side) (least : ℕ) (rows : List ℕ) → a ≡ b → t ≡ s → TellsWindows a t least rows
+    → TellsWindows b s least rows
+windows-of a b t s least rows board side h =
+    subst (λ (u : Side). TellsWindows b u least rows) side (subst (λ (w : Grid). TellsWindows w t least rows) board h)
+
+-- outside windows with three stones
 module _ (rule : RuleKind) (b : Grid) (s : Side) (p : Point) (ok : IsBoard b) (none : has_five rule b s ≡ false)
     (out : in_window b s 3 p ≡ false) where
   pub outside-no_five : is_empty b p ≡ true → has_five rule (put b s p) s ≡ false
@@ -26,3 +35,11 @@ module _ (rule : RuleKind) (b : Grid) (s : Side) (p : Point) (ok : IsBoard b) (n
   outside-no_two = by_test (is_empty b p) _ (λ empty. ap is_several (none-short rule (put b s p) s (outside-no_five empty))) where
     by_test : (r t : Bool) → (r ≡ true → t ≡ false) → (r && t) ≡ false
     by_test r t h = search rules
+
+-- outside windows with two, where no point makes two five points
+pub outside-no_threat : (rule : RuleKind) (b : Grid) (s : Side) (p : Point) → IsBoard b → has_five rule b s ≡ false → is_empty b p ≡ true
+    → in_window b s 2 p ≡ false → points_of_two rule b s ≡ [] → false ≡ has_threat rule (put b s p) s
+outside-no_threat rule b s p ok none empty out quiet =
+    let three : in_window b s 3 p ≡ false = false_from_ne_true _ (λ h. both_ways _ out (in-fewer b s 3 2 p (omega arith) h)) in
+    let no_five = outside-no_five rule b s p ok none three empty in
+    sym (outside-no_new_double rule b s p ok empty no_five out quiet) ∙ threat-by_double rule (put b s p) s no_five

@@ -9,17 +9,24 @@ use Rattle.game_rules.specs.declared.RuleKind.{RuleKind}
 use Rattle.game_rules.specs.declared.Side.{Side}
 use Rattle.game_rules.specs.declared.Outcome.TheVariants.{GoesOn}
 use Rattle.game_rules.specs.declared.Point.{Point}
+use Rattle.open_windows.specs.PointSets.{TellsWindows}
 use Rattle.threat_moves.specs.OneBlock.{all_foul}
 use Rattle.threat_game.specs.declared.attacks.Attacks.{Attacks}
 use Rattle.threat_game.specs.declared.attacks.Attacks.TheVariants.{DoublePoint as DoubleWins, NoReply, Moves}
 use Rattle.threat_game.specs.declared.attacks.Attempt.{Attempt}
 use Rattle.threat_game.specs.declared.attacks.Attempt.TheVariants.{Tried, EachReplyFouls, Passed}
+use Rattle.threat_game.specs.declared.attacks.Windows.{Windows}
 use Rattle.threat_game.specs.declared.attacks.BestReply.{BestReply}
 use Rattle.threat_game.specs.declared.attacks.BestReply.TheVariants.{GoesOn as SomeGoesOn, Saves, Fouls as EachFouls}
 use Rattle.threat_game.specs.declared.doubles.DoublePoint.{DoublePoint}
 use Rattle.threat_game.specs.declared.doubles.Kept.{Kept}
 use Rattle.threat_game.specs.ThreatGame.{is_threat_move, is_safe_threat}
 use Rattle.threat_game.specs.NearDoubles.{points_of_two}
+
+-- the open windows of the side with two stones or more, and with three
+pub record AreWindows (b : Grid) (s : Side) (windows : Windows) : Type 0 where
+  pub two : TellsWindows b s 2 windows.two
+  pub three : TellsWindows b s 3 windows.three
 
 -- whether some move of the side to move goes on
 abbrev pub has_reply : RuleKind → Grid → Bool

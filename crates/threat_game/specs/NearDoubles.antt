@@ -1,5 +1,5 @@
 -- Where a stone can make new double points.
-use Rattle.std.specs.Prelude.{◌≡◌, ℕ, ◌+◌, ◌≤◌, nat_le, Bool, true, false, ◌&&◌, ◌||◌, if◌then◌else◌, length, List, Option, Some, None}
+use Rattle.std.specs.Prelude.{◌≡◌, ℕ, ◌+◌, ◌≤◌, nat_le, Bool, true, false, ◌&&◌, if◌then◌else◌, length, List, Option, Some, None}
 use Rattle.std.specs.List.{list_any, filter, range_with_len}
 use Rattle.game_rules.specs.Grid.{Grid, is_empty, put, points_of}
 use Rattle.game_rules.specs.Games.{five_points, is_double_point}
@@ -47,10 +47,6 @@ pub record AreNearStones (b : Grid) (s : Side) (p : Point) (near : NearStones) :
   pub column : stones_around b s Column p ≤ near.column
   pub down : stones_around b s Down p ≤ near.down
   pub up : stones_around b s Up p ≤ near.up
-
--- whether there are so many on some axis
-abbrev pub some_has : NearStones → ℕ → Bool
-some_has near least = nat_le least near.row || nat_le least near.column || nat_le least near.down || nat_le least near.up
 
 -- how many steps from a new stone a new double point may be on an axis on which so many others stand within four steps of it: none
 -- with fewer than two, four with two, and with more as many as a line has

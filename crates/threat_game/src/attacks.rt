@@ -2,8 +2,8 @@
 //!
 //! A move of the game of threats goes on and leaves its side a five point or a double point. A double point that stands already
 //! wins at once where the other side has no five point. Else each move of the game is tried; where the other side has a five
-//! point, the one move that may help is to take it. Where no point makes two five points yet, a new double point is on a line with
-//! the stone that makes it, on which two others stand near that stone, so no other is looked at.
+//! point, the one move that may help is to take it. A move that leaves a five point lies in an open window with three stones; where
+//! no point makes two five points yet, one that leaves a double point lies in a window with two. No other is looked at.
 #![tactic(auto)]
 
 ghost use Rattle.std.specs.Prelude.{◌≡◌, ◌&&◌, not, true, false, All, IfOk, IfSome, IfNone, IsTrue};
@@ -16,14 +16,14 @@ ghost use Rattle.row_shapes.specs.FivePoints.{in_short};
 ghost use Rattle.open_windows.specs.PointSets.{TellsWindows};
 ghost use Rattle.threat_game.specs.ThreatGame.{is_threat_move as is_threat_move_lem};
 ghost use Rattle.threat_game.specs.FreeMoves.{EachGoesOn};
-ghost use Rattle.threat_game.specs.NearDoubles.{AreNearStones, is_some_point as is_some_point_lem, makes_two as makes_two_lem};
+ghost use Rattle.threat_game.specs.NearDoubles.{is_some_point as is_some_point_lem, makes_two as makes_two_lem};
 ghost use Rattle.threat_game.specs.NearDoubles.{points_of_two};
-ghost use Rattle.threat_game.specs.Attacks.{AreAttacks, IsAttempt, IsDoubleTold, IsDoubleWin, has_standing_double};
+ghost use Rattle.threat_game.specs.Attacks.{AreAttacks, AreWindows, IsAttempt, IsDoubleTold, IsDoubleWin, has_standing_double};
 ghost use Rattle.threat_game.specs.Attacks.{best_reply as best_reply_lem};
 
 use crate::doubles::{DoublePoint, double_at};
 use crate::near_doubles::leaves_double;
-use crate::near_stones::{NearStones, near_stones};
+use crate::near_stones::near_stones;
 use crate::quiet_points::is_quiet;
 use foul_judge::{Outcome, Seen};
 use open_windows::{PointSet, window_points};
@@ -151,17 +151,15 @@ fn makes_two<R: Rule, V: Seen<R>>(view: &V, windows: &PointSet, p: Point) -> boo
     view.fives_made(p).is_several()
 }
 
-/// The five points that the side to move has after its stone on an empty point, where it has none before it and at most so many
-/// stones around the point.
-pub(crate) fn fives_by<R: Rule, V: Seen<R>>(view: &V, near: NearStones, p: Point) -> FivePoints
+/// The five points that the side to move has after its stone on an empty point, where it has none before it: none but in these
+/// windows.
+pub(crate) fn fives_by<R: Rule, V: Seen<R>>(view: &V, windows: &PointSet, p: Point) -> FivePoints
     requires empty { IsTrue (is_empty (V.position view.now) p) }
     requires none { has_five_lem R.KIND (V.position view.now) (mover (V.position view.now)) ≡ false }
-    requires near { AreNearStones (V.position view.now) (mover (V.position view.now)) p near }
+    requires windows { TellsWindows (V.position view.now) (mover (V.position view.now)) 3 windows.now }
     ensures made { result ≡ in_short (five_points_lem R.KIND (after (V.position view.now) p) (mover (V.position view.now))) }
 {
-    // This tells that the position is lawful.
-    view.side();
-    if !near.some(3) {
+    if !windows.has(p) {
         return FivePoints::None;
     }
     view.fives_made(p)
@@ -172,6 +170,15 @@ pub(crate) fn is_some_point(fives: FivePoints) -> bool
     ensures some { result ≡ is_some_point_lem fives }
 {
     !matches!(fives, FivePoints::None)
+}
+
+/// The open windows of a side.
+#[derive(Drop)]
+struct Windows {
+    /// Those with two stones or more.
+    two: PointSet,
+    /// Those with three or more.
+    three: PointSet,
 }
 
 /// The moves to be tried, or one to which each reply fouls. The other side has these five points.
@@ -191,9 +198,13 @@ fn find_moves<R: Rule, V: Seen<R>>(
     ensures same { V.position view.new ≡ V.position view.old }
     ensures same_board { board.new ≡ board.old }
 {
+    let windows = Windows {
+        two: window_points(view.board(), view.side(), 2),
+        three: window_points(view.board(), view.side(), 3),
+    };
     let mut moves = Points::new(alloc);
     for p in view.board().points() {
-        match judge_move::<R, V>(view, board, threat, twos, p) {
+        match judge_move::<R, V>(view, board, threat, twos, &windows, p) {
             Attempt::Tried => moves.push(p)?,
             Attempt::EachReplyFouls => return Ok(Attacks::NoReply(p)),
             Attempt::Passed => {}
@@ -208,9 +219,11 @@ fn judge_move<R: Rule, V: Seen<R>>(
     board: &mut Board,
     threat: FivePoints,
     twos: &[Point],
+    windows: &Windows,
     p: Point,
 ) -> Attempt
     requires twos { twos.now ≡ points_of_two R.KIND (V.position view.old) (mover (V.position view.old)) }
+    requires windows { AreWindows (V.position view.old) (mover (V.position view.old)) windows.now }
     requires none { has_five_lem R.KIND (V.position view.old) (mover (V.position view.old)) ≡ false }
     requires lawful { IsPosition R.KIND (V.position view.old) }
     requires copy { board.old ≡ V.position view.old }
@@ -222,7 +235,7 @@ fn judge_move<R: Rule, V: Seen<R>>(
     if !takes(threat, p) {
         return Attempt::Passed;
     }
-    if !is_new_threat::<R, V>(view, board, twos, p) {
+    if !is_new_threat::<R, V>(view, board, twos, windows, p) {
         return Attempt::Passed;
     }
     match best_reply_to::<R, V>(view, p) {
@@ -291,14 +304,16 @@ pub fn is_threat_move<R: Rule, V: Seen<R>>(view: &mut V, board: &mut Board, p: P
     is_three_move::<R, V>(view, board, p)
 }
 
-/// The same where the side has no five point, and these points make two.
+/// The same where the side has no five point, these points make two, and these are its open windows.
 fn is_new_threat<R: Rule, V: Seen<R>>(
     view: &mut V,
     board: &mut Board,
     twos: &[Point],
+    windows: &Windows,
     p: Point,
 ) -> bool
     requires twos { twos.now ≡ points_of_two R.KIND (V.position view.old) (mover (V.position view.old)) }
+    requires windows { AreWindows (V.position view.old) (mover (V.position view.old)) windows.now }
     requires none { has_five_lem R.KIND (V.position view.old) (mover (V.position view.old)) ≡ false }
     requires copy { board.old ≡ V.position view.old }
     ensures threat { result ≡ is_threat_move_lem R.KIND (V.position view.old) p }
@@ -308,29 +323,36 @@ fn is_new_threat<R: Rule, V: Seen<R>>(
     if !view.board().is_empty(p) {
         return false;
     }
-    if !leaves_threat::<R, V>(view, board, twos, p) {
+    if !leaves_threat::<R, V>(view, board, twos, windows, p) {
         return false;
     }
     goes_on::<R, V>(view, p)
 }
 
 /// Whether a stone of the side to move on an empty point leaves it a five point or a double point. It has no five point before.
-fn leaves_threat<R: Rule, V: Seen<R>>(view: &V, board: &mut Board, twos: &[Point], p: Point) -> bool
+fn leaves_threat<R: Rule, V: Seen<R>>(
+    view: &V,
+    board: &mut Board,
+    twos: &[Point],
+    windows: &Windows,
+    p: Point,
+) -> bool
     requires empty { IsTrue (is_empty (V.position view.now) p) }
     requires twos { twos.now ≡ points_of_two R.KIND (V.position view.now) (mover (V.position view.now)) }
+    requires windows { AreWindows (V.position view.now) (mover (V.position view.now)) windows.now }
     requires none { has_five_lem R.KIND (V.position view.now) (mover (V.position view.now)) ≡ false }
     requires copy { board.old ≡ V.position view.now }
     ensures threat { result ≡ has_threat R.KIND (after (V.position view.now) p) (mover (V.position view.now)) }
     ensures same_board { board.new ≡ board.old }
 {
-    let side = view.side();
-    let near = near_stones(board, side, p);
-    if twos.is_empty() && !near.some(2) {
+    if twos.is_empty() && !windows.two.has(p) {
         return false;
     }
-    if is_some_point(fives_by::<R, V>(view, near, p)) {
+    if is_some_point(fives_by::<R, V>(view, &windows.three, p)) {
         return true;
     }
+    let side = view.side();
+    let near = near_stones(board, side, p);
     leaves_double::<R>(board, side, twos, near, p)
 }
 

@@ -1,14 +1,13 @@
 //! The stones around a stone that may make a double point.
 //!
-//! A winning run has five stones. Where a new stone is one of them and the five point another, three more stand in it, within four
-//! steps of the new stone. So a stone beside which fewer than three stand on each axis makes no five point. Where a double point is a
-//! further one of the five, two stand so near; and it is itself within four steps, or else three others are. The bits of a line tell
-//! how many stand there at most.
+//! A winning run has five stones. Where a new stone, a double point and a five point after it are three of them, two others stand in
+//! it, within four steps of the new stone; and the double point is itself within four steps, or else three others are. The bits of a
+//! line tell how many stand there at most.
 #![tactic(auto)]
 
 ghost use Rattle.std.specs.Prelude.{◌≡◌, ◌≤◌, IsTrue};
 ghost use Rattle.game_rules.specs.Grid.{IsBoard, is_on};
-ghost use Rattle.threat_game.specs.NearDoubles.{AreNearStones, some_has, stones_around as stones_around_lem};
+ghost use Rattle.threat_game.specs.NearDoubles.{AreNearStones, stones_around as stones_around_lem};
 
 use stone_board::{Axis, Board, Point, Side, place_on};
 
@@ -19,16 +18,6 @@ pub(crate) struct NearStones {
     pub(crate) column: u32,
     pub(crate) down: u32,
     pub(crate) up: u32,
-}
-
-impl NearStones {
-    /// Whether there are so many on some axis.
-    #[inline(always)]
-    pub(crate) fn some(self, least: u32) -> bool
-        ensures some { result ≡ some_has self least }
-    {
-        self.row >= least || self.column >= least || self.down >= least || self.up >= least
-    }
 }
 
 /// How many stones of the side stand within four steps of the point on each axis, at most.

@@ -15,6 +15,7 @@ ghost use Rattle.game_rules.specs.Grid.{Grid, is_empty};
 ghost use Rattle.game_rules.specs.Shapes.{is_same_point};
 ghost use Rattle.game_rules.specs.Play.{IsPosition, outcome as outcome_lem, mover, other, after, goes_on as goes_on_lem};
 ghost use Rattle.game_rules.specs.Games.{WinsByThreats, has_five as has_five_lem, five_points as five_points_lem};
+ghost use Rattle.open_windows.specs.PointSets.{TellsWindows};
 ghost use Rattle.strategy_graph.specs.declared.TheConstants.{MAX_NODES};
 ghost use Rattle.strategy_compiler.specs.Growth.{GrowsBy};
 ghost use Rattle.threat_game.specs.FreeMoves.{EachGoesOn};
@@ -28,9 +29,9 @@ use crate::doubles::{
 };
 use crate::escapes::fails_after;
 use crate::last_moves::last_move;
-use crate::near_stones::near_stones;
 use crate::written::{compile_five, compile_last};
 use foul_judge::{Outcome, Seen};
+use open_windows::{PointSet, window_points};
 use row_shapes::Rule;
 use std::alloc::{AllocError, Global};
 use stone_board::{Board, Point, Points, Side};
@@ -230,6 +231,8 @@ struct BeforeReplies<'a> {
     fives: &'a Points,
     /// Some of its double points.
     doubles: &'a [Kept],
+    /// The windows of the defender with three stones.
+    windows: &'a PointSet,
 }
 
 /// What is judged of the replies, where the attacker has these five points and these double points before them: of each but some after
@@ -257,10 +260,12 @@ fn each_reply<R: Rule, V: Seen<R>>(
 {
     let mut part = Vec::new(alloc);
     let mut first = None;
+    let windows = window_points(view.board(), view.side(), 3);
     let known = BeforeReplies {
         free: each_goes_on::<R, V>(view),
         fives,
         doubles,
+        windows: &windows,
     };
     for q in view.board().points() {
         if !is_met_at::<R, V>(view, known, first, q) {
@@ -299,6 +304,7 @@ fn is_met_at<R: Rule, V: Seen<R>>(
     requires no_five { has_five_lem R.KIND (V.position view.now) (mover (V.position view.now)) ≡ false }
     requires fives { known.fives.now ≡ five_points_lem R.KIND (V.position view.now) (other (mover (V.position view.now))) }
     requires doubles { AreKept R.KIND (V.position view.now) (other (mover (V.position view.now))) known.doubles.now }
+    requires windows { TellsWindows (V.position view.now) (mover (V.position view.now)) 3 known.windows.now }
     ensures met { IsTrue result → outcome_lem R.KIND (V.position view.now) q ≡ Outcome.GoesOn
         → IsMetAt R.KIND (V.position view.now) first q }
 {
@@ -310,23 +316,29 @@ fn is_met_at<R: Rule, V: Seen<R>>(
     };
     match five_beside(known.fives, q) {
         Some(five) => stands_for(child.judged, Judged::Five(five)),
-        None => is_met_by_double::<R, V>(view, known.doubles, child, q),
+        None => is_met_by_double::<R, V>(view, known, child, q),
     }
 }
 
 /// Whether the first of the double points is known to win after the reply `q` on an empty point, which leaves the attacker no five
 /// point, and the win after this first reply is by it.
-fn is_met_by_double<R: Rule, V: Seen<R>>(view: &V, doubles: &[Kept], first: Child, q: Point) -> bool
+fn is_met_by_double<R: Rule, V: Seen<R>>(
+    view: &V,
+    known: BeforeReplies,
+    first: Child,
+    q: Point,
+) -> bool
     requires lawful { IsPosition R.KIND (V.position view.now) }
     requires empty { IsTrue (is_empty (V.position view.now) q) }
     requires no_five { has_five_lem R.KIND (V.position view.now) (mover (V.position view.now)) ≡ false }
     requires none { outcome_lem R.KIND (V.position view.now) q ≡ Outcome.GoesOn
         → has_five_lem R.KIND (after (V.position view.now) q) (mover (after (V.position view.now) q)) ≡ false }
-    requires doubles { All (IsKept R.KIND (V.position view.now) (other (mover (V.position view.now)))) doubles.now }
+    requires doubles { All (IsKept R.KIND (V.position view.now) (other (mover (V.position view.now)))) known.doubles.now }
+    requires windows { TellsWindows (V.position view.now) (mover (V.position view.now)) 3 known.windows.now }
     ensures met { IsTrue result → outcome_lem R.KIND (V.position view.now) q ≡ Outcome.GoesOn
         → IsMetAt R.KIND (V.position view.now) (Some first) q }
 {
-    let [kept, ..] = doubles else {
+    let [kept, ..] = known.doubles else {
         return false;
     };
     if !kept.sure {
@@ -341,7 +353,7 @@ fn is_met_by_double<R: Rule, V: Seen<R>>(view: &V, doubles: &[Kept], first: Chil
     if !stands_for(first.judged, Judged::DoublePoint(kept.double, 2)) {
         return false;
     }
-    !makes_five::<R, V>(view, q)
+    !makes_five::<R, V>(view, known.windows, q)
 }
 
 /// How many positions of the attacker are counted for one that is judged so.
@@ -371,6 +383,7 @@ fn judge<R: Rule, V: Seen<R>>(
     requires copy { board.old ≡ V.position view.old }
     requires fives { known.fives.now ≡ five_points_lem R.KIND (V.position view.old) (other (mover (V.position view.old))) }
     requires doubles { AreKept R.KIND (V.position view.old) (other (mover (V.position view.old))) known.doubles.now }
+    requires windows { TellsWindows (V.position view.old) (mover (V.position view.old)) 3 known.windows.now }
     ensures judgement { IfOk result (IsJudgement R.KIND moves (V.position view.old) q) }
     ensures early { IfOk result (λ judgement. IfEscape judgement (moves ≤ 2)) }
     ensures same { V.position view.new ≡ V.position view.old }
@@ -381,7 +394,7 @@ fn judge<R: Rule, V: Seen<R>>(
     }
     match five_beside(known.fives, q) {
         Some(five) => Ok(Judgement::Known(Judged::Five(five))),
-        None => judge_quiet::<R, V>(alloc, view, board, q, moves, known.doubles),
+        None => judge_quiet::<R, V>(alloc, view, board, known, q, moves),
     }
 }
 
@@ -390,16 +403,17 @@ fn judge_quiet<R: Rule, V: Seen<R>>(
     alloc: Global,
     view: &mut V,
     board: &mut Board,
+    known: BeforeReplies,
     q: Point,
     moves: u32,
-    doubles: &[Kept],
 ) -> Result<Judgement, AllocError>
     requires some_moves { 1 ≤ moves }
     requires no_five { has_five_lem R.KIND (V.position view.old) (mover (V.position view.old)) ≡ false }
     requires on { outcome_lem R.KIND (V.position view.old) q ≡ Outcome.GoesOn }
     requires none { has_five_lem R.KIND (after (V.position view.old) q) (mover (after (V.position view.old) q)) ≡ false }
     requires copy { board.old ≡ V.position view.old }
-    requires doubles { AreKept R.KIND (V.position view.old) (other (mover (V.position view.old))) doubles.now }
+    requires doubles { AreKept R.KIND (V.position view.old) (other (mover (V.position view.old))) known.doubles.now }
+    requires windows { TellsWindows (V.position view.old) (mover (V.position view.old)) 3 known.windows.now }
     ensures judgement { IfOk result (IsJudgement R.KIND moves (V.position view.old) q) }
     ensures early { IfOk result (λ judgement. IfEscape judgement (moves ≤ 2)) }
     ensures same { V.position view.new ≡ V.position view.old }
@@ -411,7 +425,7 @@ fn judge_quiet<R: Rule, V: Seen<R>>(
             None => Judgement::Escape,
         });
     }
-    let judged = judge_double::<R, V>(view, q, doubles);
+    let judged = judge_double::<R, V>(view, q, known.doubles, known.windows);
     if moves == 2 && is_open(judged) && fails_after::<R, V>(alloc, view, board, q)? {
         return Ok(Judgement::Escape);
     }
@@ -457,11 +471,17 @@ pub fn last_after<R: Rule, V: Seen<R>>(view: &mut V, board: &mut Board, q: Point
 }
 
 /// What is known after the reply `q`, which goes on, where the attacker has two more moves or more and no five point after it.
-fn judge_double<R: Rule, V: Seen<R>>(view: &mut V, q: Point, doubles: &[Kept]) -> Judged
+fn judge_double<R: Rule, V: Seen<R>>(
+    view: &mut V,
+    q: Point,
+    doubles: &[Kept],
+    windows: &PointSet,
+) -> Judged
     requires no_five { has_five_lem R.KIND (V.position view.old) (mover (V.position view.old)) ≡ false }
     requires on { outcome_lem R.KIND (V.position view.old) q ≡ Outcome.GoesOn }
     requires none { has_five_lem R.KIND (after (V.position view.old) q) (mover (after (V.position view.old) q)) ≡ false }
     requires doubles { All (IsKept R.KIND (V.position view.old) (other (mover (V.position view.old)))) doubles.now }
+    requires windows { TellsWindows (V.position view.old) (mover (V.position view.old)) 3 windows.now }
     ensures judged { IsJudged R.KIND (after (V.position view.old) q) result }
     ensures enough { moves_for result ≤ 2 }
     ensures stops { is_open_lem result ≡ true → has_five_lem R.KIND (after (V.position view.old) q) (mover (V.position view.old)) ≡ false
@@ -471,7 +491,7 @@ fn judge_double<R: Rule, V: Seen<R>>(view: &mut V, q: Point, doubles: &[Kept]) -
     if doubles.is_empty() {
         return Judged::Open;
     }
-    if makes_five::<R, V>(view, q) {
+    if makes_five::<R, V>(view, windows, q) {
         return Judged::Open;
     }
     view.play(q);
@@ -480,14 +500,15 @@ fn judge_double<R: Rule, V: Seen<R>>(view: &mut V, q: Point, doubles: &[Kept]) -
     found
 }
 
-/// Whether a stone of the side to move on an empty point leaves it a five point, where it has none before it.
-fn makes_five<R: Rule, V: Seen<R>>(view: &V, q: Point) -> bool
+/// Whether a stone of the side to move on an empty point leaves it a five point, where it has none before it. It does not but in these
+/// windows.
+fn makes_five<R: Rule, V: Seen<R>>(view: &V, windows: &PointSet, q: Point) -> bool
     requires empty { IsTrue (is_empty (V.position view.now) q) }
     requires no_five { has_five_lem R.KIND (V.position view.now) (mover (V.position view.now)) ≡ false }
+    requires windows { TellsWindows (V.position view.now) (mover (V.position view.now)) 3 windows.now }
     ensures five { result ≡ has_five_lem R.KIND (after (V.position view.now) q) (mover (V.position view.now)) }
 {
-    let near = near_stones(view.board(), view.side(), q);
-    is_some_point(fives_by::<R, V>(view, near, q))
+    is_some_point(fives_by::<R, V>(view, windows, q))
 }
 
 /// The first of the double points that wins still after the reply `q`, if one does, where the attacker is to move.

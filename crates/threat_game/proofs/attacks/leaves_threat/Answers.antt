@@ -1,35 +1,26 @@
-use Rattle.std.proofs.Common.{◌≡◌, true, false, refl, ap, sym, subst, ◌∙◌, arith, nat_eq, length, List, [], ◌∷◌}
+use Rattle.std.proofs.Common.{◌≡◌, true, false, refl, ap, sym, ◌∙◌, arith, nat_eq, length, List, [], ◌∷◌}
 use Rattle.std.proofs.lemmas.Bool.Decides.{nat_tests}
 use Rattle.game_rules.proofs.Common.{Grid, is_empty, put, mover, after, has_five}
 use Rattle.game_rules.specs.declared.Side.{Side}
 use Rattle.game_rules.specs.declared.Point.{Point}
 use Rattle.threat_moves.specs.ThreeMoves.{has_double_point}
 use Rattle.threat_moves.proofs.GainLaws.{threat-by_five, threat-by_double}
-use Rattle.threat_game.specs.NearDoubles.{AreNearStones, is_some_point, points_of_two}
+use Rattle.open_windows.proofs.Points.{told-outside}
+use Rattle.threat_game.specs.NearDoubles.{is_some_point, points_of_two}
 use Rattle.threat_game.proofs.DoubleLaws.{some-five}
-use Rattle.threat_game.proofs.NearDoubles.{few-no_threat}
+use Rattle.threat_game.proofs.WindowLaws.{outside-no_threat}
 use Rattle.threat_game.proofs.attacks.leaves_threat.Goals as goal
 
 nil-by : (ps : List Point) → nat_eq (length ps) 0 ≡ true → ps ≡ []
 nil-by [] h = refl
 nil-by (p ∷ ps) h = absurd (grind (arith, nat_tests))
 
-pub returns-then-not-some-clause-threat : goal.returns-then-not-some-clause-threat
-returns-then-not-some-clause-threat g c =
+pub returns-then-not-has-clause-threat : goal.returns-then-not-has-clause-threat
+returns-then-not-has-clause-threat g c =
     let b : Grid = g.V.Seen.position c.args.view.now in
-    let near = subst (λ (t : Side). AreNearStones b t c.args.p c.near_stones-near.result) c.side-side.ensures.side
-    (subst (λ (w : Grid). AreNearStones w c.side-side.result c.args.p c.near_stones-near.result) c.requires.copy
-    c.near_stones-near.ensures.near) in
-    few-no_threat b (mover b) c.args.p c.near_stones-near.result near g.R.Rule.KIND c.side-side.ensures.lawful.board c.requires.empty
-    c.requires.none (sym c.some.ensures.some ∙ c.if-not-some.true)
+    outside-no_threat g.R.Rule.KIND b (mover b) c.args.p c.requires.windows.two.board c.requires.none c.requires.empty
+    (told-outside b (mover b) 2 c.args.windows.now.two c.args.p c.has.result c.requires.windows.two c.has.ensures.has c.if-not-has.true)
     (sym c.requires.twos ∙ nil-by c.args.twos.now (sym c.is_empty.ensures ∙ c.if-is_empty.true))
-
-pub fives_by-requires-clause-near : goal.fives_by-requires-clause-near
-fives_by-requires-clause-near g c =
-    let b : Grid = g.V.Seen.position c.args.view.now in
-    subst (λ (t : Side). AreNearStones b t c.args.p c.near_stones-near.result) c.side-side.ensures.side
-    (subst (λ (w : Grid). AreNearStones w c.side-side.result c.args.p c.near_stones-near.result) c.requires.copy
-    c.near_stones-near.ensures.near)
 
 pub returns-then-is_some_point-clause-threat : goal.returns-then-is_some_point-clause-threat
 returns-then-is_some_point-clause-threat g c =

@@ -1,10 +1,12 @@
 use Rattle.std.proofs.Common.{rules, ◌≡◌, refl, sym, ap, subst, ◌∙◌, arith, find, List, [], ◌∷◌, Option}
 use Rattle.std.proofs.lemmas.Grind.{common_steps}
 use Rattle.game_rules.proofs.Common.{Grid, IsPosition, points_of, five_points, has_five, mover, other}
+use Rattle.open_windows.specs.PointSets.{TellsWindows}
 use Rattle.threat_game.specs.declared.replies.Child.{Child}
 use Rattle.threat_game.proofs.Common.{AreKept, EachGoesOn, EscapesBy, IsJudgement, IsMetAt, first_with}
 use Rattle.threat_game.proofs.Kept.{first-more, stands}
 use Rattle.threat_game.proofs.ReplyLaws.{PartSoFar, all-in_part, part-met, part-more, part-none, part-pass}
+use Rattle.threat_game.proofs.WindowLaws.{windows-of}
 use Rattle.threat_game.proofs.replies.each_reply.Goals as goal
 
 pub loop-q-init : goal.loop-q-init
@@ -15,7 +17,7 @@ loop-q-init g c = record {
   so_far = subst (λ (part : List Child). PartSoFar g.R.Rule.KIND c.args.moves (g.V.Seen.position c.args.view.now) part
       c.into_iter-q-iterator.result) (sym c.new-part.ensures.items)
       (part-none g.R.Rule.KIND c.args.moves (g.V.Seen.position c.args.view.now) c.into_iter-q-iterator.result
-      (c.into_iter-q-iterator.ensures.into_iter_gives ∙ c.points-q-items.ensures.points ∙ ap points_of c.board.ensures.board));
+      (c.into_iter-q-iterator.ensures.into_iter_gives ∙ c.points-q-items.ensures.points ∙ ap points_of c.board-2.ensures.board));
 }
 
 pub is_met_at-requires-clause-lawful : goal.is_met_at-requires-clause-lawful
@@ -107,3 +109,15 @@ returns-in-Escape-clause-escape g c =
     (subst (IsJudgement g.R.Rule.KIND c.args.moves (g.V.Seen.position c.loop-q.view) c.in-Some.q) c.in-Escape.is
     c.in_ok-judge.ensures.judgement) in
     record { reply = c.in-Some.q; on = escape.on; no_win = escape.no_win }
+
+pub is_met_at-requires-clause-windows : goal.is_met_at-requires-clause-windows
+is_met_at-requires-clause-windows g c =
+    let b : Grid = g.V.Seen.position c.args.view.now in
+    subst (λ (w : Grid). TellsWindows w (mover w) 3 c.window_points-windows.result) (sym c.loop-q.invariant.same)
+    (windows-of _ b _ (mover b) 3 _ c.board.ensures.board c.side.ensures.side c.window_points-windows.ensures.points)
+
+pub judge-requires-clause-windows : goal.judge-requires-clause-windows
+judge-requires-clause-windows g c =
+    let b : Grid = g.V.Seen.position c.args.view.now in
+    subst (λ (w : Grid). TellsWindows w (mover w) 3 c.window_points-windows.result) (sym c.loop-q.invariant.same)
+    (windows-of _ b _ (mover b) 3 _ c.board.ensures.board c.side.ensures.side c.window_points-windows.ensures.points)

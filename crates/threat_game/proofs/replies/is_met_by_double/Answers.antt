@@ -20,7 +20,7 @@ pub returns : goal.returns
 returns g c = record {
   met = λ is on.
       let b : Grid = g.V.Seen.position c.args.view.now in
-      let kept : Kept = get_or c.args.doubles.now 0 none in
+      let kept : Kept = get_or c.args.known.doubles.now 0 none in
       let nodes = answer_nodes g.R.Rule.KIND (after b c.args.q) kept.double in
       let some = c.in-len1-up.len_at_least in
       let count : c.empties.result ≡ empties_of b = c.empties.ensures.empties ∙ ap empties_of c.board.ensures.board in

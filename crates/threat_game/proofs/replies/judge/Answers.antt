@@ -2,6 +2,7 @@ use Rattle.std.proofs.Common.{◌≡◌, true, false, ap, sym, subst, refl, ◌�
 use Rattle.game_rules.proofs.Common.{Grid, has_five, outcome, mover, other, after}
 use Rattle.game_rules.specs.declared.Outcome.TheVariants.{GoesOn}
 use Rattle.game_rules.proofs.Outcomes.{goes_on-is}
+use Rattle.open_windows.specs.PointSets.{TellsWindows}
 use Rattle.threat_game.proofs.Common.{AreKept, IsJudgement}
 use Rattle.threat_game.specs.declared.replies.Judged.TheVariants.{Five}
 use Rattle.threat_game.proofs.ReplyLaws.{first-beside, none-beside, child-is}
@@ -47,3 +48,7 @@ pub returns-in-None-clause-judgement : goal.returns-in-None-clause-judgement
 returns-in-None-clause-judgement g c =
     subst (λ (b : Grid). IfOk c.judge_quiet.result (IsJudgement g.R.Rule.KIND c.args.moves b c.args.q)) c.goes_on_where.ensures.same
     c.judge_quiet.ensures.judgement
+
+pub judge_quiet-requires-clause-windows : goal.judge_quiet-requires-clause-windows
+judge_quiet-requires-clause-windows g c =
+    subst (λ (b : Grid). TellsWindows b (mover b) 3 c.args.known.windows.now) (sym c.goes_on_where.ensures.same) c.requires.windows

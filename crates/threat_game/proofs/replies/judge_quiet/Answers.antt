@@ -33,4 +33,5 @@ returns-clause-judgement g c =
     let some = c.requires.some_moves in
     child-is g.R.Rule.KIND c.args.moves b c.args.q c.requires.on (after b c.args.q) c.judge_double-judged.result 2 refl
     c.judge_double-judged.ensures.judged c.judge_double-judged.ensures.enough (omega (arith, moves, some))
-    (λ open_is. stops-first g.R.Rule.KIND b c.args.q c.args.doubles.now c.requires.doubles (c.judge_double-judged.ensures.stops open_is))
+    (λ open_is. stops-first g.R.Rule.KIND b c.args.q c.args.known.doubles.now c.requires.doubles
+    (c.judge_double-judged.ensures.stops open_is))
