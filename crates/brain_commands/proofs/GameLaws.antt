@@ -257,7 +257,8 @@ all_places P (x ∷ xs) all zero d low = all.0
 all_places P (x ∷ xs) all (suc k) d low = all_places P xs all.1 k d (omega (arith, low))
 
 -- the root of a table that is accepted may be held
-due_table : (file : TableFile) (bytes : List ℕ) → IsTableAt file bytes → IsFit file → All (IsDueRoot file.table) (of_table file).roots
+due_table : (file : TableFile) (bytes : List ℕ) → IsTableAt file bytes → IsFit BRAIN_WORK file
+    → All (IsDueRoot file.table) (of_table file).roots
 due_table file bytes at fit = search (all_one, root_named)
 
 -- so may those of a book of which each entry is accepted

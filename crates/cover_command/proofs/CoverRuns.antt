@@ -33,12 +33,12 @@ use Rattle.command_base.specs.Positions.{SaysOfPosition, of_position}
 use Rattle.command_base.proofs.ToldLaws.{IsWhole, answers-by, by-end, every-told, given-told, where-told}
 use Rattle.command_base.proofs.PositionLaws.{said-of-position}
 use Rattle.file_loading.specs.TableFiles.{IsRefusedTable, IsSpentWork}
-use Rattle.file_loading.specs.HeldFiles.{IsUnheld, IsUnhinderedShelf}
-use Rattle.file_loading.proofs.HeldFileLaws.{not-told}
-use Rattle.cover_command.specs.PartFiles.{ArePartFiles, PartFileSays, part_by, parts_of}
+use Rattle.file_loading.specs.HeldFiles.{IsUnheld, IsUnhinderedShelf, TableFileSays}
+use Rattle.file_loading.specs.ManyFiles.{AreTableFiles}
+use Rattle.file_loading.proofs.ManyFileLaws.{fit-not_refused, same-files}
+use Rattle.cover_command.specs.PartFiles.{part_by, parts_of}
 use Rattle.cover_command.specs.Covers.{AttackLacks, AttackSays, CoverLacks, CoverSays, CoversByFiles, IsCoverRun, IsCoverShown}
 use Rattle.cover_command.specs.Covers.{IsToldCover, IsWonAsTold, TellsOpen, TellsPart, cover_line, covers_command}
-use Rattle.cover_command.proofs.PartLaws.{part-not_told, part-under, same-parts}
 
 -- ---- what is kept of accepted tables
 
@@ -54,13 +54,13 @@ part-won (Attack i) file rest board accepted moves all = (
 )
 part-won (Defend a) file rest board accepted moves all = all
 
-kept-won : (work : ℕ) (shelf : Option Files) (names : List (List ℕ)) (files : List TableFile) → ArePartFiles work shelf names files
+kept-won : (work : ℕ) (shelf : Option Files) (names : List (List ℕ)) (files : List TableFile) → AreTableFiles work shelf names files
     → AllByRecursion IsWonPart (parts_of files)
 kept-won work shelf [] [] h = tt
 kept-won work shelf [] (file ∷ files) h = absurd h
 kept-won work shelf (name ∷ names) [] h = absurd h
 kept-won work shelf (name ∷ names) (file ∷ files) h =
-    part-won file.root file (parts_of files) h.0.at.lawful.board h.0.accepted.accepted h.0.at.moves
+    part-won file.root file (parts_of files) h.0.at.lawful.board h.0.fit.accepted h.0.at.moves
     (kept-won work shelf names files h.1)
 
 -- ---- what is said of a position
@@ -139,7 +139,7 @@ said-answers attack parts file status text said = by-attack attack said where
 -- ---- answers
 
 module _ (work : ℕ) (attack : Option Point) (names : List (List ℕ)) (run : Run) (files : List TableFile)
-    (free : IsUnhinderedShelf (λ shelf. ArePartFiles work (Some shelf) names files) run) where
+    (free : IsUnhinderedShelf (λ shelf. AreTableFiles work (Some shelf) names files) run) where
   told-of : (P : Option Files → Type 0) → P run.shelf.before → P (Some free.files)
   told-of P h = subst P free.told h
 
@@ -147,7 +147,7 @@ module _ (work : ℕ) (attack : Option Point) (names : List (List ℕ)) (run : R
   by-files : (by : CoversByFiles work attack names run)
       → EndsTold (SaysOfPosition (CoverSays attack (parts_of files))) run.input run.output run.status
   by-files by =
-      let same = same-parts work free.files names files by.files free.fit (told-of (λ shelf. ArePartFiles work shelf names by.files)
+      let same = same-files work free.files names files by.files free.fit (told-of (λ shelf. AreTableFiles work shelf names by.files)
       by.accepted) in
       subst (λ (fs : List TableFile). EndsTold (SaysOfPosition (CoverSays attack (parts_of fs))) run.input run.output run.status) same
       by.ends
@@ -159,15 +159,11 @@ module _ (work : ℕ) (attack : Option Point) (names : List (List ℕ)) (run : R
       said-answers attack (parts_of files) can.0 status text
       (said-of-position (CoverSays attack (parts_of files)) input can.0 can.1 status text says)) run bytes un (by-files by)
   answers-end (inr (inl tells)) bytes un =
-      let why = tells.why in
-      let there = part-under work free.files why.before why.later why.name files
-      (subst (λ (ns : List (List ℕ)). ArePartFiles work (Some free.files) ns files) why.names_are free.fit) in
-      absurd (free.shelf_sound (not-told why.name run free.files free.told there.1.bytes there.1.found (PartFileSays work) there.1.fits
-      (part-not_told work there.0 there.1.bytes there.1.at there.1.accepted) tells.status why.line why.why))
+      absurd (free.shelf_sound (fit-not_refused work names run free.files free.told files free.fit tells.status tells.text tells.why))
   answers-end (inr (inr unbegun)) bytes un = inr (record { ends = unbegun.ends; silent = unbegun.silent })
 
 pub cover-answers : (work : ℕ) (attack : Option Point) (names : List (List ℕ)) (run : Run) → IsCoverRun work attack names run
-    → (files : List TableFile) → IsUnhinderedShelf (λ shelf. ArePartFiles work (Some shelf) names files) run
+    → (files : List TableFile) → IsUnhinderedShelf (λ shelf. AreTableFiles work (Some shelf) names files) run
     → AnswersTold (of_position (covers_command work attack names files)) run
 cover-answers work attack names run is files free = answers-end work attack names run files free is.ends
 
@@ -181,7 +177,7 @@ silent-by : (status told : Status) → status ≡ told → (Speaks (status_numbe
 silent-by status told is silent speaks = silent (subst (λ (s : Status). Speaks (status_number s)) is speaks)
 
 -- what is told of a file that is not accepted speaks of none
-part-silent : (work : ℕ) (bytes : List ℕ) (status : Status) (text : List ℕ) → PartFileSays work bytes status text
+part-silent : (work : ℕ) (bytes : List ℕ) (status : Status) (text : List ℕ) → TableFileSays work bytes status text
     → Speaks (status_number status) → ⊥
 part-silent work bytes status text (inl refused) = silent-by status RefusedText refused.ends (λ s. grind arith)
 part-silent work bytes status text (inr said) = by-verdict said.2 where
@@ -190,7 +186,7 @@ part-silent work bytes status text (inr said) = by-verdict said.2 where
   by-verdict (inr spent) = silent-by status Spent spent.ends (λ s. grind arith)
 
 unheld-silent : (work : ℕ) (shelf : Change (Option Files)) (name : List ℕ) (status : Status) (text : List ℕ)
-    → IsUnheld (PartFileSays work) shelf name status text → Speaks (status_number status) → ⊥
+    → IsUnheld (TableFileSays work) shelf name status text → Speaks (status_number status) → ⊥
 unheld-silent work shelf name status text (inl refused) = part-silent work refused.bytes status text refused.says
 unheld-silent work shelf name status text (inr (inl long)) = silent-by status TooLong long.ends (λ s. grind arith)
 unheld-silent work shelf name status text (inr (inr fault)) = silent-by status ShelfFault fault.ends (λ s. grind arith)
@@ -217,7 +213,7 @@ module _ (work : ℕ) (attack : Option Point) (names : List (List ℕ)) (run : R
   by-says by bytes status text ends whole (inl refused) = silent-shown (λ speaks.
       silent-by status RefusedText refused.ends (λ s. grind arith) (subst Speaks ends speaks)) bytes
   by-says by bytes status text ends whole (inr said) =
-      let accepted = subst (λ (o : Option Files). ArePartFiles work o names by.files) told by.accepted in
+      let accepted = subst (λ (o : Option Files). AreTableFiles work o names by.files) told by.accepted in
       let won = kept-won work (Some shelf) names by.files accepted in
       let board = said.1.lawful.board in
       record {
@@ -252,7 +248,7 @@ module _ (work : ℕ) (attack : Option Point) (names : List (List ℕ)) (run : R
         (silent-shown (yields-silent run.status yielded))
   shown-by (inr (inl tells)) = every-told (λ input. IsCoverShown work attack names shelf input run) run.input.before
       (silent-shown (delivered-silent tells.status tells.text run.output run.status
-      (unheld-silent work run.shelf tells.why.name tells.status tells.why.line tells.why.why) tells.delivered))
+      (unheld-silent work run.shelf tells.why.stop.name tells.status tells.why.line tells.why.why) tells.delivered))
   shown-by (inr (inr unbegun)) = every-told (λ input. IsCoverShown work attack names shelf input run) run.input.before
       (silent-shown (subst (λ (n : ℕ). Speaks n → ⊥) (sym unbegun.ends) (λ s. grind arith)))
 

@@ -31,8 +31,9 @@ use Rattle.command_base.specs.Forms.{Command}
 use Rattle.command_base.specs.Told.{AnswersTold, EndsTold}
 use Rattle.command_base.specs.Positions.{IsPositionAt, PositionCommand, SaysOfPosition, of_position}
 use Rattle.file_loading.specs.HeldFiles.{IsUnhinderedShelf}
-use Rattle.table_commands.specs.declared.TheConstants.{MAX_WORK}
-use Rattle.cover_command.specs.PartFiles.{ArePartFiles, ArePartNames, IsPartRefused, parts_of}
+use Rattle.file_loading.specs.declared.TheConstants.{MAX_WORK}
+use Rattle.file_loading.specs.ManyFiles.{AreTableFiles, IsFileRefused}
+use Rattle.cover_command.specs.PartFiles.{ArePartNames, parts_of}
 
 -- the word of the attack: a point, or `-` where there is none
 abbrev pub attack_word : Option Point → List ℕ
@@ -90,7 +91,7 @@ CoverSays (Some p) parts file status text = AttackSays file.kind parts file.boar
 -- each file is accepted, and only then the input is read, and said what the tables are to it
 pub record CoversByFiles (work : ℕ) (attack : Option Point) (names : List (List ℕ)) (run : Run) : Type 0 where
   pub files : List TableFile
-  pub accepted : ArePartFiles work run.shelf.before names files
+  pub accepted : AreTableFiles work run.shelf.before names files
   pub sound : HasNoFault run.shelf
   pub ends : EndsTold (SaysOfPosition (CoverSays attack (parts_of files))) run.input run.output run.status
 
@@ -98,7 +99,7 @@ pub record CoversByFiles (work : ℕ) (attack : Option Point) (names : List (Lis
 pub record TellsPart (work : ℕ) (names : List (List ℕ)) (run : Run) : Type 0 where
   pub status : Status
   pub text : List ℕ
-  pub why : IsPartRefused work names run.shelf status text
+  pub why : IsFileRefused work names run.shelf status text
   pub input : IsUnasked run.input
   pub delivered : IsDelivered status text run.output run.status
 
@@ -124,7 +125,7 @@ cover_command work attack names = record {
   words = cover_words work attack names;
   in_range = AreInRange work attack names;
   Does = IsCoverRun work attack names;
-  Answers = λ run. (files : List TableFile) → IsUnhinderedShelf (λ shelf. ArePartFiles work (Some shelf) names files) run
+  Answers = λ run. (files : List TableFile) → IsUnhinderedShelf (λ shelf. AreTableFiles work (Some shelf) names files) run
       → AnswersTold (of_position (covers_command work attack names files)) run;
 }
 
@@ -156,7 +157,7 @@ CoverLacks (Some p) parts file text = AttackLacks file.kind parts file.board p (
 pub record ShowsOfCover (Holds : List TableFile → PositionFile → List ℕ → Type 0) (work : ℕ) (names : List (List ℕ)) (shelf : Files)
     (input : List ℕ) (run : Run) : Type 0 where
   pub files : List TableFile
-  pub accepted : ArePartFiles work (Some shelf) names files
+  pub accepted : AreTableFiles work (Some shelf) names files
   pub position : PositionFile
   pub at : IsPositionAt position input
   pub text : List ℕ

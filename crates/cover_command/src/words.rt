@@ -7,6 +7,7 @@ ghost use Rattle.game_rules.specs.declared.Point.{Point};
 ghost use Rattle.cover_command.specs.PartFiles.{ArePartNames};
 ghost use Rattle.cover_command.specs.Covers.{IsAttack, attack_word};
 
+use file_loading::are_file_names;
 use reply_cover::MAX_PARTS;
 use stone_board::{MAX_SIDE, Point};
 use text_lines::point;
@@ -26,13 +27,5 @@ pub fn attack_of_word(word: &str) -> Option<Option<Point>>
 pub fn are_part_names(names: &[String]) -> bool
     ensures names { IsTrue result ↔ ArePartNames (map string_bytes names.now) }
 {
-    if names.is_empty() || names.len() > MAX_PARTS {
-        return false;
-    }
-    for name in names {
-        if name.is_empty() {
-            return false;
-        }
-    }
-    true
+    are_file_names(names, MAX_PARTS)
 }

@@ -12,6 +12,7 @@ use Rattle.command_base.specs.declared.status.Status.TheVariants.{Done, ReadFaul
 use Rattle.command_base.specs.declared.status.Status.TheVariants.{RefusedTable, Spent}
 use Rattle.brain_session.specs.declared.TheConstants.{BRAIN_WORK}
 use Rattle.command_base.specs.Statuses.{status_number}
+use Rattle.command_base.specs.Texts.{too_long_line}
 use Rattle.command_base.specs.Runs.{Change, Run, HasFailed, IsDelivered, HasNoFault}
 use Rattle.file_loading.proofs.Common.{IsTableAt, IsRefusedTable, IsSpentWork, held_by, named_entry, of_book, of_table, HeldFile, NamedRoot}
 use Rattle.file_loading.proofs.Common.{IsFit, IsHeldText, IsLoaded, BookFileSays, FileSays, TableFileSays, IsUnheld, IsLoadedAs}
@@ -43,23 +44,30 @@ long-under name files None is h = absurd h
 long-under name files (Some bytes) is h = (bytes, refl, h)
 
 -- bytes that the shelf has under the name and that are too many: those that it tells, and else some
-pub long-file : (name : List ℕ) (files : Option Files)
+long-file : (name : List ℕ) (files : Option Files)
     → IfSome files (λ told. IsSomeAnd (file_under name told) (λ bytes. MAX_INPUT_BYTES < length bytes))
     → (bytes : List ℕ) × IfSome files (λ told. file_under name told ≡ Some bytes) × (MAX_INPUT_BYTES < length bytes)
 long-file name (Some told) h = long-under name told (file_under name told) refl h
 long-file name None h = let x = longer-than MAX_INPUT_BYTES in (x.0, tt, x.1)
 
+pub unheld-long : (Says : List ℕ → Status → List ℕ → Type 0) (shelf : Change (Option Files)) (name : List ℕ) (status : Status)
+    (text : List ℕ) → IfSome shelf.before (λ told. IsSomeAnd (file_under name told) (λ bytes. MAX_INPUT_BYTES < length bytes))
+    → HasNoFault shelf → status ≡ TooLong → text ≡ too_long_line → IsUnheld Says shelf name status text
+unheld-long Says shelf name status text more sound ends line =
+    let long = long-file name shelf.before more in
+    inr (inl (record { bytes = long.0; loaded = record { found = long.1; sound = sound }; long = long.2; ends = ends; line = line }))
+
 -- ---- what a FILE gives
 
 -- the text of a table that is accepted is not refused
-pub table-not_told : (file : TableFile) (bytes : List ℕ) → IsTableAt file bytes → IsFit file → (status : Status) (text : List ℕ)
-    → TableFileSays bytes status text → ⊥
-table-not_told file bytes at fit status text (inl refused) =
+pub table-not_told : (work : ℕ) (file : TableFile) (bytes : List ℕ) → IsTableAt file bytes → IsFit work file → (status : Status)
+    (text : List ℕ) → TableFileSays work bytes status text → ⊥
+table-not_told work file bytes at fit status text (inl refused) =
     let only = table-read-back file bytes at.text at.lawful at.moves in refused.cause (only.no_fault refused.error refused.fault)
-table-not_told file bytes at fit status text (inr said) =
-    by-verdict (subst (λ (f : TableFile). IsRefusedTable f status text ⊎ IsSpentWork BRAIN_WORK f status text)
+table-not_told work file bytes at fit status text (inr said) =
+    by-verdict (subst (λ (f : TableFile). IsRefusedTable f status text ⊎ IsSpentWork work f status text)
     (one-table file said.0 bytes at said.1) said.2) where
-      by-verdict : IsRefusedTable file status text ⊎ IsSpentWork BRAIN_WORK file status text → ⊥
+      by-verdict : IsRefusedTable file status text ⊎ IsSpentWork work file status text → ⊥
       by-verdict (inl refused) = refused.refused fit.accepted
       by-verdict (inr spent) = let more = spent.more in let few = fit.within in omega (arith, more, few)
 
@@ -76,7 +84,8 @@ pub held-not_told : (file : HeldFile) (bytes : List ℕ) → IsHeldText file byt
     → FileSays bytes status text
     → ⊥
 held-not_told file bytes (inl table) status text (inl says) = table-no-book table.file bytes table.at.text says.0
-held-not_told file bytes (inl table) status text (inr says) = table-not_told table.file bytes table.at table.fit status text says.1
+held-not_told file bytes (inl table) status text (inr says) =
+    table-not_told BRAIN_WORK table.file bytes table.at table.fit status text says.1
 held-not_told file bytes (inr book) status text (inl says) = book-not_told book.book bytes book.at book.fit status text says.1
 held-not_told file bytes (inr book) status text (inr says) = says.0 (book-begins book.book bytes book.at.text)
 
@@ -162,10 +171,11 @@ IsOther n = (n ≡ 0 → ⊥) × (n ≡ 7 → ⊥)
 other-by : (status told : Status) → status ≡ told → IsOther (status_number told) → IsOther (status_number status)
 other-by status told is other = subst (λ (s : Status). IsOther (status_number s)) (sym is) other
 
-pub table_told-other : (bytes : List ℕ) (status : Status) (text : List ℕ) → TableFileSays bytes status text → IsOther (status_number status)
-table_told-other bytes status text (inl refused) = other-by status RefusedText refused.ends (λ e. absurd (cc), λ e. absurd (cc))
-table_told-other bytes status text (inr said) = by-verdict said.0 said.2 where
-  by-verdict : (file : TableFile) → IsRefusedTable file status text ⊎ IsSpentWork BRAIN_WORK file status text
+pub table_told-other : (work : ℕ) (bytes : List ℕ) (status : Status) (text : List ℕ) → TableFileSays work bytes status text
+    → IsOther (status_number status)
+table_told-other work bytes status text (inl refused) = other-by status RefusedText refused.ends (λ e. absurd (cc), λ e. absurd (cc))
+table_told-other work bytes status text (inr said) = by-verdict said.0 said.2 where
+  by-verdict : (file : TableFile) → IsRefusedTable file status text ⊎ IsSpentWork work file status text
       → IsOther (status_number status)
   by-verdict file (inl refused) = other-by status RefusedTable refused.ends (λ e. absurd (cc), λ e. absurd (cc))
   by-verdict file (inr spent) = other-by status Spent spent.ends (λ e. absurd (cc), λ e. absurd (cc))
@@ -180,7 +190,7 @@ book_told-other bytes status text (inr said) = by-error said.2.error said.2.caus
 
 pub file-other : (bytes : List ℕ) (status : Status) (text : List ℕ) → FileSays bytes status text → IsOther (status_number status)
 file-other bytes status text (inl says) = book_told-other bytes status text says.1
-file-other bytes status text (inr says) = table_told-other bytes status text says.1
+file-other bytes status text (inr says) = table_told-other BRAIN_WORK bytes status text says.1
 
 pub unheld-other : (Told : List ℕ → Status → List ℕ → Type 0)
     → ((bytes : List ℕ) (status : Status) (text : List ℕ) → Told bytes status text → IsOther (status_number status))

@@ -3,3 +3,4 @@ mod Common
 pub mod TableFileLaws
 pub mod BookFileLaws
 pub mod HeldFileLaws
+pub mod ManyFileLaws

@@ -65,17 +65,17 @@ pub record IsLoaded (shelf : Change (Option Files)) (name bytes : List ℕ) : Ty
   pub found : IfSome shelf.before (λ files. file_under name files ≡ Some bytes)
   pub sound : HasNoFault shelf
 
--- the root of the text is accepted with at most BRAIN_WORK arrivals
-pub record IsFit (file : TableFile) : Type 0 where
+-- the root of the text is accepted with at most so many arrivals
+pub record IsFit (work : ℕ) (file : TableFile) : Type 0 where
   pub accepted : AcceptedRoot file.kind file.table file.root file.board
-  pub within : root_arrivals file.kind file.table file.root file.board ≤ BRAIN_WORK
+  pub within : root_arrivals file.kind file.table file.root file.board ≤ work
 
--- What is said of the bytes of a FILE that is to be a table and is not held: why the text is refused, or else why the table is, or that
--- it has more arrivals than BRAIN_WORK.
-abbrev pub TableFileSays : List ℕ → Status → List ℕ → Type 0
-TableFileSays bytes status text =
+-- What is said of the bytes of a FILE that is to be a table and is not accepted: why the text is refused, or else why the table is, or
+-- that it has more arrivals than are allowed.
+abbrev pub TableFileSays : ℕ → List ℕ → Status → List ℕ → Type 0
+TableFileSays work bytes status text =
     IsRefusedText (IsTableFault bytes) status text
-    ⊎ ((file : TableFile) × IsTableAt file bytes × (IsRefusedTable file status text ⊎ IsSpentWork BRAIN_WORK file status text))
+    ⊎ ((file : TableFile) × IsTableAt file bytes × (IsRefusedTable file status text ⊎ IsSpentWork work file status text))
 
 -- what is said of those of a book that is not held: why the text is refused, or else which entry is not accepted
 abbrev pub BookFileSays : List ℕ → Status → List ℕ → Type 0
@@ -85,13 +85,14 @@ BookFileSays bytes status text = IsRefusedBook bytes status text ⊎
 -- What is said of the bytes of a FILE that a brain does not hold: where their first line is that of a book what is said of a book, and
 -- else what is said of a table.
 abbrev pub FileSays : List ℕ → Status → List ℕ → Type 0
-FileSays bytes status text = (BeginsBook bytes × BookFileSays bytes status text) ⊎ ((¬ BeginsBook bytes) × TableFileSays bytes status text)
+FileSays bytes status text =
+    (BeginsBook bytes × BookFileSays bytes status text) ⊎ ((¬ BeginsBook bytes) × TableFileSays BRAIN_WORK bytes status text)
 
 -- the bytes are the text of a table that is accepted, and this is what it gives
 pub record IsOfTable (held : HeldFile) (bytes : List ℕ) : Type 0 where
   pub file : TableFile
   pub at : IsTableAt file bytes
-  pub fit : IsFit file
+  pub fit : IsFit BRAIN_WORK file
   pub gives : held ≡ of_table file
 
 -- the bytes are the text of a book of which each entry is accepted, and this is what it gives
@@ -140,13 +141,14 @@ pub record TellsFile (Says : List ℕ → Status → List ℕ → Type 0) (name 
   pub input : IsUnasked run.input
   pub delivered : IsDelivered status text run.output run.status
 
--- among these files the one with this name is not too long, and is the text of a table that is accepted
-pub record IsFitFile (name : List ℕ) (files : Files) (file : TableFile) : Type 0 where
+-- The file under the name is not too long, and is the text of a table that is accepted with at most so many arrivals. Where the shelf
+-- tells its files, it is one of them.
+pub record IsTableFile (work : ℕ) (shelf : Option Files) (name : List ℕ) (file : TableFile) : Type 0 where
   pub bytes : List ℕ
-  pub found : file_under name files ≡ Some bytes
+  pub found : IfSome shelf (λ files. file_under name files ≡ Some bytes)
   pub fits : length bytes ≤ MAX_INPUT_BYTES
   pub at : IsTableAt file bytes
-  pub fit : IsFit file
+  pub fit : IsFit work file
 
 -- among these files the one with this name is not too long, and gives this to be held
 pub record GivesHeld (name : List ℕ) (files : Files) (file : HeldFile) : Type 0 where

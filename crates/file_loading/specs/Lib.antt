@@ -2,4 +2,5 @@
 pub mod TableFiles
 pub mod BookFiles
 pub mod HeldFiles
+pub mod ManyFiles
 pub mod Loading

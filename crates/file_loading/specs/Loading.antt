@@ -16,19 +16,17 @@ use Rattle.file_loading.specs.TableFiles.{IsTableAt, IsRefusedTable, IsSpentWork
 use Rattle.file_loading.specs.BookFiles.{AreAccepted, IsBookAt, IsRefusedEntry}
 use Rattle.file_loading.specs.HeldFiles.{BookFileSays, FileSays, HeldFile, IsFit, IsHeldText, IsLoaded, IsUnheld, TableFileSays, held_by}
 use Rattle.file_loading.specs.HeldFiles.{of_book, of_table}
-use Rattle.file_loading.specs.declared.loading.Fitted.{Fitted}
-use Rattle.file_loading.specs.declared.loading.Fitted.TheVariants.{Fits, Tells as TellsFitted}
 
 -- what comes of the table of a text: it is held, or what is told of it says why not
 abbrev pub IsLoadedFile : TableFile → Loaded → Type 0
-IsLoadedFile file (Holds held) = IsFit file × (held ≡ held_by (of_table file))
+IsLoadedFile file (Holds held) = IsFit BRAIN_WORK file × (held ≡ held_by (of_table file))
 IsLoadedFile file (Tells answer) =
     IsRefusedTable file answer.status answer.text ⊎ IsSpentWork BRAIN_WORK file answer.status answer.text
 
 -- what comes of the bytes of a FILE that is to be a table: the table of the text is held, or what is told of them says why not
 abbrev pub IsLoadedText : List ℕ → Loaded → Type 0
-IsLoadedText bytes (Holds held) = (file : TableFile) × IsTableAt file bytes × IsFit file × (held ≡ held_by (of_table file))
-IsLoadedText bytes (Tells answer) = TableFileSays bytes answer.status answer.text
+IsLoadedText bytes (Holds held) = (file : TableFile) × IsTableAt file bytes × IsFit BRAIN_WORK file × (held ≡ held_by (of_table file))
+IsLoadedText bytes (Tells answer) = TableFileSays BRAIN_WORK bytes answer.status answer.text
 
 -- what comes of a book: it is held with all its entries, or what is told of it says why not
 abbrev pub IsLoadedBook : Book → Loaded → Type 0
@@ -52,7 +50,7 @@ IsLoadedAs TableOrBook = IsLoadedHeld
 
 -- what is said of the bytes of one that is not held
 abbrev pub SaysUnheld : Holdable → List ℕ → Status → List ℕ → Type 0
-SaysUnheld Table = TableFileSays
+SaysUnheld Table = TableFileSays BRAIN_WORK
 SaysUnheld TableOrBook = FileSays
 
 -- the shelf gave the bytes of FILE, which are not too many, and what they give is held
@@ -66,14 +64,3 @@ pub record HoldsFile (holdable : Holdable) (shelf : Change (Option Files)) (name
 abbrev pub IsLoadedFrom : Holdable → Change (Option Files) → List ℕ → Loaded → Type 0
 IsLoadedFrom holdable shelf name (Holds held) = HoldsFile holdable shelf name held
 IsLoadedFrom holdable shelf name (Tells answer) = IsUnheld (SaysUnheld holdable) shelf name answer.status answer.text
-
--- what comes of the table of a text: it is accepted, or what is told of it says why not
-abbrev pub IsFittedFile : TableFile → Fitted → Type 0
-IsFittedFile file (Fits found) = IsFit file × (found ≡ file)
-IsFittedFile file (TellsFitted answer) = IsRefusedTable file answer.status answer.text ⊎ IsSpentWork BRAIN_WORK file answer.status
-    answer.text
-
--- what comes of the bytes of a FILE: they are the text of a table that is accepted, or what is told of them says why not
-abbrev pub IsFittedText : List ℕ → Fitted → Type 0
-IsFittedText bytes (Fits file) = IsTableAt file bytes × IsFit file
-IsFittedText bytes (TellsFitted answer) = TableFileSays bytes answer.status answer.text

@@ -1,17 +1,17 @@
 //! A FILE of a command: its text is read, and its table is held once it is accepted.
 //!
 //! `brain FILE` plays by what is held, which may be that of a book with all its entries, and `referee FILE` compares games with a
-//! table. Each refusal of FILE comes before the input is asked. `bind` takes tables that are accepted, and holds none.
+//! table. Each refusal of FILE comes before the input is asked.
 #![tactic(auto)]
 
 ghost use Rattle.std.specs.Prelude.{◌≡◌, true, length, IfOk, OnErr};
 ghost use Rattle.game_rules.specs.Play.{IsPosition};
-ghost use Rattle.strategy_graph.specs.Roots.{root_below, root_depth};
+ghost use Rattle.strategy_graph.specs.Roots.{root_below};
 ghost use Rattle.table_book.specs.Books.{IsWellFormed};
 ghost use Rattle.renju_io.specs.Faults.{HasNotFallen, HasStayed};
 ghost use Rattle.command_base.specs.Runs.{IsAskedOnly, change};
 ghost use Rattle.file_loading.specs.Loading.{IsLoadedAs, IsLoadedBook, IsLoadedBookText, IsLoadedFile, IsLoadedFrom, IsLoadedHeld};
-ghost use Rattle.file_loading.specs.Loading.{IsLoadedText, IsFittedFile, IsFittedText};
+ghost use Rattle.file_loading.specs.Loading.{IsLoadedText};
 
 use crate::refusals::{refused_book, refused_entry, refused_root};
 use brain_session::BRAIN_WORK;
@@ -19,7 +19,7 @@ use command_base::{Answer, SHELF_FAILED, Status, TOO_LONG, refused_text};
 use position_files::{TableFile, read_table};
 use renju_io::{LoadError, Shelf};
 use std::alloc::{AllocError, Global};
-use strategy_checker::{Held, check_root};
+use strategy_checker::Held;
 use table_book::{Book, hold_book, is_book, read_book};
 
 /// What comes of the text of a FILE: its table is held, or it is told why not.
@@ -27,15 +27,6 @@ use table_book::{Book, hold_book, is_book, read_book};
 pub enum Loaded {
     /// Its table, or that of a book with the roots of all entries.
     Holds(Held),
-    /// What is told in place of it.
-    Tells(Answer),
-}
-
-/// What comes of the text of a FILE that is not to be held: its table is accepted, or it is told why not.
-#[derive(Drop)]
-pub enum Fitted {
-    /// What was read.
-    Fits(TableFile),
     /// What is told in place of it.
     Tells(Answer),
 }
@@ -144,39 +135,6 @@ fn hold(alloc: Global, file: TableFile) -> Result<Loaded, AllocError>
         Err(error) => {
             let told = refused_root(alloc, error)?;
             Ok(Loaded::Tells(told))
-        }
-    }
-}
-
-/// The table of a text, if its root is accepted there.
-pub fn fit(alloc: Global, bytes: &[u8]) -> Result<Fitted, AllocError>
-    ensures fitted { IfOk result (IsFittedText bytes.now) }
-{
-    match read_table(alloc, bytes) {
-        Ok(file) => fit_file(alloc, file),
-        Err(error) => Ok(Fitted::Tells(refused_text(alloc, error)?)),
-    }
-}
-
-/// The table of a text that was read, if its root is accepted there.
-fn fit_file(alloc: Global, file: TableFile) -> Result<Fitted, AllocError>
-    requires lawful { IsPosition file.kind file.board }
-    requires root { root_below file.root (length file.table) ≡ true }
-    requires moves { file.moves ≡ root_depth file.table file.root }
-    ensures fitted { IfOk result (IsFittedFile file) }
-{
-    match check_root(
-        alloc,
-        file.kind,
-        &file.board,
-        &file.table,
-        &file.root,
-        BRAIN_WORK,
-    ) {
-        Ok(_) => Ok(Fitted::Fits(file)),
-        Err(error) => {
-            let told = refused_root(alloc, error)?;
-            Ok(Fitted::Tells(told))
         }
     }
 }

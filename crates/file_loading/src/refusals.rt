@@ -1,12 +1,14 @@
 //! What is told of a table or a book that is refused, or that is not accepted.
 //!
-//! A command that checks one and a command that is to hold one tell the same. A fault of an entry is told after its number.
+//! A command that checks one and a command that is to hold one tell the same. A fault of an entry is told after its number, and what
+//! is told of one of several files after the number of the file.
 #![tactic(auto)]
 
 ghost use Rattle.std.specs.Prelude.{◌≡◌, codes, IfOk, string_bytes, ◌≢◌, ◌++◌};
 ghost use Rattle.file_loading.specs.TableFiles.{IsToldOf, why_word as why_word_lem, refused_table_line};
 ghost use Rattle.std.specs.Fmt.{decimal};
 ghost use Rattle.file_loading.specs.BookFiles.{book_refusal_line, entry_line, hold_refusal_line, hold_refusal_status};
+ghost use Rattle.file_loading.specs.ManyFiles.{of_file as of_file_lem};
 
 use command_base::{Answer, Status, refused_text, spent};
 use position_files::FileError;
@@ -116,4 +118,19 @@ fn front(alloc: Global, number: u32) -> Result<String, AllocError>
     ensures front { IfOk result (λ text. string_bytes text ≡ codes "entry " ++ decimal number ++ codes " ") }
 {
     format!(in alloc; "entry {number} ")
+}
+
+/// The answer with this status that tells this text of file `number`.
+pub(crate) fn of_file(
+    alloc: Global,
+    number: u32,
+    status: Status,
+    text: &[u8],
+) -> Result<Answer, AllocError>
+    ensures status { IfOk result (λ answer. answer.status ≡ status) }
+    ensures text { IfOk result (λ answer. answer.text ≡ of_file_lem number text.now) }
+{
+    let mut line = format!(in alloc; "file {number} ")?.into_bytes();
+    line.extend_from_slice(text)?;
+    Ok(Answer::written(status, line))
 }

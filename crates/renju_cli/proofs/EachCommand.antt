@@ -24,7 +24,7 @@ use Rattle.board_symmetry.specs.declared.symmetry.Symmetry.TheVariants.{AntiDiag
 use Rattle.renju_cli.specs.declared.commands.Form.{Form}
 use Rattle.renju_cli.specs.declared.commands.Form.TheVariants.{Check, Foul, Fours, Threats, Solve, Brain, BrainWith, Drill, Referee}
 use Rattle.renju_cli.specs.declared.commands.Form.TheVariants.{RefereeWith, Image, Defend, Bind, Book, Quiet, Cover}
-use Rattle.table_commands.specs.declared.TheConstants.{MAX_WORK}
+use Rattle.file_loading.specs.declared.TheConstants.{MAX_WORK}
 use Rattle.command_base.specs.Runs.{Run}
 use Rattle.renju_cli.proofs.Common.{command, second_word, words_after, words_after_third}
 use Rattle.table_commands.specs.Checks.{check_command}

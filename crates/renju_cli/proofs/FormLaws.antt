@@ -2,7 +2,7 @@
 use Rattle.std.proofs.Common.{◌≡◌, sym, ap, subst, ◌∙◌, ℕ, ◌≤◌, List, [], ◌∷◌, get_or}
 use Rattle.std.specs.Fmt.{decimal}
 use Rattle.renju_cli.specs.declared.commands.Form.{Form}
-use Rattle.table_commands.specs.declared.TheConstants.{MAX_WORK}
+use Rattle.file_loading.specs.declared.TheConstants.{MAX_WORK}
 use Rattle.command_base.specs.Forms.{HasWords}
 use Rattle.renju_cli.specs.Commands.{command, IsForm, HasForm}
 use Rattle.renju_cli.proofs.EachCommand.{form_told, form-spelled}

@@ -11,8 +11,9 @@ use crate::numbers::{count, two_counts};
 use brain_commands::MAX_DRILL;
 use command_base::MAX_SEARCHED;
 use cover_command::{are_part_names, attack_of_word};
+use file_loading::MAX_WORK;
 use four_search::MAX_DEPTH;
-use table_commands::{MAX_WORK, are_names, symmetry_of_word};
+use table_commands::{are_names, symmetry_of_word};
 use text_lines::number;
 use threat_space::MAX_LENGTH;
 

@@ -6,7 +6,7 @@
 ghost use Rattle.std.specs.Prelude.{◌≡◌, ◌≤◌, ℕ, map, MatchOption, string_bytes};
 ghost use Rattle.std.specs.Fmt.{decimal};
 ghost use Rattle.text_lines.specs.Reading.{Reads};
-ghost use Rattle.table_commands.specs.declared.TheConstants.{MAX_WORK};
+ghost use Rattle.file_loading.specs.declared.TheConstants.{MAX_WORK};
 ghost use Rattle.renju_cli.specs.Words.{AreTwoCounts};
 
 use text_lines::large_number;

@@ -1,12 +1,14 @@
 -- The command `referee`: its words, its answers, and what its runs show.
 use Rattle.std.proofs.Common.{rules, ◌≡◌, inl, inr, sym, ap, subst, ◌∙◌, ◌⊎◌, ℕ, List, Some, IfSome}
 use Rattle.strategy_graph.proofs.Common.{AcceptedRoot}
+use Rattle.brain_session.specs.declared.TheConstants.{BRAIN_WORK}
 use Rattle.game_referee.specs.declared.ReplayAnswer.TheVariants.{Follows}
 use Rattle.game_referee.specs.Followers.{GoesByRoot, IsPlayed, NeverLoses, side_of}
 use Rattle.game_referee.specs.Replays.{replay}
 use Rattle.game_referee.proofs.Following.{follower-never-loses, games-go-by-root}
 use Rattle.position_files.specs.declared.GameFile.{GameFile}
-use Rattle.table_commands.proofs.Common.{TableFile, Files, Takes, Status, Done, status_number, Run, IsTold, IsFit, TableFileSays}
+use Rattle.table_commands.proofs.Common.{TableFile, Files, Takes, Status, Done, status_number, Run, IsTold, IsFit, IsTableFile}
+use Rattle.table_commands.proofs.Common.{TableFileSays}
 use Rattle.table_commands.proofs.Common.{ComparesSays, HasGameFault, HeldSays, IsGameAt, IsRefereeWith, RefereeSays, RefereesByFile}
 use Rattle.table_commands.proofs.Common.{IsJudgedInput, ShowsGame, TellsTable, compares_command, of_game, referee_command, replay_line}
 use Rattle.table_commands.proofs.Common.{verdict_on}
@@ -17,7 +19,7 @@ use Rattle.file_loading.specs.Loading.{HoldsFile}
 use Rattle.file_loading.specs.declared.loading.Holdable.TheVariants.{Table}
 use Rattle.command_base.specs.Told.{AnswersTold, EndsTold, IsYielded}
 use Rattle.command_base.specs.Refusals.{IsRefusedText}
-use Rattle.file_loading.specs.HeldFiles.{IsFitFile, IsUnhinderedShelf, TellsFile}
+use Rattle.file_loading.specs.HeldFiles.{IsUnhinderedShelf, TellsFile}
 use Rattle.command_base.proofs.ToldLaws.{IsWhole, answers-by, by-end, ends-map, every-told, given-told, where-told, whole-or-yielded}
 use Rattle.file_loading.proofs.TableFileLaws.{one-table}
 use Rattle.file_loading.proofs.HeldFileLaws.{found-under, not-told, same-bytes, table-not_told, delivered-other, not-other}
@@ -64,30 +66,32 @@ compares-answers name file bytes can status text (inl refused) = absurd (game-ta
 compares-answers name file bytes can status text (inr said) = said.2.ends
 
 -- the table by which a run judges is that of the file that fits
-by-file : (name : List ℕ) (run : Run) (files : Files) → run.shelf.before ≡ Some files → (file : TableFile) → IsFitFile name files file
+by-file : (name : List ℕ) (run : Run) (files : Files) → run.shelf.before ≡ Some files → (file : TableFile)
+    → IsTableFile BRAIN_WORK (Some files) name file
     → (by : RefereesByFile name run) → EndsTold (ComparesSays file) run.input run.output run.status
 by-file name run files told file fit by =
     let at = rw (same-bytes name run files told fit.bytes fit.found by.bytes by.loaded) at by.at in
     rw (one-table file by.file fit.bytes fit.at at) at by.ends
 
 answers-end : (name : List ℕ) (run : Run)
-    → RefereesByFile name run ⊎ TellsFile TableFileSays name run ⊎ IsUnbegun run.input run.output run.status
-    → (file : TableFile) → IsUnhinderedShelf (λ files. IsFitFile name files file) run → AnswersTold (compares_command name file) run
+    → RefereesByFile name run ⊎ TellsFile (TableFileSays BRAIN_WORK) name run ⊎ IsUnbegun run.input run.output run.status
+    → (file : TableFile) → IsUnhinderedShelf (λ files. IsTableFile BRAIN_WORK (Some files) name file) run
+    → AnswersTold (compares_command name file) run
 answers-end name run (inl by) file free bytes un =
     answers-by (compares_command name file) (compares-answers name file) run bytes un
     (by-file name run free.files free.told file free.fit by)
 answers-end name run (inr (inl tells)) file free bytes un =
-    absurd (free.shelf_sound (not-told name run free.files free.told free.fit.bytes free.fit.found TableFileSays free.fit.fits
-    (table-not_told file free.fit.bytes free.fit.at free.fit.fit) tells.status tells.text tells.why))
+    absurd (free.shelf_sound (not-told name run free.files free.told free.fit.bytes free.fit.found (TableFileSays BRAIN_WORK) free.fit.fits
+    (table-not_told BRAIN_WORK file free.fit.bytes free.fit.at free.fit.fit) tells.status tells.text tells.why))
 answers-end name run (inr (inr unbegun)) file free bytes un = inr (record { ends = unbegun.ends; silent = unbegun.silent })
 
 pub referee-with-answers : (name : List ℕ) (run : Run) → IsRefereeWith name run → (file : TableFile)
-    → IsUnhinderedShelf (λ files. IsFitFile name files file) run → AnswersTold (compares_command name file) run
+    → IsUnhinderedShelf (λ files. IsTableFile BRAIN_WORK (Some files) name file) run → AnswersTold (compares_command name file) run
 referee-with-answers name run is = answers-end name run is.ends
 
 -- ---- what is shown
 
-module _ (file : TableFile) (game : GameFile) (fit : IsFit file) where
+module _ (file : TableFile) (game : GameFile) (fit : IsFit BRAIN_WORK file) where
   -- where the line says that the table is followed, its root is accepted, and the game follows it
   followed-by : (second : List ℕ) → TellsTable file game.kind game.board game.moves second → second ≡ replay_line Follows
       → AcceptedRoot game.kind file.table file.root game.board × (replay game.kind file.table file.root game.board game.moves ≡ Follows)
@@ -154,7 +158,7 @@ module _ (name : List ℕ) (run : Run) (done : run.status ≡ status_number Done
           kept = kept-by by.file said.0 by.fit said.2.second said.2.tells;
         }
 
-  shown-by : RefereesByFile name run ⊎ TellsFile TableFileSays name run ⊎ IsUnbegun run.input run.output run.status
+  shown-by : RefereesByFile name run ⊎ TellsFile (TableFileSays BRAIN_WORK) name run ⊎ IsUnbegun run.input run.output run.status
       → IfSome run.input.before (λ input. ShowsGame name files input run)
   shown-by (inl by) = by-ends (by-end (ComparesSays by.file) run by.ends) where
     by-ends : IsWhole (ComparesSays by.file) run ⊎ IsYielded run.status → IfSome run.input.before (λ input. ShowsGame name files input run)
@@ -163,7 +167,7 @@ module _ (name : List ℕ) (run : Run) (done : run.status ≡ status_number Done
   shown-by (inr (inl tells)) =
       absurd (not-other run.status (inl done)
       (delivered-other tells.status tells.text run.output run.status
-      (unheld-other TableFileSays table_told-other run.shelf name tells.status tells.text tells.why)
+      (unheld-other (TableFileSays BRAIN_WORK) (table_told-other BRAIN_WORK) run.shelf name tells.status tells.text tells.why)
       tells.delivered))
   shown-by (inr (inr unbegun)) = let e = sym done ∙ unbegun.ends in absurd (cc)
 

@@ -1,26 +1,23 @@
 -- The command `bind`: its words, what becomes of its files, and what its runs show.
-use Rattle.std.specs.Prelude.{◌≡◌, ◌⊎◌, ℕ, ◌+◌, ◌≤◌, List, [], ◌∷◌, ◌++◌, codes, length, Option, Some}
-use Rattle.std.specs.Prelude.{IfSome}
-use Rattle.std.specs.List.{AllByRecursion}
-use Rattle.std.specs.Fmt.{decimal}
+use Rattle.std.specs.Prelude.{◌≡◌, ◌⊎◌, ℕ, List, [], ◌∷◌, ◌++◌, codes, length, Option, Some, IfSome}
 use Rattle.strategy_graph.specs.declared.TheConstants.{MAX_NODES}
 use Rattle.strategy_compiler.specs.Unfolded.{HoldMore}
 use Rattle.strategy_compiler.specs.Walks.{AreDifferent}
 use Rattle.position_files.specs.declared.TableFile.{TableFile}
 use Rattle.renju_io.specs.Told.{Takes}
-use Rattle.renju_io.specs.Files.{Files, file_under}
-use Rattle.renju_io.specs.declared.TheConstants.{MAX_INPUT_BYTES}
+use Rattle.renju_io.specs.Files.{Files}
 use Rattle.table_book.specs.Books.{IsTextOfBook, IsWellFormed}
 use Rattle.table_book.specs.Binding.{AreEntriesOf, IsBound, tables_of}
 use Rattle.table_book.specs.declared.Book.{Book}
+use Rattle.brain_session.specs.declared.TheConstants.{BRAIN_WORK}
 use Rattle.table_commands.specs.declared.TheConstants.{MAX_FILES}
 use Rattle.command_base.specs.declared.status.Status.{Status}
 use Rattle.command_base.specs.declared.status.Status.TheVariants.{Done, Full}
 use Rattle.command_base.specs.Statuses.{status_number}
 use Rattle.command_base.specs.Runs.{Change, Run, HasFailed, IsDelivered, IsOutOfMemory, HasNoFault, IsAskedNoMore, IsUnasked}
 use Rattle.command_base.specs.Forms.{Command}
-use Rattle.file_loading.specs.TableFiles.{IsTableAt}
-use Rattle.file_loading.specs.HeldFiles.{IsFileName, IsFit, IsUnheld, TableFileSays}
+use Rattle.file_loading.specs.HeldFiles.{IsTableFile}
+use Rattle.file_loading.specs.ManyFiles.{AreFileNames, AreTableFiles, IsFileRefused, StopsAt}
 use Rattle.command_base.specs.Texts.{full_line}
 
 -- the words `bind FILE ..`
@@ -28,30 +25,8 @@ abbrev pub bind_words : List (List ℕ) → List (List ℕ)
 bind_words names = codes "bind" ∷ names
 
 -- there are 1 to MAX_FILES names, and none is empty
-pub record AreNames (names : List (List ℕ)) : Type 0 where
-  pub some : 1 ≤ length names
-  pub few : length names ≤ MAX_FILES
-  pub each : AllByRecursion IsFileName names
-
--- a text that is told of file n
-abbrev pub of_file : ℕ → List ℕ → List ℕ
-of_file n text = codes "file " ++ decimal n ++ (codes " " ++ text)
-
--- The file under the name is not too long, and is the text of a table that is accepted with at most BRAIN_WORK arrivals. Where the
--- shelf tells its files, it is one of them.
-pub record IsBindable (shelf : Option Files) (name : List ℕ) (file : TableFile) : Type 0 where
-  pub bytes : List ℕ
-  pub found : IfSome shelf (λ files. file_under name files ≡ Some bytes)
-  pub fits : length bytes ≤ MAX_INPUT_BYTES
-  pub at : IsTableAt file bytes
-  pub fit : IsFit file
-
--- these are the tables under the names, in their order
-abbrev pub AreBindable : Option Files → List (List ℕ) → List TableFile → Type 0
-AreBindable shelf [] [] = Unit {0}
-AreBindable shelf [] (file ∷ files) = ⊥
-AreBindable shelf (name ∷ names) [] = ⊥
-AreBindable shelf (name ∷ names) (file ∷ files) = IsBindable shelf name file × AreBindable shelf names files
+abbrev pub AreNames : List (List ℕ) → Type 0
+AreNames = AreFileNames MAX_FILES
 
 -- the files together hold no more different nodes than a book may have
 abbrev pub AreFew : List TableFile → Type 0
@@ -60,7 +35,7 @@ AreFew files = HoldMore (tables_of files) MAX_NODES → ⊥
 -- all files are bound, and the text is that of the book
 pub record IsBookTold (names : List (List ℕ)) (shelf : Change (Option Files)) (status : Status) (text : List ℕ) : Type 0 where
   pub files : List TableFile
-  pub bindable : AreBindable shelf.before names files
+  pub accepted : AreTableFiles BRAIN_WORK shelf.before names files
   pub few : AreFew files
   pub sound : HasNoFault shelf
   pub book : Book
@@ -69,28 +44,18 @@ pub record IsBookTold (names : List (List ℕ)) (shelf : Change (Option Files)) 
   pub ends : status ≡ Done
   pub told : IsTextOfBook book text
 
--- the files before the one with this name can be bound, and together hold no more different nodes than a book may have
-pub record StopsAt (names : List (List ℕ)) (shelf : Change (Option Files)) : Type 0 where
-  pub before : List (List ℕ)
-  pub name : List ℕ
-  pub later : List (List ℕ)
-  pub names_are : names ≡ before ++ name ∷ later
-  pub files : List TableFile
-  pub bindable : AreBindable shelf.before before files
-  pub few : AreFew files
+-- a file cannot be bound: what is told of it by `brain FILE` is told after its number; the files before it can, and together hold no
+-- more different nodes than a book may have
+pub record IsUnbound (names : List (List ℕ)) (shelf : Change (Option Files)) (status : Status) (text : List ℕ) : Type 0 where
+  pub refused : IsFileRefused BRAIN_WORK names shelf status text
+  pub few : AreFew refused.stop.files
 
--- a file cannot be bound: what is told of it by `brain FILE` is told after its number
-pub record IsFileRefused (names : List (List ℕ)) (shelf : Change (Option Files)) (status : Status) (text : List ℕ) : Type 0 where
-  pub stop : StopsAt names shelf
-  pub line : List ℕ
-  pub why : IsUnheld TableFileSays shelf stop.name status line
-  pub told : text ≡ of_file (length stop.before + 1) line
-
--- a file can be bound, but the files up to it hold more different nodes than a book may have
+-- a file can be bound, and so can those before it, but the files up to it hold more different nodes than a book may have
 pub record IsBookFull (names : List (List ℕ)) (shelf : Change (Option Files)) (status : Status) (text : List ℕ) : Type 0 where
-  pub stop : StopsAt names shelf
+  pub stop : StopsAt BRAIN_WORK names shelf.before
+  pub few : AreFew stop.files
   pub file : TableFile
-  pub last : IsBindable shelf.before stop.name file
+  pub last : IsTableFile BRAIN_WORK shelf.before stop.name file
   pub sound : HasNoFault shelf
   pub full : HoldMore (tables_of (stop.files ++ file ∷ [])) MAX_NODES
   pub ends : status ≡ Full
@@ -99,8 +64,8 @@ pub record IsBookFull (names : List (List ℕ)) (shelf : Change (Option Files)) 
 -- What `bind` says of the files under these names: their book, why the earliest one that cannot be bound is not, or that they hold
 -- too many nodes.
 abbrev pub BindSays : List (List ℕ) → Change (Option Files) → Status → List ℕ → Type 0
-BindSays names shelf status text = IsBookTold names shelf status text ⊎ IsFileRefused names shelf status text ⊎ IsBookFull names shelf
-    status text
+BindSays names shelf status text = IsBookTold names shelf status text ⊎ IsUnbound names shelf status text ⊎ IsBookFull names shelf status
+    text
 
 -- what is said of the files is delivered
 pub record TellsBook (names : List (List ℕ)) (run : Run) : Type 0 where
@@ -121,7 +86,7 @@ pub record IsBind (names : List (List ℕ)) (run : Run) : Type 0 where
 pub record IsUnhinderedBind (names : List (List ℕ)) (run : Run) (files : List TableFile) : Type 0 where
   pub shelf : Files
   pub told : run.shelf.before ≡ Some shelf
-  pub bindable : AreBindable (Some shelf) names files
+  pub accepted : AreTableFiles BRAIN_WORK (Some shelf) names files
   pub few : AreFew files
   pub shelf_sound : HasFailed run.shelf → ⊥
   pub output_sound : HasFailed run.output → ⊥
@@ -150,7 +115,7 @@ bind_command names = record {
 -- the book what the file's root says with its table.
 pub record ShowsBound (names : List (List ℕ)) (shelf : Files) (run : Run) : Type 0 where
   pub files : List TableFile
-  pub bindable : AreBindable (Some shelf) names files
+  pub accepted : AreTableFiles BRAIN_WORK (Some shelf) names files
   pub book : Book
   pub different : AreDifferent book.table
   pub entries : AreEntriesOf files book.table book.entries

@@ -15,7 +15,7 @@ use Rattle.command_base.specs.declared.status.Status.{Status}
 use Rattle.command_base.specs.declared.status.Status.TheVariants.{Done, RefusedTable}
 use Rattle.command_base.specs.Runs.{Change, Run}
 use Rattle.command_base.specs.Told.{ToldCommand}
-use Rattle.table_commands.specs.declared.TheConstants.{MAX_WORK}
+use Rattle.file_loading.specs.declared.TheConstants.{MAX_WORK}
 use Rattle.file_loading.specs.BookFiles.{IsRefusedBook, IsBookAt, AreAccepted, IsRefusedEntry}
 
 -- a book of which each entry is accepted: their number, and all arrivals

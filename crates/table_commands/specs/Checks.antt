@@ -10,7 +10,7 @@ use Rattle.position_files.specs.Faults.{IsTableFault}
 use Rattle.renju_io.specs.Told.{Takes}
 use Rattle.command_base.specs.declared.status.Status.{Status}
 use Rattle.command_base.specs.declared.status.Status.TheVariants.{Done, RefusedTable}
-use Rattle.table_commands.specs.declared.TheConstants.{MAX_WORK}
+use Rattle.file_loading.specs.declared.TheConstants.{MAX_WORK}
 use Rattle.command_base.specs.Runs.{Change, Run}
 use Rattle.command_base.specs.Told.{ToldCommand}
 use Rattle.command_base.specs.Refusals.{IsRefusedText}

@@ -1,5 +1,5 @@
 -- The command `referee`: its words, what it says of a game, how it goes with a FILE, and what its runs show.
-use Rattle.std.specs.Prelude.{◌≡◌, ◌⊎◌, ℕ, ◌≤◌, List, [], ◌∷◌, ◌++◌, codes, length, Option, IfSome}
+use Rattle.std.specs.Prelude.{◌≡◌, ◌⊎◌, ℕ, ◌≤◌, List, [], ◌∷◌, ◌++◌, codes, length, Option, Some, IfSome}
 use Rattle.std.specs.Fmt.{decimal}
 use Rattle.game_rules.specs.Grid.{Grid}
 use Rattle.game_rules.specs.Play.{IsPosition}
@@ -25,6 +25,7 @@ use Rattle.position_files.specs.Faults.{IsGameFault}
 use Rattle.renju_io.specs.Told.{Takes}
 use Rattle.renju_io.specs.Files.{Files}
 use Rattle.renju_io.specs.declared.TheConstants.{MAX_INPUT_BYTES}
+use Rattle.brain_session.specs.declared.TheConstants.{BRAIN_WORK}
 use Rattle.command_base.specs.declared.status.Status.{Status}
 use Rattle.command_base.specs.declared.status.Status.TheVariants.{Done}
 use Rattle.command_base.specs.Statuses.{status_number}
@@ -33,7 +34,7 @@ use Rattle.command_base.specs.Forms.{Command}
 use Rattle.command_base.specs.Told.{AnswersTold, EndsTold, IsYielded, ToldCommand}
 use Rattle.command_base.specs.Refusals.{IsRefusedText}
 use Rattle.file_loading.specs.TableFiles.{IsTableAt}
-use Rattle.file_loading.specs.HeldFiles.{IsFileName, IsFit, IsFitFile, IsLoaded, IsUnhinderedShelf, TableFileSays, TellsFile, held_by}
+use Rattle.file_loading.specs.HeldFiles.{IsFileName, IsFit, IsLoaded, IsTableFile, IsUnhinderedShelf, TableFileSays, TellsFile, held_by}
 use Rattle.file_loading.specs.HeldFiles.{of_table}
 
 -- the words `referee`
@@ -148,14 +149,14 @@ pub record RefereesByFile (name : List ℕ) (run : Run) : Type 0 where
   pub fits : length bytes ≤ MAX_INPUT_BYTES
   pub file : TableFile
   pub at : IsTableAt file bytes
-  pub fit : IsFit file
+  pub fit : IsFit BRAIN_WORK file
   pub ends : EndsTold (ComparesSays file) run.input run.output run.status
 
 -- What `referee FILE` does in a run: it asks the shelf once, and judges beside the table of the file, or tells why it does not and
 -- leaves the input unasked, or memory ran out before.
 pub record IsRefereeWith (name : List ℕ) (run : Run) : Type 0 where
   pub once : IsAskedOnly run.shelf
-  pub ends : RefereesByFile name run ⊎ TellsFile TableFileSays name run ⊎ IsUnbegun run.input run.output run.status
+  pub ends : RefereesByFile name run ⊎ TellsFile (TableFileSays BRAIN_WORK) name run ⊎ IsUnbegun run.input run.output run.status
 
 -- `referee FILE` as a command that is told its input, once FILE is accepted: it answers for each game from a lawful position
 abbrev pub compares_command : List ℕ → TableFile → ToldCommand
@@ -173,7 +174,7 @@ referee_with_command name = record {
   words = referee_with_words name;
   in_range = IsFileName name;
   Does = IsRefereeWith name;
-  Answers = λ run. (file : TableFile) → IsUnhinderedShelf (λ files. IsFitFile name files file) run
+  Answers = λ run. (file : TableFile) → IsUnhinderedShelf (λ files. IsTableFile BRAIN_WORK (Some files) name file) run
       → AnswersTold (compares_command name file) run;
 }
 
@@ -183,7 +184,7 @@ referee_with_command name = record {
 -- it is.
 pub record ShowsGame (name : List ℕ) (files : Files) (input : List ℕ) (run : Run) : Type 0 where
   pub file : TableFile
-  pub fit : IsFitFile name files file
+  pub fit : IsTableFile BRAIN_WORK (Some files) name file
   pub game : GameFile
   pub at : IsGameAt game input
   pub second : List ℕ

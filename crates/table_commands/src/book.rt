@@ -8,9 +8,8 @@ ghost use Rattle.std.specs.Prelude.{◌≡◌, ◌≤◌, IfOk, string_bytes};
 ghost use Rattle.table_book.specs.Books.{IsWellFormed};
 ghost use Rattle.table_commands.specs.Books.{EntriesSay, accepted_book_line};
 
-use crate::MAX_WORK;
 use command_base::{Answer, Status, Told};
-use file_loading::{refused_book, refused_entry};
+use file_loading::{MAX_WORK, refused_book, refused_entry};
 use std::alloc::{AllocError, Global};
 use table_book::{Book, MAX_BOOK_WORK, check_book, read_book};
 
@@ -23,7 +22,7 @@ pub struct CheckBook {
 
 impl Told for CheckBook {
     ghost use Rattle.std.specs.Prelude.{◌≤◌};
-    ghost use Rattle.table_commands.specs.declared.TheConstants.{MAX_WORK};
+    ghost use Rattle.file_loading.specs.declared.TheConstants.{MAX_WORK};
     ghost use Rattle.table_commands.specs.Books.{BookSays};
 
     ghost in_range = { λ c. (1 ≤ c.work) × (c.work ≤ MAX_WORK) };

@@ -8,9 +8,8 @@ ghost use Rattle.game_rules.specs.Play.{IsPosition};
 ghost use Rattle.strategy_graph.specs.Roots.{root_below, root_depth};
 ghost use Rattle.table_commands.specs.Checks.{CheckSays, TableSays, accepted_line};
 
-use crate::MAX_WORK;
 use command_base::{Answer, Status, Told, refused_text};
-use file_loading::refused_root;
+use file_loading::{MAX_WORK, refused_root};
 use position_files::{TableFile, read_table};
 use std::alloc::{AllocError, Global};
 use strategy_checker::check_root;
@@ -24,7 +23,7 @@ pub struct Check {
 
 impl Told for Check {
     ghost use Rattle.std.specs.Prelude.{◌≤◌};
-    ghost use Rattle.table_commands.specs.declared.TheConstants.{MAX_WORK};
+    ghost use Rattle.file_loading.specs.declared.TheConstants.{MAX_WORK};
     ghost use Rattle.table_commands.specs.Checks.{CheckSays};
 
     ghost in_range = { λ c. (1 ≤ c.work) × (c.work ≤ MAX_WORK) };

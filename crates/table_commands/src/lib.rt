@@ -15,8 +15,5 @@ pub use check::Check;
 pub use image::{Image, symmetry_of_word};
 pub use referee::{Referee, referee_with};
 
-/// The most arrivals that `check` may be allowed.
-pub const MAX_WORK: u64 = 1_000_000_000_000;
-
 /// The most files that `bind` binds into one book.
 pub const MAX_FILES: usize = 64;

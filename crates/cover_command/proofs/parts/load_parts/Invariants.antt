@@ -1,11 +1,14 @@
 use Rattle.std.proofs.Common.{◌≡◌, map, take, string_bytes}
 use Rattle.renju_io.specs.Asked.{IsAskedAtMost}
-use Rattle.cover_command.proofs.PartLaws.{KeptUpTo}
+use Rattle.file_loading.proofs.ManyFileLaws.{AcceptedUpTo}
+use Rattle.cover_command.specs.PartFiles.{parts_of}
 use Rattle.cover_command.proofs.parts.load_parts.Given as goal
 
 abbrev pub invariant-loop-before : goal.invariant-loop-before
 invariant-loop-before g l = record {
-  so_far : KeptUpTo l.work (g.F.Shelf.files l.initial.shelf) (map string_bytes (take l.before l.names)) l.parts.items;
+  so_far :
+      AcceptedUpTo l.work (g.F.Shelf.files l.initial.shelf) (map string_bytes (take l.before l.names))
+      (λ files. l.parts.items ≡ parts_of files);
   files : g.F.Shelf.files l.shelf ≡ g.F.Shelf.files l.initial.shelf;
   faults : g.F.Shelf.faults l.shelf ≡ g.F.Shelf.faults l.initial.shelf;
   each : IsAskedAtMost l.before (g.F.Shelf.asked l.initial.shelf) (g.F.Shelf.asked l.shelf);

@@ -1,9 +1,9 @@
-use Rattle.std.proofs.Common.{inl, inr, ap, Err}
+use Rattle.std.proofs.Common.{inr, ap, Err}
 use Rattle.std.proofs.lemmas.Result.{IfOk-weaker}
 use Rattle.command_base.specs.declared.answer.Answer.{Answer}
 use Rattle.command_base.specs.Runs.{change}
 use Rattle.file_loading.proofs.Common.{IsLoaded, IsLoadedAs, IsLoadedFrom}
-use Rattle.file_loading.proofs.HeldFileLaws.{loaded-from, long-file}
+use Rattle.file_loading.proofs.HeldFileLaws.{loaded-from, unheld-long}
 use Rattle.file_loading.proofs.loading.load_file.Goals as goal
 
 pub returns-in-Ok-clause-loaded : goal.returns-in-Ok-clause-loaded
@@ -27,15 +27,8 @@ returns-in-Err-Failed-clause-loaded g c = inr (inr (record {
 
 pub returns-in-Err-TooLong-clause-loaded : goal.returns-in-Err-TooLong-clause-loaded
 returns-in-Err-TooLong-clause-loaded g c =
-    let long = long-file c.args.file.now _ (c.in-Err-TooLong.ensures.too_long (ap Err c.in-Err-TooLong.field-0-is)) in
-    inr (inl (record {
-      bytes = long.0;
-      loaded = record {
-        found = long.1;
-        sound = c.in-Err-TooLong.ensures.not_failed
-            (let is = c.in-Err-TooLong.field-0-is in λ failed. absurd (cc));
-      };
-      long = long.2;
-      ends = ap (λ (a : Answer). a.status) c.fixed-in-Err-TooLong.ensures.answer;
-      line = ap (λ (a : Answer). a.text) c.fixed-in-Err-TooLong.ensures.answer;
-    }))
+    unheld-long _ (change g.F.Shelf.files g.F.Shelf.faults g.F.Shelf.asked c.args.shelf.now c.load.new.self) c.args.file.now _ _
+    (c.in-Err-TooLong.ensures.too_long (ap Err c.in-Err-TooLong.field-0-is))
+    (c.in-Err-TooLong.ensures.not_failed (let is = c.in-Err-TooLong.field-0-is in λ failed. absurd (cc)))
+    (ap (λ (a : Answer). a.status) c.fixed-in-Err-TooLong.ensures.answer)
+    (ap (λ (a : Answer). a.text) c.fixed-in-Err-TooLong.ensures.answer)

@@ -1,59 +1,69 @@
 -- File by file, up to the first that is not added.
-use Rattle.std.proofs.Common.{◌∙◌, ◌+◌, suc, refl, ap, sym, map, take, drop, ℕ, arith, string_bytes}
+use Rattle.std.proofs.Common.{◌∙◌, ◌+◌, refl, ap, map, arith, string_bytes, Err}
 use Rattle.std.proofs.lemmas.List.{length-map}
 use Rattle.renju_io.proofs.AskedCalls.{few_more, few_then}
 use Rattle.command_base.specs.Runs.{change}
-use Rattle.table_commands.proofs.BindLaws.{names-are, names-before, names-more, room-left, says-book, says-stop, some-left}
-use Rattle.table_commands.proofs.BindLaws.{told-from, up-to-all, up-to-more}
+use Rattle.file_loading.proofs.ManyFileLaws.{fits-from, refused-at, stop-at, tells-from, up-to-more}
+use Rattle.table_commands.proofs.BindLaws.{room-left, says-book, says-full, says-unbound, some-left, up-to-all}
 use Rattle.table_commands.proofs.bind.bind_files.Goals as goal
 
-pub add_file-requires : goal.add_file-requires
-add_file-requires g c = record {
-  room =
-      room-left string_bytes c.args.names.now c.loop-before.before (g.F.Shelf.files c.args.shelf.now) c.loop-before.binder
-      c.loop-before.invariant.so_far c.requires.names c.loop-before-test.true;
-}
+pub add-requires : goal.add-requires
+add-requires g c =
+    let fits = (rw c.in-Fits.is at c.in_ok-file.ensures.fitted).0 in
+    record {
+      can_be_bound = record { text = (fits.bytes, fits.at.text); lawful = fits.at.lawful; moves = fits.at.moves };
+      room = room-left string_bytes _ _ _ _ c.loop-before.invariant.so_far c.requires.names c.loop-before-test.true;
+    }
 
-pub returns-in-Some-clause-says : goal.returns-in-Some-clause-says
-returns-in-Some-clause-says g c =
-    let added = rw c.in-Some.is at c.in_ok-added.ensures.added in
-    says-stop (change g.F.Shelf.files g.F.Shelf.faults g.F.Shelf.asked c.args.shelf.now c.add_file.new.shelf)
-    (map string_bytes c.args.names.now)
-    (map string_bytes (take c.loop-before.before c.args.names.now)) (map string_bytes (drop (suc c.loop-before.before) c.args.names.now))
-    c.as_str.result.now c.loop-before.binder c.loop-before.invariant.so_far
-    (names-are string_bytes c.args.names.now c.loop-before.before c.index-names-before.result c.as_str.result.now c.loop-before-test.true
-    c.index-names-before.is c.as_str.ensures.value)
-    (c.loop-before.before + 1) c.add_file.new.binder c.in-Some.told
-    (ap (λ (k : ℕ). k + 1) (sym
-    (names-before string_bytes c.args.names.now c.loop-before.before c.index-names-before.result c.as_str.result.now c.loop-before-test.true
-    c.index-names-before.is c.as_str.ensures.value)))
-    (told-from (change g.F.Shelf.files g.F.Shelf.faults g.F.Shelf.asked c.loop-before.shelf c.add_file.new.shelf)
-    (change g.F.Shelf.files g.F.Shelf.faults g.F.Shelf.asked c.args.shelf.now c.add_file.new.shelf) c.loop-before.invariant.files
-    c.loop-before.invariant.faults refl (c.loop-before.before + 1) c.as_str.result.now c.loop-before.binder c.add_file.new.binder
-    c.in-Some.told added)
+pub returns-in-Tells-clause-says : goal.returns-in-Tells-clause-says
+returns-in-Tells-clause-says g c =
+    let from = change g.F.Shelf.files g.F.Shelf.faults g.F.Shelf.asked c.loop-before.shelf c.fit_file.new.shelf in
+    let shelf = change g.F.Shelf.files g.F.Shelf.faults g.F.Shelf.asked c.args.shelf.now c.fit_file.new.shelf in
+    says-unbound _ shelf _ _ _ (refused-at string_bytes _ _ _ _ c.loop-before-test.true c.index-names-before.is c.as_str.ensures.value _
+    shelf _ c.in-Tells.told c.loop-before.invariant.so_far
+    (tells-from from shelf c.loop-before.invariant.files c.loop-before.invariant.faults refl _ _ _ c.in-Tells.told
+    (rw c.in-Tells.is at c.in_ok-file.ensures.fitted)))
+
+pub returns-in-Err-Full-clause-says : goal.returns-in-Err-Full-clause-says
+returns-in-Err-Full-clause-says g c =
+    let from = change g.F.Shelf.files g.F.Shelf.faults g.F.Shelf.asked c.loop-before.shelf c.fit_file.new.shelf in
+    let shelf = change g.F.Shelf.files g.F.Shelf.faults g.F.Shelf.asked c.args.shelf.now c.fit_file.new.shelf in
+    let fits = fits-from from shelf c.loop-before.invariant.files c.loop-before.invariant.faults refl _ _ c.in-Fits.file
+    (rw c.in-Fits.is at c.in_ok-file.ensures.fitted) in
+    says-full _ shelf _ (stop-at string_bytes _ _ _ _ c.loop-before-test.true c.index-names-before.is c.as_str.ensures.value _ _ _
+    c.loop-before.invariant.so_far) _ _ _ c.loop-before.invariant.so_far.holds fits.0 fits.1
+    (c.in-Err-Full.ensures.full (ap Err c.in-Err-Full.field-0-is)) c.full.ensures.status
+    c.full.ensures.text
 
 pub loop-before-preserved : goal.loop-before-preserved
 loop-before-preserved g c =
-    let added = rw c.in-None.is at c.in_ok-added.ensures.added in
+    let from = change g.F.Shelf.files g.F.Shelf.faults g.F.Shelf.asked c.loop-before.shelf c.fit_file.new.shelf in
+    let shelf = change g.F.Shelf.files g.F.Shelf.faults g.F.Shelf.asked c.args.shelf.now c.fit_file.new.shelf in
+    let fits = fits-from from shelf c.loop-before.invariant.files c.loop-before.invariant.faults refl _ _ c.in-Fits.file
+    (rw c.in-Fits.is at c.in_ok-file.ensures.fitted) in
     record {
-      so_far =
-          rw (names-more string_bytes c.args.names.now c.loop-before.before c.index-names-before.result c.as_str.result.now
-          c.loop-before-test.true c.index-names-before.is c.as_str.ensures.value)
-          (up-to-more (g.F.Shelf.files c.args.shelf.now) (map string_bytes (take c.loop-before.before c.args.names.now))
-          c.loop-before.binder c.loop-before.invariant.so_far c.as_str.result.now added.0 c.add_file.new.binder
-          (rw c.loop-before.invariant.files at added.1) added.3);
-      files = c.add_file.ensures.files ∙ c.loop-before.invariant.files;
-      faults = added.2 ∙ c.loop-before.invariant.faults;
-      each = few_then _ _ _ _ _ _ c.loop-before.invariant.each c.in_ok-added.ensures.each (omega arith);
+      so_far = up-to-more string_bytes _ _ _ _ c.loop-before-test.true c.index-names-before.is c.as_str.ensures.value _ _ _ _ _
+          c.loop-before.invariant.so_far fits.0 c.in-Ok.ensures.bound;
+      files = c.fit_file.ensures.files ∙ c.loop-before.invariant.files;
+      faults = fits.1;
+      each = few_then _ _ _ _ _ _ c.loop-before.invariant.each c.in_ok-file.ensures.each (omega arith);
     }
 
 -- the shelf is asked for each file once
-pub returns-in_err-added-clause-each : goal.returns-in_err-added-clause-each
-returns-in_err-added-clause-each g c = few_then _ _ _ _ _ _ c.loop-before.invariant.each c.add_file.ensures.each
+pub returns-in_err-file-clause-each : goal.returns-in_err-file-clause-each
+returns-in_err-file-clause-each g c = few_then _ _ _ _ _ _ c.loop-before.invariant.each c.fit_file.ensures.each
     (omega (arith, c.loop-before-test.true, length-map c.args.names.now string_bytes))
 
-pub returns-in-Some-clause-each : goal.returns-in-Some-clause-each
-returns-in-Some-clause-each g c = few_then _ _ _ _ _ _ c.loop-before.invariant.each c.add_file.ensures.each
+pub returns-in-Tells-clause-each : goal.returns-in-Tells-clause-each
+returns-in-Tells-clause-each g c = few_then _ _ _ _ _ _ c.loop-before.invariant.each c.fit_file.ensures.each
+    (omega (arith, c.loop-before-test.true, length-map c.args.names.now string_bytes))
+
+pub returns-in-Err-Full-clause-each : goal.returns-in-Err-Full-clause-each
+returns-in-Err-Full-clause-each g c = few_then _ _ _ _ _ _ c.loop-before.invariant.each c.fit_file.ensures.each
+    (omega (arith, c.loop-before-test.true, length-map c.args.names.now string_bytes))
+
+pub returns-in-Err-Memory-clause-each : goal.returns-in-Err-Memory-clause-each
+returns-in-Err-Memory-clause-each g c = few_then _ _ _ _ _ _ c.loop-before.invariant.each c.fit_file.ensures.each
     (omega (arith, c.loop-before-test.true, length-map c.args.names.now string_bytes))
 
 pub returns-in_err-book-clause-each : goal.returns-in_err-book-clause-each

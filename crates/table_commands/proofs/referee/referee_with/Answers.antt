@@ -1,4 +1,5 @@
 use Rattle.std.proofs.Common.{inl, inr, refl}
+use Rattle.brain_session.specs.declared.TheConstants.{BRAIN_WORK}
 use Rattle.file_loading.specs.HeldFiles.{TableFileSays}
 use Rattle.file_loading.proofs.HeldFileLaws.{told-sound}
 use Rattle.table_commands.proofs.RefereeLaws.{referees-by-file}
@@ -23,6 +24,6 @@ returns-in-Ok-Tells-clause-referees g c = λ words. record {
 
 pub returns-in-Ok-Tells-clause-loads : goal.returns-in-Ok-Tells-clause-loads
 returns-in-Ok-Tells-clause-loads g c =
-    told-sound TableFileSays _ c.args.file.now c.in-Ok-Tells.answer.status c.in-Ok-Tells.answer.text _ _
+    told-sound (TableFileSays BRAIN_WORK) _ c.args.file.now c.in-Ok-Tells.answer.status c.in-Ok-Tells.answer.text _ _
     (rw c.in-Ok-Tells.field-0-is at c.in-Ok-Tells.ensures.loaded)
     (rw c.as_slice.ensures.value at c.deliver.ensures.delivered)

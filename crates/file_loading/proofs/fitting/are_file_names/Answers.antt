@@ -1,8 +1,8 @@
 -- An empty word is no name.
 use Rattle.std.proofs.Common.{◌≡◌, [], arith, rules, string_bytes}
 use Rattle.std.proofs.lemmas.Grind.{common_steps}
-use Rattle.table_commands.proofs.BindLaws.{filled-at}
-use Rattle.cover_command.proofs.words.are_part_names.Goals as goal
+use Rattle.file_loading.proofs.ManyFileLaws.{filled-at}
+use Rattle.file_loading.proofs.fitting.are_file_names.Goals as goal
 
 pub returns-then-is_empty-2 : goal.returns-then-is_empty-2
 returns-then-is_empty-2 c =
