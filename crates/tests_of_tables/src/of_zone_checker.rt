@@ -1,5 +1,5 @@
-//! Verdicts by zones: on an attack and on a start, with and without a reply that has to be met, with work and without, and of a side
-//! that has fouls.
+//! Verdicts by zones: on an attack and on a start, with and without a reply that has to be met, with just enough work and with less, and
+//! of a side that has fouls.
 
 use crate::compared::same;
 use position_files::read_table;
@@ -20,49 +20,57 @@ const THREE_WITHOUT_THE_BLOCK: &str =
 const FOUR: &str =
     "renju-table 2\nrule freestyle\nsize 15\nblack 4,7 5,7 6,7 7,7\nwhite 0,0 2,0 4,0\nmoves 1\nnodes 2\n3,7 wins\n8,7 wins\nstart rest 0 3,7>1\n";
 
-/// Where its root is accepted by a zone, within how many moves, and whether none accepts it; neither where the work is spent.
+/// What is said of its root by zones.
 fn told<R: Rule>(
     alloc: Global,
     text: &str,
     black: &str,
     white: &str,
     work: u64,
-) -> Option<(Option<u32>, bool)> {
+) -> Option<ZoneVerdict> {
     let file = read_table(alloc, text.as_bytes()).ok()?;
     let position = position_of::<R>(alloc, black, white)?;
     if !file.root.names_below(file.table.len()) {
         return None;
     }
-    match check_by_zones(alloc, &file.table, &file.root, &position, work).ok()? {
-        ZoneVerdict::Accepted { moves, .. } => Some((Some(moves), false)),
-        ZoneVerdict::Refused => Some((None, true)),
-        ZoneVerdict::Spent => Some((None, false)),
-    }
+    check_by_zones(alloc, &file.table, &file.root, &position, work).ok()
 }
 
 /// The same of the three, with this work.
-fn told_of_three<R: Rule>(alloc: Global, text: &str, work: u64) -> Option<(Option<u32>, bool)> {
+fn told_of_three<R: Rule>(alloc: Global, text: &str, work: u64) -> Option<ZoneVerdict> {
     told::<R>(alloc, text, "5,7 6,7 7,7", "0,0 2,0 4,0", work)
 }
 
+/// The same of the four.
+fn told_of_four(alloc: Global, work: u64) -> Option<ZoneVerdict> {
+    told::<Freestyle>(alloc, FOUR, "4,7 5,7 6,7 7,7", "0,0 2,0 4,0", work)
+}
+
+/// The attack, the rest after a pass, and the answer to 3,7: of the other replies none harms the five at 3,7.
 #[test]
 fn a_zone_accepts_where_each_reply_that_harms_is_met(rt: HostRuntime) {
-    let told = told_of_three::<Freestyle>(rt.alloc(), THREE, 1000);
-    same(&rt, told, Some((Some(2), false)));
+    let accepted = ZoneVerdict::Accepted { moves: 2, pairs: 3 };
+    same(
+        &rt,
+        told_of_three::<Freestyle>(rt.alloc(), THREE, 3),
+        Some(accepted),
+    );
     let told = told_of_three::<Freestyle>(rt.alloc(), THREE_WITHOUT_THE_BLOCK, 1000);
-    same(&rt, told, Some((None, true)));
+    same(&rt, told, Some(ZoneVerdict::Refused));
 }
 
 #[test]
 fn a_zone_is_made_with_work_and_for_a_side_without_fouls(rt: HostRuntime) {
-    let told = told_of_three::<Freestyle>(rt.alloc(), THREE, 0);
-    same(&rt, told, Some((None, false)));
+    let told = told_of_three::<Freestyle>(rt.alloc(), THREE, 2);
+    same(&rt, told, Some(ZoneVerdict::Spent));
     let told = told_of_three::<Renju>(rt.alloc(), THREE, 1000);
-    same(&rt, told, Some((None, true)));
+    same(&rt, told, Some(ZoneVerdict::Refused));
 }
 
+/// The rest, and the answer to 3,7.
 #[test]
 fn a_start_is_accepted_by_a_zone(rt: HostRuntime) {
-    let told = told::<Freestyle>(rt.alloc(), FOUR, "4,7 5,7 6,7 7,7", "0,0 2,0 4,0", 1000);
-    same(&rt, told, Some((Some(1), false)));
+    let accepted = ZoneVerdict::Accepted { moves: 1, pairs: 2 };
+    same(&rt, told_of_four(rt.alloc(), 2), Some(accepted));
+    same(&rt, told_of_four(rt.alloc(), 1), Some(ZoneVerdict::Spent));
 }

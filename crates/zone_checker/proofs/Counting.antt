@@ -1,137 +1,216 @@
--- The pairs of a walk: they go by the nodes that are named, and a stop that is handed on.
-use Rattle.std.proofs.Common.{◌≡◌, ℕ, zero, suc, ◌+◌, ◌≤◌, ◌<◌, Bool, true, false, cond, List, Option, Some, None, slice_get, refl}
-use Rattle.std.proofs.Common.{ap, subst, ◌∙◌, arith, ◌-◌, length, take, get_or}
-use Rattle.std.specs.Option.{option_map_or}
-use Rattle.std.specs.List.{sum_by}
-use Rattle.std.proofs.lemmas.List.Sums.{sum_by-le-sum_by, sum_by-take-le, sum_by_more, sum_by_more_le}
-use Rattle.game_rules.proofs.Common.{Grid, is_empty, other, points_of, put}
+-- The pairs of a walk: they go by the nodes that are named, there is one number of them, and what was taken of those that were left.
+use Rattle.std.proofs.Common.{◌≡◌, inl, inr, ℕ, zero, suc, ◌+◌, ◌<◌, Bool, true, false, ◌&&◌, not, cond, List, [], ◌∷◌, ◌++◌, Option, Some}
+use Rattle.std.proofs.Common.{None, slice_get, refl, sym, ap, subst, ◌∙◌, arith, ◌≤◌, length, take, drop, get_or}
+use Rattle.std.proofs.lemmas.List.{drop_more, take-append-drop, take_all, take_more}
+use Rattle.game_rules.proofs.Common.{Grid, five, is_empty, other, points_of, put}
+use Rattle.game_rules.specs.declared.RuleKind.{RuleKind}
 use Rattle.game_rules.specs.declared.Side.{Side}
 use Rattle.game_rules.specs.declared.Point.{Point}
 use Rattle.strategy_graph.specs.declared.Node.{Node}
+use Rattle.strategy_graph.specs.declared.Reply.{Reply}
 use Rattle.strategy_graph.proofs.Common.{Answers, NamesLower, answer, answers_of, names_below, rest_node}
 use Rattle.strategy_graph.proofs.Answering.{answer-below}
 use Rattle.strategy_graph.proofs.Naming.{rest-below}
-use Rattle.relevance_zone.specs.Zones.{Zone}
-use Rattle.zone_checker.specs.Walks.{Stopped, Took}
+use Rattle.relevance_zone.specs.Zones.{Zone, HasZone}
+use Rattle.zone_checker.specs.Walks.{Stopped, Took, asked_of}
 use Rattle.zone_checker.specs.declared.walk.Stop.{Stop}
 use Rattle.zone_checker.specs.declared.walk.Stop.TheVariants.{Zoneless, Spent, Memory}
-use Rattle.zone_checker.specs.Pairs.{pairs, pairs_after, pairs_at, pairs_behind, pairs_within, reply_pairs}
+use Rattle.zone_checker.specs.Pairs.{AnswersHavePairs, AnswersHavePairsBy, ComesTo, HasPairs, NodeHasPairs, ReplyHasPairs}
+use Rattle.zone_checker.specs.Pairs.{ReplyHasPairsBy, asked_rest}
+unfoldable use Rattle.zone_checker.specs.Pairs.{HasPairsWithin}
+use Rattle.zone_checker.proofs.Steps.{same_answer}
 
--- where each of the nodes below k has as many pairs or more, so do the answers that name only those
-module _ (s : Side) (few many : ℕ → Grid → ℕ) (k : ℕ) (le : (j : ℕ) → j < k → (b : Grid) → few j b ≤ many j b) where
-  named-le : (o : Option ℕ) (b : Grid) → ((j : ℕ) → o ≡ Some j → j < k)
-      → option_map_or (λ j. few j b) o 0 ≤ option_map_or (λ j. many j b) o 0
-  named-le None b below = omega arith
-  named-le (Some j) b below = le j (below j refl) b
+-- ---- numbers of points one after another
 
-  after-le : (a : Answers) (b : Grid) → names_below a k ≡ true → pairs_after s a few b ≤ pairs_after s a many b
-  after-le a b below =
-      let passed = named-le (rest_node a.rest) b (λ j h. rest-below a k j below h) in
-      let replies = sum_by-le-sum_by (pairs_at s a few b) (pairs_at s a many b) (points_of b) reply-le in
-      omega (arith, passed, replies) where
-        reply-le : (q : Point) → pairs_at s a few b q ≤ pairs_at s a many b q
-        reply-le q = by_test (is_empty b q) where
-          by_test : (e : Bool) → cond e (option_map_or (λ j. few j (put b (other s) q)) (answer a q) 0) 0
-              ≤ cond e (option_map_or (λ j. many j (put b (other s) q)) (answer a q) 0) 0
-          by_test true = named-le (answer a q) _ (λ j h. answer-below a k q j below h)
-          by_test false = omega arith
+module _ (Has : Point → ℕ → Type 0) where
+  comes-join : (ps qs : List Point) (m k : ℕ) → ComesTo Has ps m → ComesTo Has qs k → ComesTo Has (ps ++ qs) (m + k)
+  comes-join [] qs m k h g = subst (ComesTo Has qs) (omega arith) g
+  comes-join (p ∷ ps) qs m k h g = (h.0, h.1 + k, h.2, comes-join ps qs h.1 k h.3 g, omega arith)
 
-  pub behind-le : (o : Option Node) (b : Grid) → ((n : Node) → o ≡ Some n → names_below (answers_of n) k ≡ true)
-      → pairs_behind s o few b ≤ pairs_behind s o many b
-  behind-le None b below = omega arith
-  behind-le (Some n) b below = after-le (answers_of n) _ (below n refl)
+  comes-split : (ps qs : List Point) (n : ℕ) → ComesTo Has (ps ++ qs) n
+      → (m k : ℕ) × ComesTo Has ps m × ComesTo Has qs k × (n ≡ m + k)
+  comes-split [] qs n h = (0, n, refl, h, omega arith)
+  comes-split (p ∷ ps) qs n h =
+      let g = comes-split ps qs h.1 h.3 in
+      (h.0 + g.0, g.1, (h.0, g.0, h.2, g.2, refl), g.3, omega arith)
 
-module _ (t : List Node) (lower : NamesLower t) (s : Side) where
-  within-le : (f m i : ℕ) → i < m → (b : Grid) → pairs_within f t s i b ≤ pairs_within m t s i b
-  unfolding pairs_within
-  within-le zero m i l b = omega arith
-  within-le (suc f) zero i l b = absurd (omega arith)
-  within-le (suc f) (suc m) i l b =
-      let behind = behind-le s (pairs_within f t s) (pairs_within m t s) i (λ j below c. within-le f m j (omega (arith, below, l)) c)
-      (slice_get t i) b (lower.lower i) in
-      omega (arith, behind)
+  -- where each point has one number, they come to one
+  comes-same : ((p : Point) (n m : ℕ) → Has p n → Has p m → n ≡ m) → (ps : List Point) (n m : ℕ) → ComesTo Has ps n → ComesTo Has ps m
+      → n ≡ m
+  comes-same one [] n m h g = h ∙ sym g
+  comes-same one (p ∷ ps) n m h g =
+      let first = one p h.0 g.0 h.2 g.2 in
+      let others = comes-same one ps h.1 g.1 h.3 g.3 in
+      omega arith
 
-  -- one, and those behind the node, are the pairs from it at most
-  pub pairs-behind : (i : ℕ) (b : Grid) (n : Node) → slice_get t i ≡ Some n
-      → pairs_after s (answers_of n) (pairs t s) (put b s n.attack) + 1 ≤ pairs t s i b
-  unfolding pairs_within
-  pairs-behind i b n at =
-      let behind = behind-le s (pairs t s) (pairs_within i t s) i (λ j below c. within-le (suc j) i j below c) (slice_get t i) b
-      (lower.lower i) in
-      let here : pairs_behind s (slice_get t i) (pairs t s) b ≡ pairs_after s (answers_of n) (pairs t s) (put b s n.attack) =
-      ap (λ o. pairs_behind s o (pairs t s) b) at in
-      omega (arith, behind, here)
+comes-also : (Has Also : Point → ℕ → Type 0) → ((p : Point) (n : ℕ) → Has p n → Also p n) → (ps : List Point) (n : ℕ) → ComesTo Has ps n
+    → ComesTo Also ps n
+comes-also Has Also also [] n h = h
+comes-also Has Also also (p ∷ ps) n h = (h.0, h.1, also p h.0 h.2, comes-also Has Also also ps h.1 h.3, h.4)
 
-pub pairs-some : (t : List Node) (s : Side) (i : ℕ) (b : Grid) → 0 < pairs t s i b
-unfolding pairs_within
-pairs-some t s i b = omega arith
+-- ---- by the nodes that are named
 
--- the pairs behind a reply that is to an empty point are those of its answer
-pub reply-pairs : (t : List Node) (s : Side) (a : Answers) (b : Grid) (q : Point) (j : ℕ) → is_empty b q ≡ true → answer a q ≡ Some j
-    → reply_pairs t s a b q ≡ pairs t s j (put b (other s) q)
-reply-pairs t s a b q j empty given =
-    ap (λ e. cond e (option_map_or (λ j. pairs t s j (put b (other s) q)) (answer a q) 0) 0) empty
-    ∙ ap (λ (o : Option ℕ). option_map_or (λ j. pairs t s j (put b (other s) q)) o 0) given
+asked-named : (rule : RuleKind) (s : Side) (b : Grid) (d : Node) (j : ℕ) → asked_rest rule s b d ≡ Some j → rest_node d.rest ≡ Some j
+asked-named rule s b d j = by_test (is_empty b d.attack && not (five rule b s d.attack)) where
+  by_test : (e : Bool) → cond e (rest_node d.rest) None ≡ Some j → rest_node d.rest ≡ Some j
+  by_test true h = h
+  by_test false h = cc
 
--- ---- what was taken
+-- what is said of the nodes below k serves as well where the answers name only those
+module _ (Zoned : ℕ → Grid → Zone → Type 0) (Paired Also : ℕ → Grid → ℕ → Type 0) (k : ℕ)
+    (also : (j : ℕ) → j < k → (b : Grid) (n : ℕ) → Paired j b n → Also j b n) (rule : RuleKind) (s : Side) where
+  reply-also : (a : Answers) → names_below a k ≡ true → (r : ℕ) (b : Grid) (q : Point) (n : ℕ)
+      → ReplyHasPairs s a Zoned Paired r b q n → ReplyHasPairs s a Zoned Also r b q n
+  reply-also a below r b q n h = elim h [
+    | inl idle ↦ inl idle
+    | inr walk ↦ inr (walk.0, walk.1, walk.2, also walk.0 (answer-below a k q walk.0 below walk.1) _ n walk.3)
+  ]
 
--- one pair, of a node
-pub took-one : (n old : ℕ) → 0 < n → 0 < old → Took n old (old - 1)
-took-one n old some left = record { fewer = omega arith; most = omega arith }
+  answers-also : (a : Answers) → names_below a k ≡ true → (o : Option ℕ) → ((j : ℕ) → o ≡ Some j → rest_node a.rest ≡ Some j)
+      → (b : Grid) (n : ℕ) → AnswersHavePairs o s a Zoned Paired b n → AnswersHavePairs o s a Zoned Also b n
+  answers-also a below None named b n h = h
+  answers-also a below (Some r) named b n h =
+      (h.0, h.1, also r (rest-below a k r below (named r refl)) b h.0 h.2, comes-also _ _ (reply-also a below r b) _ h.1 h.3, h.4)
 
-pub took-pair : (t : List Node) (s : Side) (i : ℕ) (b : Grid) (left : ℕ) → 0 < left → Took (pairs t s i b) left (left - 1)
-took-pair t s i b left some = took-one (pairs t s i b) left (pairs-some t s i b) some
+  node-also : (o : Option Node) (b : Grid) (n : ℕ) → ((d : Node) → o ≡ Some d → names_below (answers_of d) k ≡ true)
+      → NodeHasPairs rule s o Zoned Paired b n → NodeHasPairs rule s o Zoned Also b n
+  node-also None b n below h = h
+  node-also (Some d) b n below h =
+      answers-also (answers_of d) (below d refl) (asked_rest rule s b d) (asked-named rule s b d) _ n h
 
--- and then those behind it
-pub took-behind : (m n old new : ℕ) → m + 1 ≤ n → 0 < old → Took m (old - 1) new → Took n old new
-took-behind m n old new most left took =
-    let one = took.fewer in let two = took.most in record { fewer = omega (arith, one); most = omega (arith, two) }
+module _ (rule : RuleKind) (t : List Node) (s : Side) where
+  module _ (lower : NamesLower t) where
+    within-enough : (f m i : ℕ) → i < f → i < m → (b : Grid) (n : ℕ) → HasPairsWithin f rule t s i b n → HasPairsWithin m rule t s i b n
+    unfolding HasPairsWithin
+    within-enough zero m i l h b n k = absurd (omega arith)
+    within-enough (suc f) zero i l h b n k = absurd (omega arith)
+    within-enough (suc f) (suc m) i l h b n k = (
+      k.0,
+      node-also (HasZone rule t s) (HasPairsWithin f rule t s) (HasPairsWithin m rule t s) i
+          (λ j below c n has. within-enough f m j (omega (arith, below, l)) (omega (arith, below, h)) c n has) rule s (slice_get t i) b k.0
+          (lower.lower i) k.1,
+      k.2,
+    )
 
-pub took-none : (n old : ℕ) → Took n old old
-took-none n old = record { fewer = omega arith; most = omega arith }
+    pub pairs-to_node : (i : ℕ) (b : Grid) (n : ℕ) → HasPairs rule t s i b n
+        → (m : ℕ) × NodeHasPairs rule s (slice_get t i) (HasZone rule t s) (HasPairs rule t s) b m × (n ≡ m + 1)
+    unfolding HasPairsWithin
+    pairs-to_node i b n h = (
+      h.0,
+      node-also (HasZone rule t s) (HasPairsWithin i rule t s) (HasPairs rule t s) i
+          (λ j below c n has. within-enough i (suc j) j below (omega arith) c n has) rule s (slice_get t i) b h.0 (lower.lower i) h.1,
+      h.2,
+    )
 
--- some, and some more
-pub took-then : (k m n old mid new : ℕ) → k + m ≤ n → Took k old mid → Took m mid new → Took n old new
-took-then k m n old mid new sum first second =
-    let a = first.fewer in let c = first.most in let d = second.fewer in let e = second.most in
-    record { fewer = omega (arith, a, d); most = omega (arith, c, e) }
+    pub pairs-by_node : (i : ℕ) (b : Grid) (m : ℕ)
+        → NodeHasPairs rule s (slice_get t i) (HasZone rule t s) (HasPairs rule t s) b m → HasPairs rule t s i b (m + 1)
+    unfolding HasPairsWithin
+    pairs-by_node i b m h = (
+      m,
+      node-also (HasZone rule t s) (HasPairs rule t s) (HasPairsWithin i rule t s) i
+          (λ j below c n has. within-enough (suc j) i j (omega arith) below c n has) rule s (slice_get t i) b m (lower.lower i) h,
+      refl,
+    )
+
+  pub pairs-some : (i : ℕ) (b : Grid) (n : ℕ) → HasPairs rule t s i b n → 0 < n
+  unfolding HasPairsWithin
+  pairs-some i b n h = omega arith
+
+-- ---- there is one number of them
+
+module _ (rule : RuleKind) (s : Side) (Zoned : ℕ → Grid → Zone → Type 0) (Paired : ℕ → Grid → ℕ → Type 0)
+    (one : (j : ℕ) (b : Grid) (n m : ℕ) → Paired j b n → Paired j b m → n ≡ m) where
+  reply-one : (a : Answers) (r : ℕ) (b : Grid) (q : Point) (n m : ℕ) → ReplyHasPairs s a Zoned Paired r b q n
+      → ReplyHasPairs s a Zoned Paired r b q m → n ≡ m
+  reply-one a r b q n m (inl h) (inl g) = h.1 ∙ sym g.1
+  reply-one a r b q n m (inl h) (inr g) = absurd (g.2 h.0)
+  reply-one a r b q n m (inr h) (inl g) = absurd (h.2 g.0)
+  reply-one a r b q n m (inr h) (inr g) =
+      one h.0 _ n m h.3 (subst (λ j. Paired j (put b (other s) q) m) (same_answer g.0 h.0 (answer a q) g.1 h.1) g.3)
+
+  answers-one : (o : Option ℕ) (a : Answers) (b : Grid) (n m : ℕ) → AnswersHavePairs o s a Zoned Paired b n
+      → AnswersHavePairs o s a Zoned Paired b m → n ≡ m
+  answers-one None a b n m h g = h ∙ sym g
+  answers-one (Some r) a b n m h g =
+      let passed = one r b h.0 g.0 h.2 g.2 in
+      let replied = comes-same (ReplyHasPairs s a Zoned Paired r b) (reply-one a r b) _ h.1 g.1 h.3 g.3 in
+      omega arith
+
+  node-one : (o : Option Node) (b : Grid) (n m : ℕ) → NodeHasPairs rule s o Zoned Paired b n → NodeHasPairs rule s o Zoned Paired b m
+      → n ≡ m
+  node-one None b n m h g = h ∙ sym g
+  node-one (Some d) b n m h g = answers-one (asked_rest rule s b d) (answers_of d) _ n m h g
+
+module _ (rule : RuleKind) (t : List Node) (s : Side) where
+  within-one : (f i : ℕ) (b : Grid) (n m : ℕ) → HasPairsWithin f rule t s i b n → HasPairsWithin f rule t s i b m → n ≡ m
+  unfolding HasPairsWithin
+  within-one zero i b n m h g = h ∙ sym g
+  within-one (suc f) i b n m h g =
+      let same = node-one rule s (HasZone rule t s) (HasPairsWithin f rule t s) (within-one f) (slice_get t i) b h.0 g.0 h.1 g.1 in
+      omega arith
+
+  pub pairs-one : (i : ℕ) (b : Grid) (n m : ℕ) → HasPairs rule t s i b n → HasPairs rule t s i b m → n ≡ m
+  pairs-one i = within-one (suc i) i
+
+  pub replies-one : (a : Answers) (r : ℕ) (b : Grid) (q : Point) (n m : ℕ)
+      → ReplyHasPairsBy rule t s a r b q n → ReplyHasPairsBy rule t s a r b q m → n ≡ m
+  replies-one a r b q = reply-one rule s (HasZone rule t s) (HasPairs rule t s) pairs-one a r b q
 
 -- ---- a stop that is handed on
 
-pub stopped-then : (Has Also : Zone → Type 0) (left old m n : ℕ) (stop : Stop)
-    → (((z : Zone) → Has z → ⊥) → (z : Zone) → Also z → ⊥) → (left < m → old < n) → Stopped Has left m stop → Stopped Also old n stop
-stopped-then Has Also left old m n Zoneless fails short h = fails h
-stopped-then Has Also left old m n Spent fails short h = short h
-stopped-then Has Also left old m n Memory fails short h = tt {0}
+pub stopped-then : (Has Also : Zone → Type 0) (left old : ℕ) (Few Many : ℕ → Type 0) (stop : Stop)
+    → (((z : Zone) → Has z → ⊥) → (z : Zone) → Also z → ⊥)
+    → (((n : ℕ) → Few n → left < n) → (n : ℕ) → Many n → old < n) → Stopped Has left Few stop → Stopped Also old Many stop
+stopped-then Has Also left old Few Many Zoneless fails short h = fails h
+stopped-then Has Also left old Few Many Spent fails short h = short h
+stopped-then Has Also left old Few Many Memory fails short h = tt {0}
 
 -- ---- pairs of points one after another
 
-module _ (cost : Point → ℕ) (ps : List Point) where
+module _ (Has : Point → ℕ → Type 0) (ps : List Point) where
   -- at the first i of them, and at the next
   pub taken-more : (i : ℕ) (q : Point) (old mid new : ℕ) → i < length ps → ((d : Point) → get_or ps i d ≡ q)
-      → Took (sum_by cost (take i ps)) old mid → Took (cost q) mid new → Took (sum_by cost (take (i + 1) ps)) old new
-  taken-more i q old mid new l here before now =
-      let sum = sum_by_more cost ps i q l in
-      let same = ap cost (here q) in
-      took-then (sum_by cost (take i ps)) (cost q) _ old mid new (omega (arith, sum, same)) before now
+      → Took (ComesTo Has (take i ps)) old mid → Took (Has q) mid new → Took (ComesTo Has (take (i + 1) ps)) old new
+  taken-more i q old mid new l here before now = record {
+    pairs = before.pairs + now.pairs;
+    paired = subst (λ qs. ComesTo Has qs (before.pairs + now.pairs))
+        (sym (take_more ps i q l ∙ ap (λ p. take i ps ++ p ∷ []) (here q)))
+        (comes-join Has (take i ps) (q ∷ []) before.pairs now.pairs before.paired (now.pairs, 0, now.paired, refl, omega arith));
+    all = omega arith;
+  }
 
-  -- all of them
-  pub taken-all : (qs : List Point) (i old new : ℕ) → ps ≡ qs → Took (sum_by cost (take i ps)) old new → Took (sum_by cost qs) old new
-  taken-all qs i old new points before = subst (λ (rs : List Point). Took (sum_by cost rs) old new) points
-      (took-then (sum_by cost (take i ps)) 0 _ old new new (let few = sum_by-take-le cost ps i in omega (arith, few)) before
-      (took-none 0 new))
+  module _ (qs : List Point) (points : ps ≡ qs) where
+    -- all of them
+    pub taken-all : (i old new : ℕ) → length ps ≤ i → Took (ComesTo Has (take i ps)) old new → Took (ComesTo Has qs) old new
+    taken-all i old new l = subst (λ rs. Took (ComesTo Has rs) old new) (take_all i ps l ∙ points)
 
-  -- where the walk stopped at the next
-  pub taken-stopped : (qs : List Point) (i : ℕ) (q : Point) (old mid new : ℕ) → ps ≡ qs → i < length ps
-      → ((d : Point) → get_or ps i d ≡ q) → Took (sum_by cost (take i ps)) old mid → Took (cost q) mid new
-      → Took (sum_by cost qs) old new
-  taken-stopped qs i q old mid new points l here before now =
-      taken-all qs (i + 1) old new points (taken-more i q old mid new l here before now)
+    -- where the walk stopped at the next for want of pairs
+    pub taken-short : ((p : Point) (n m : ℕ) → Has p n → Has p m → n ≡ m) → (i : ℕ) (q : Point) (old mid : ℕ) → i < length ps
+        → ((d : Point) → get_or ps i d ≡ q) → Took (ComesTo Has (take i ps)) old mid → ((n : ℕ) → Has q n → mid < n)
+        → (n : ℕ) → ComesTo Has qs n → old < n
+    taken-short one i q old mid l here before short n h =
+        let parts = comes-split Has (take i ps) (drop i ps) n
+        (subst (λ rs. ComesTo Has rs n) (sym (take-append-drop i ps ∙ points)) h) in
+        let last = subst (λ rs. ComesTo Has rs parts.1) (drop_more ps i q l ∙ ap (λ p. p ∷ drop (i + 1) ps) (here q)) parts.3 in
+        let same = comes-same Has one (take i ps) before.pairs parts.0 before.paired parts.2 in
+        let less = short last.0 last.2 in
+        omega arith
 
-  pub taken-short : (qs : List Point) (i : ℕ) (q : Point) (old mid : ℕ) → ps ≡ qs → i < length ps
-      → ((d : Point) → get_or ps i d ≡ q) → Took (sum_by cost (take i ps)) old mid → mid < cost q → old < sum_by cost qs
-  taken-short qs i q old mid points l here before short =
-      let sum = sum_by_more_le cost ps i q l in
-      let same = ap cost (here q) in
-      let most = before.most in
-      subst (λ (rs : List Point). old < sum_by cost rs) points (omega (arith, sum, same, most, short))
+-- ---- the rest, and then all replies
+
+module _ (rule : RuleKind) (t : List Node) (s : Side) (replies : List Reply) (rest : ℕ) (b : Grid) (old mid : ℕ)
+    (passed : Took (HasPairs rule t s rest b) old mid) where
+  pub answers-took : (new : ℕ) → Took (ComesTo (ReplyHasPairsBy rule t s (asked_of replies rest) rest b) (points_of b)) mid new
+      → Took (AnswersHavePairsBy rule t s (asked_of replies rest) b) old new
+  answers-took new replied = record {
+    pairs = passed.pairs + replied.pairs;
+    paired = (passed.pairs, replied.pairs, passed.paired, replied.paired, refl);
+    all = omega arith;
+  }
+
+  pub answers-short : ((n : ℕ) → ComesTo (ReplyHasPairsBy rule t s (asked_of replies rest) rest b) (points_of b) n → mid < n)
+      → (n : ℕ) → AnswersHavePairsBy rule t s (asked_of replies rest) b n → old < n
+  answers-short short n h =
+      let same = pairs-one rule t s rest b passed.pairs h.0 passed.paired h.2 in
+      let less = short h.1 h.3 in
+      omega arith

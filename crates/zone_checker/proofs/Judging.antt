@@ -1,5 +1,5 @@
 -- What the zone that was found, or that there is none, says of a root.
-use Rattle.std.proofs.Common.{◌≡◌, ℕ, ◌-◌, ◌≤◌, false, sym, subst, arith, List}
+use Rattle.std.proofs.Common.{◌≡◌, ℕ, ◌-◌, false, sym, subst, arith, List}
 use Rattle.game_rules.proofs.Common.{Grid, IsPosition, has_fouls}
 use Rattle.game_rules.specs.declared.RuleKind.{RuleKind}
 use Rattle.game_rules.specs.declared.Side.{Side}
@@ -14,9 +14,10 @@ use Rattle.relevance_zone.proofs.Harm.{zones-win}
 use Rattle.zone_checker.specs.declared.marks.Mark.{Mark}
 use Rattle.zone_checker.specs.declared.checks.ZoneVerdict.TheVariants.{Accepted, Refused}
 use Rattle.zone_checker.specs.Marks.{IsGreatest, zone_of}
+use Rattle.zone_checker.specs.Pairs.{RootHasPairs}
 use Rattle.zone_checker.specs.Roots.{IsRootZone, attacker}
 use Rattle.zone_checker.specs.Verdicts.{IsVerdict}
-use Rattle.zone_checker.specs.Walks.{asked_of}
+use Rattle.zone_checker.specs.Walks.{Took, asked_of}
 
 module _ (rule : RuleKind) (t : List Node) (b : Grid) where
   root-accepted : (r : Root) (ms : List Mark) → has_fouls rule (attacker r b) ≡ false
@@ -30,13 +31,22 @@ module _ (rule : RuleKind) (t : List Node) (b : Grid) where
 
   -- the verdicts, where the walk was on c, with the side s
   module _ (r : Root) (work : ℕ) (c : Grid) (s : Side) (same : c ≡ b) (side : s ≡ attacker r b) where
-    pub accepted-verdict : (moves left : ℕ) (ms : List Mark) → IsPosition rule b → moves ≡ root_depth t r → left ≤ work
-        → has_fouls rule s ≡ false → IsGreatest (IsRootZone rule t s r c) c ms → IsVerdict rule t r work b (Accepted moves (work - left))
-    accepted-verdict moves left ms lawful depth some calm best =
+    pub accepted-verdict : (moves left : ℕ) (ms : List Mark) → IsPosition rule b → moves ≡ root_depth t r
+        → has_fouls rule s ≡ false → IsGreatest (IsRootZone rule t s r c) c ms → Took (RootHasPairs rule t s r c) work left
+        → IsVerdict rule t r work b (Accepted moves (work - left))
+    accepted-verdict moves left ms lawful depth calm best took =
         let accepted = root-accepted r ms (subst (λ v. has_fouls rule v ≡ false) side calm)
         (subst (λ (v : Side). IsGreatest (IsRootZone rule t v r b) b ms) side
         (subst (λ (d : Grid). IsGreatest (IsRootZone rule t s r d) d ms) same best)) in
-        (accepted, depth, omega arith, subst (λ m. RootWins rule r m b) (sym depth) (zones-win rule t r b lawful accepted))
+        let pairs : took.pairs ≡ work - left = omega arith in (
+          accepted,
+          depth,
+          omega arith,
+          subst (λ m. RootWins rule r m b) (sym depth) (zones-win rule t r b lawful accepted),
+          subst (λ (v : Side). RootHasPairs rule t v r b (work - left)) side
+              (subst (λ (d : Grid). RootHasPairs rule t s r d (work - left)) same
+              (subst (RootHasPairs rule t s r c) pairs took.paired)),
+        )
 
     pub refused-verdict : ((z : Zone) → IsRootZone rule t s r c z → ⊥) → IsVerdict rule t r work b Refused
     refused-verdict none = root-refused r (subst (λ (v : Side). (z : Zone) → IsRootZone rule t v r b z → ⊥) side

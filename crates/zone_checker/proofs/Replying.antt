@@ -1,23 +1,23 @@
 -- Replies one after another.
 use Rattle.std.proofs.Common.{◌≡◌, inl, inr, ℕ, ◌+◌, ◌<◌, true, refl, sym, ap, subst, ◌∙◌, arith, List, length, get_or}
-use Rattle.std.proofs.lemmas.Bool.{cases_lt}
+use Rattle.std.proofs.lemmas.Bool.{both_ways, cases_lt}
 use Rattle.game_rules.proofs.Common.{Grid, is_empty, other, points_of, put}
 use Rattle.game_rules.specs.declared.Side.{Side}
 use Rattle.game_rules.specs.declared.Point.{Point}
 use Rattle.game_rules.specs.declared.RuleKind.{RuleKind}
 use Rattle.strategy_graph.specs.declared.Node.{Node}
 use Rattle.strategy_graph.specs.declared.Reply.{Reply}
-use Rattle.strategy_graph.proofs.Common.{Answers}
+use Rattle.strategy_graph.proofs.Common.{Answers, answer}
 use Rattle.relevance_zone.specs.Zones.{Zone, HasZone, IsWithstood, Withstands}
 use Rattle.zone_checker.specs.declared.marks.Mark.{Mark}
 use Rattle.zone_checker.specs.declared.walk.Stop.{Stop}
 use Rattle.zone_checker.specs.Marks.{AreCovered, IsGreatest, LiesUnder, zone_of}
-use Rattle.zone_checker.specs.Pairs.{pairs, reply_pairs}
+use Rattle.zone_checker.specs.Pairs.{HasPairs, NeedsNoWalk, ReplyHasPairsBy}
 use Rattle.zone_checker.specs.Walks.{HasToWalk, IsIdle, IsWithstoodBy, Stopped, Took, asked_of}
 use Rattle.zone_checker.specs.Replies.{AreReplied, IsReplied, SayMore}
-use Rattle.zone_checker.proofs.Greatest.{more-then}
-use Rattle.zone_checker.proofs.Steps.{withstood-more, reply-taken, reply-harmless, reply-walked, reply-fails}
-use Rattle.zone_checker.proofs.Counting.{reply-pairs, stopped-then}
+use Rattle.zone_checker.proofs.Greatest.{harm-under, harmless-zone, more-then}
+use Rattle.zone_checker.proofs.Steps.{withstood-more, reply-taken, reply-harmless, reply-walked, reply-fails, same_answer}
+use Rattle.zone_checker.proofs.Counting.{stopped-then}
 
 module _ (s : Side) (a : Answers) (Has : ℕ → Grid → Zone → Type 0) (b : Grid) (passed : List Mark) (ps : List Point) where
   -- the first i points are replied to
@@ -61,7 +61,18 @@ module _ (rule : RuleKind) (t : List Node) (s : Side) (replies : List Reply) (re
     | inr calm ↦ reply-harmless s (asked_of replies rest) (HasZone rule t s) b passed rest refl best q ms calm.0 calm.1
   ]
 
+  -- and has no pairs behind it
+  pub idle-took : IsIdle replies b passed q → (left : ℕ) → Took (ReplyHasPairsBy rule t s (asked_of replies rest) rest b q) left left
+  idle-took h left = record { pairs = 0; paired = inl (idle h, refl); all = omega arith } where
+    idle : IsIdle replies b passed q → NeedsNoWalk (asked_of replies rest) (HasZone rule t s) rest b q
+    idle (inl taken) = inl taken
+    idle (inr calm) = inr (zone_of b passed 1, calm.0, best.zones 1, harmless-zone b passed q calm.1 0)
+
   module _ (j : ℕ) (walk : HasToWalk (asked_of replies rest) b passed q j) (c : Grid) (after : c ≡ put b (other s) q) where
+    needed : NeedsNoWalk (asked_of replies rest) (HasZone rule t s) rest b q → ⊥
+    needed (inl taken) = both_ways _ taken walk.empty
+    needed (inr calm) = harm-under b passed q (walk.harm calm.1) calm.0 (best.greatest calm.0 calm.2) calm.3
+
     -- the answer's zone is said too
     pub reply-found : (found old new : List Mark) → IsGreatest (HasZone rule t s j c) c found → AreCovered old found new
         → length found ≡ length old → IsReplied s (asked_of replies rest) (HasZone rule t s) b passed q old new
@@ -69,17 +80,23 @@ module _ (rule : RuleKind) (t : List Node) (s : Side) (replies : List Reply) (re
         reply-walked s (asked_of replies rest) (HasZone rule t s) b passed rest refl best q j walk.given walk.empty walk.harm found old new
         (subst (λ (d : Grid). IsGreatest (HasZone rule t s j d) d found) after greatest)
 
-    reply-same : reply_pairs t s (asked_of replies rest) b q ≡ pairs t s j c
-    reply-same = reply-pairs t s (asked_of replies rest) b q j walk.empty walk.given ∙ ap (pairs t s j) (sym after)
+    pub reply-took : (old new : ℕ) → Took (HasPairs rule t s j c) old new
+        → Took (ReplyHasPairsBy rule t s (asked_of replies rest) rest b q) old new
+    reply-took old new took = record {
+      pairs = took.pairs;
+      paired = inr (j, walk.given, needed, subst (λ (d : Grid). HasPairs rule t s j d took.pairs) after took.paired);
+      all = took.all;
+    }
 
-    pub reply-took : (old new : ℕ) → Took (pairs t s j c) old new → Took (reply_pairs t s (asked_of replies rest) b q) old new
-    reply-took old new = subst (λ n. Took n old new) (sym reply-same)
-
-    pub reply-stopped : (left : ℕ) (stop : Stop) → Stopped (HasZone rule t s j c) left (pairs t s j c) stop
-        → Stopped (IsWithstoodBy rule t s (asked_of replies rest) b) left (reply_pairs t s (asked_of replies rest) b q) stop
+    pub reply-stopped : (left : ℕ) (stop : Stop) → Stopped (HasZone rule t s j c) left (HasPairs rule t s j c) stop
+        → Stopped (IsWithstoodBy rule t s (asked_of replies rest) b) left (ReplyHasPairsBy rule t s (asked_of replies rest) rest b q) stop
     reply-stopped left stop = stopped-then (HasZone rule t s j c) (IsWithstoodBy rule t s (asked_of replies rest) b) left left
-        (pairs t s j c)
-        (reply_pairs t s (asked_of replies rest) b q) stop
+        (HasPairs rule t s j c) (ReplyHasPairsBy rule t s (asked_of replies rest) rest b q) stop
         (λ none. reply-fails s (asked_of replies rest) (HasZone rule t s) b passed rest refl best q j walk.given walk.empty walk.harm
         (subst (λ (d : Grid). (z : Zone) → HasZone rule t s j d z → ⊥) after none))
-        (λ short. let same = reply-same in omega (arith, same, short))
+        (λ short n h. elim h [
+          | inl idle ↦ absurd (needed idle.0)
+          | inr walks ↦ short n (subst (λ (d : Grid). HasPairs rule t s j d n) (sym after)
+              (subst (λ k. HasPairs rule t s k (put b (other s) q) n)
+              (same_answer walks.0 j (answer (asked_of replies rest) q) walks.1 walk.given) walks.3))
+        ])

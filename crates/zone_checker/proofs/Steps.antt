@@ -39,7 +39,7 @@ covers-then one two three k h g = record {
 same_rest : (i j : ℕ) (r : Rest) → r ≡ To i → r ≡ To j → i ≡ j
 same_rest i j r h k = cc
 
-same_answer : (i j : ℕ) (o : Option ℕ) → o ≡ Some i → o ≡ Some j → i ≡ j
+pub same_answer : (i j : ℕ) (o : Option ℕ) → o ≡ Some i → o ≡ Some j → i ≡ j
 same_answer i j o h k = cc
 
 pub get_or-from_get : (ps : List Point) (k : ℕ) (q : Point) → slice_get ps k ≡ Some q → (k < length ps) × ((d : Point) → get_or ps k d ≡ q)

@@ -1,6 +1,6 @@
 -- The walk at a node: its greatest zone, or that it has none.
-use Rattle.std.proofs.Common.{◌≡◌, inl, inr, ℕ, ◌<◌, true, false, sym, ap, subst, ◌∙◌, arith, ◌+◌, ◌-◌, ◌≤◌, List, length}
-use Rattle.std.proofs.Common.{slice_get, Some}
+use Rattle.std.proofs.Common.{◌≡◌, inl, inr, ℕ, ◌<◌, true, false, sym, ap, subst, ◌∙◌, arith, ◌+◌, ◌-◌, List, length}
+use Rattle.std.proofs.Common.{slice_get, refl, Bool, ◌&&◌, not, cond, Some, None}
 use Rattle.std.proofs.Common.{length-set}
 use Rattle.std.proofs.lemmas.Bool.{both_ways}
 use Rattle.game_rules.proofs.Common.{Grid, IsBoard, is_empty, five, lift, place_of, put, stone_of}
@@ -14,15 +14,15 @@ use Rattle.strategy_graph.specs.declared.Node.{Node}
 use Rattle.strategy_graph.specs.declared.Reply.{Reply}
 use Rattle.strategy_graph.specs.declared.Rest.{Rest}
 use Rattle.strategy_graph.specs.declared.Rest.TheVariants.{To}
-use Rattle.strategy_graph.proofs.Common.{Answers, NamesLower, answer, answers_of, names_below}
+use Rattle.strategy_graph.proofs.Common.{Answers, NamesLower, answer, answers_of, names_below, rest_node}
 use Rattle.strategy_graph.proofs.Answering.{answer-below}
 use Rattle.relevance_zone.specs.Zones.{Zone, HasZone, NodeHasZone, Withstands}
 use Rattle.relevance_zone.proofs.ByNode.{zone-to_node, zone-by_node}
 use Rattle.zone_checker.specs.declared.marks.Mark.{Mark}
 use Rattle.zone_checker.specs.declared.walk.Stop.{Stop}
-use Rattle.zone_checker.specs.Pairs.{answer_pairs, pairs}
-use Rattle.zone_checker.specs.Walks.{IsWithstoodBy, Stopped, asked_of}
-use Rattle.zone_checker.proofs.Counting.{pairs-behind, stopped-then}
+use Rattle.zone_checker.specs.Pairs.{HasPairs, AnswersHavePairsBy, asked_rest}
+use Rattle.zone_checker.specs.Walks.{IsWithstoodBy, Stopped, Took, asked_of}
+use Rattle.zone_checker.proofs.Counting.{pairs-by_node, pairs-to_node, stopped-then}
 use Rattle.zone_checker.specs.Marks.{IsEntered, IsGreatest, blank, mark_at, zone_of}
 use Rattle.zone_checker.proofs.Steps.{five-greatest, node-greatest}
 
@@ -49,6 +49,11 @@ module _ (rule : RuleKind) (t : List Node) (lower : NamesLower t) (s : Side) (i 
     | inr w ↦ none w.rest w.named
   ]
 
+  asked-by : is_empty b n.attack ≡ true → (e : Bool) → five rule b s n.attack ≡ e
+      → asked_rest rule s b n ≡ cond (not e) (rest_node n.rest) None
+  asked-by empty e h = ap (λ u. cond (u && not (five rule b s n.attack)) (rest_node n.rest) None) empty
+      ∙ ap (λ u. cond (not u) (rest_node n.rest) None) h
+
   module _ (r : ℕ) (named : n.rest ≡ To r) (quiet : five rule b s n.attack ≡ false) where
     same : answers_of n ≡ record { replies = n.replies; rest = To r }
     same = ap (λ (e : Rest). let a : Answers = record { replies = n.replies; rest = e } in a) named
@@ -69,18 +74,40 @@ module _ (rule : RuleKind) (t : List Node) (lower : NamesLower t) (s : Side) (i 
         (subst (λ a. IsGreatest (Withstands s a (HasZone rule t s) (put b s n.attack)) (put b s n.attack) ms) (sym same) best) size)
 
     -- the board after the attack, on which the answers are asked
-    module _ (c : Grid) (after : c ≡ put b s n.attack) where
-      pub behind-few : answer_pairs t s (asked_of n.replies r) c + 1 ≤ pairs t s i b
-      behind-few = subst (λ (d : Grid). answer_pairs t s (asked_of n.replies r) d + 1 ≤ pairs t s i b) (sym after)
-          (subst (λ (a : Answers). answer_pairs t s a (put b s n.attack) + 1 ≤ pairs t s i b) same (pairs-behind t lower s i b n at))
+    module _ (c : Grid) (after : c ≡ put b s n.attack) (empty : is_empty b n.attack ≡ true) where
+      asked : asked_rest rule s b n ≡ Some r
+      asked = asked-by empty false quiet ∙ ap rest_node named
+
+      -- behind the node there are the pairs behind its answers
+      pub left-took : (left new : ℕ) → 0 < left → Took (AnswersHavePairsBy rule t s (asked_of n.replies r) c) (left - 1) new
+          → Took (HasPairs rule t s i b) left new
+      left-took left new some took =
+          let there = subst (λ (d : Grid). AnswersHavePairsBy rule t s (asked_of n.replies r) d took.pairs) after took.paired in
+          record {
+            pairs = took.pairs + 1;
+            paired = pairs-by_node rule t s lower i b took.pairs (rw (at, asked, same) there);
+            all = omega arith;
+          }
+
+      behind : (m : ℕ) → HasPairs rule t s i b m → (k : ℕ) × AnswersHavePairsBy rule t s (asked_of n.replies r) c k × (m ≡ k + 1)
+      behind m h =
+          let g = pairs-to_node rule t s lower i b m h in
+          let there = rw (at, asked, same) at g.1 in
+          (g.0, subst (λ (d : Grid). AnswersHavePairsBy rule t s (asked_of n.replies r) d g.0) (sym after) there, g.2)
 
       pub left-stopped : (left : ℕ) (stop : Stop) → 0 < left
-          → Stopped (IsWithstoodBy rule t s (asked_of n.replies r) c) (left - 1) (answer_pairs t s (asked_of n.replies r) c) stop
-          → Stopped (HasZone rule t s i b) left (pairs t s i b) stop
+          → Stopped (IsWithstoodBy rule t s (asked_of n.replies r) c) (left - 1) (AnswersHavePairsBy rule t s (asked_of n.replies r) c) stop
+          → Stopped (HasZone rule t s i b) left (HasPairs rule t s i b) stop
       left-stopped left stop some h = stopped-then (IsWithstoodBy rule t s (asked_of n.replies r) c) (HasZone rule t s i b) (left - 1) left
-          (answer_pairs t s (asked_of n.replies r) c) (pairs t s i b) stop
+          (AnswersHavePairsBy rule t s (asked_of n.replies r) c) (HasPairs rule t s i b) stop
           (λ none. replies-fail (subst (λ (d : Grid). (z : Zone) → IsWithstoodBy rule t s (asked_of n.replies r) d z → ⊥) after none))
-          (λ short. let few = behind-few in omega (arith, few, short, some)) h
+          (λ short m g. let few = behind m g in let less = short few.0 few.1 in omega arith) h
+
+  -- an attack that makes a five leaves no pairs behind it
+  pub won-took : five rule b s n.attack ≡ true → is_empty b n.attack ≡ true → (left : ℕ) → 0 < left
+      → Took (HasPairs rule t s i b) left (left - 1)
+  won-took wins empty left some =
+      record { pairs = 1; paired = pairs-by_node rule t s lower i b 0 (rw (at, asked-by empty true wins) refl); all = omega arith }
 
   pub won-greatest : five rule b s n.attack ≡ true → is_empty b n.attack ≡ true → (ms marks : List Mark) → IsEntered b n.attack ms marks
       → ((p : Point) → mark_at b ms p ≡ blank) → length ms ≡ length b.cells → IsGreatest (HasZone rule t s i b) b marks

@@ -1,5 +1,5 @@
 -- What a walk asks, and how it ends.
-use Rattle.std.specs.Prelude.{◌≡◌, ◌⊎◌, ℕ, ◌+◌, ◌≤◌, ◌<◌, true, false, Some, None, List}
+use Rattle.std.specs.Prelude.{◌≡◌, ◌⊎◌, ℕ, ◌+◌, ◌<◌, true, false, Some, None, List}
 use Rattle.game_rules.specs.Grid.{Grid, is_empty}
 use Rattle.game_rules.specs.declared.RuleKind.{RuleKind}
 use Rattle.game_rules.specs.declared.Side.{Side}
@@ -32,14 +32,15 @@ pub record HasToWalk (a : Answers) (b : Grid) (passed : List Mark) (q : Point) (
   pub given : answer a q ≡ Some j
   pub harm : listed_node a.replies q ≡ None → harms b passed q ≡ true
 
--- why a walk found no zone that Has says: there is none, or so many pairs were left where it may have needed n; for want of memory
+-- why a walk found no zone that Has says: there is none, or fewer pairs were left than the number that Paired says; for want of memory
 -- nothing is said
-abbrev pub Stopped : (Zone → Type 0) → ℕ → ℕ → Stop → Type 0
-Stopped Has left n Zoneless = (z : Zone) → ¬ Has z
-Stopped Has left n Spent = left < n
-Stopped Has left n Memory = Unit {0}
+abbrev pub Stopped : (Zone → Type 0) → ℕ → (ℕ → Type 0) → Stop → Type 0
+Stopped Has left Paired Zoneless = (z : Zone) → ¬ Has z
+Stopped Has left Paired Spent = (n : ℕ) → Paired n → left < n
+Stopped Has left Paired Memory = Unit {0}
 
--- of the pairs that were left at most n were looked at
-pub record Took (n old new : ℕ) : Type 0 where
-  pub fewer : new ≤ old
-  pub most : old ≤ new + n
+-- of the pairs that were left the number that Paired says was looked at
+pub record Took (Paired : ℕ → Type 0) (old new : ℕ) : Type 0 where
+  pub pairs : ℕ
+  pub paired : Paired pairs
+  pub all : old ≡ new + pairs

@@ -6,7 +6,7 @@ ghost use Rattle.game_rules.specs.Grid.{points_of};
 ghost use Rattle.game_rules.specs.Play.{IsPosition};
 ghost use Rattle.strategy_graph.specs.Roots.{root_below};
 ghost use Rattle.zone_checker.specs.Marks.{IsGreatest};
-ghost use Rattle.zone_checker.specs.Pairs.{root_pairs};
+ghost use Rattle.zone_checker.specs.Pairs.{RootHasPairs};
 ghost use Rattle.zone_checker.specs.Roots.{attacker as attacker_lem, IsRootZone};
 ghost use Rattle.zone_checker.specs.Verdicts.{IsVerdict};
 ghost use Rattle.zone_checker.specs.Walks.{Stopped, Took};
@@ -25,12 +25,12 @@ pub const MAX_ZONE_MOVES: u32 = 60;
 /// What is said of a root at a position by zones.
 #[derive(Clone, Copy, Debug, PartialEq, Eq)]
 pub enum ZoneVerdict {
-    /// The root is accepted by a zone. It wins within `moves` attacks; `pairs`, at most the work, counts the pairs of a node and a board
-    /// that were looked at, which no clause says.
+    /// The root is accepted by a zone. It wins within `moves` attacks; `pairs`, at most the work, is the number of pairs of a node and a
+    /// board that a walk for zones looks at.
     Accepted { moves: u32, pairs: u64 },
     /// The root is not accepted by a zone.
     Refused,
-    /// More pairs had to be looked at than the work allows, or the table is deeper than `MAX_ZONE_MOVES`.
+    /// The root has more pairs than the work allows, or is deeper than `MAX_ZONE_MOVES`.
     Spent,
 }
 
@@ -51,8 +51,9 @@ fn root_zone<R: Rule>(ground: Ground, root: &Root, walk: &mut Walk) -> Result<Ve
     requires points { ground.points.now ≡ points_of walk.old.board }
     ensures found { let has = IsRootZone R.KIND ground.entry.table.now ground.entry.side root.now walk.old.board in
         MatchResult result (λ marks. IsGreatest has walk.old.board marks.items)
-        (Stopped has walk.old.left (root_pairs ground.entry.table.now ground.entry.side root.now walk.old.board)) }
-    ensures took { Took (root_pairs ground.entry.table.now ground.entry.side root.now walk.old.board) walk.old.left walk.new.left }
+        (Stopped has walk.old.left (RootHasPairs R.KIND ground.entry.table.now ground.entry.side root.now walk.old.board)) }
+    ensures took { let paired = RootHasPairs R.KIND ground.entry.table.now ground.entry.side root.now walk.old.board in
+        IfOk result (λ _. Took paired walk.old.left walk.new.left) }
 {
     match root {
         Root::Attack(number) => node_zone::<R>(ground, *number, walk),

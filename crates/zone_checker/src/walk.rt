@@ -4,13 +4,12 @@
 //! looks at is counted, after a pass too.
 #![tactic(auto)]
 
-ghost use Rattle.std.specs.Prelude.{◌≡◌, ◌<◌, ◌+◌, true, MatchOption, MatchResult, length};
-ghost use Rattle.std.specs.List.{sum_by};
+ghost use Rattle.std.specs.Prelude.{◌≡◌, ◌<◌, ◌+◌, true, IfOk, MatchOption, MatchResult, length};
 ghost use Rattle.game_rules.specs.Grid.{IsBoard, points_of};
 ghost use Rattle.strategy_graph.specs.Tables.{names_below};
 ghost use Rattle.relevance_zone.specs.Zones.{HasZone};
 ghost use Rattle.zone_checker.specs.Marks.{IsGreatest};
-ghost use Rattle.zone_checker.specs.Pairs.{pairs, answer_pairs, reply_pairs};
+ghost use Rattle.zone_checker.specs.Pairs.{AnswersHavePairsBy, ComesTo, HasPairs, ReplyHasPairsBy};
 ghost use Rattle.zone_checker.specs.Replies.{AreReplied, IsReplied};
 ghost use Rattle.zone_checker.specs.Walks.{HasToWalk, IsIdle, IsWithstoodBy, Stopped, Took, asked_of};
 
@@ -62,9 +61,10 @@ pub(crate) fn node_zone<R: Rule>(ground: Ground, i: u32, walk: &mut Walk) -> Res
     requires points { ground.points.now ≡ points_of walk.old.board }
     ensures found { let has = HasZone R.KIND ground.entry.table.now ground.entry.side i walk.old.board in
         MatchResult result (λ marks. IsGreatest has walk.old.board marks.items)
-        (Stopped has walk.old.left (pairs ground.entry.table.now ground.entry.side i walk.old.board)) }
+        (Stopped has walk.old.left (HasPairs R.KIND ground.entry.table.now ground.entry.side i walk.old.board)) }
     ensures same { walk.new.board ≡ walk.old.board }
-    ensures took { Took (pairs ground.entry.table.now ground.entry.side i walk.old.board) walk.old.left walk.new.left }
+    ensures took { let paired = HasPairs R.KIND ground.entry.table.now ground.entry.side i walk.old.board in
+        IfOk result (λ _. Took paired walk.old.left walk.new.left) }
 {
     if walk.left == 0 {
         return Err(Stop::Spent);
@@ -115,11 +115,11 @@ pub(crate) fn withstand<R: Rule>(
         let a = asked_of asked.entry.replies.now asked.entry.rest in
         let has = IsWithstoodBy R.KIND t s a walk.old.board in
         MatchResult result (λ marks. IsGreatest has walk.old.board marks.items)
-        (Stopped has walk.old.left (answer_pairs t s a walk.old.board)) }
+        (Stopped has walk.old.left (AnswersHavePairsBy R.KIND t s a walk.old.board)) }
     ensures same { walk.new.board ≡ walk.old.board }
     ensures took { let t = ground.entry.table.now in let s = ground.entry.side in
         let a = asked_of asked.entry.replies.now asked.entry.rest in
-        Took (answer_pairs t s a walk.old.board) walk.old.left walk.new.left }
+        IfOk result (λ _. Took (AnswersHavePairsBy R.KIND t s a walk.old.board) walk.old.left walk.new.left) }
 {
     let mut marks = match opened(ground.alloc, &walk.board, ground.points, ground.side) {
         Err(_) => return Err(Stop::Memory),
@@ -151,11 +151,12 @@ fn reply_all<R: Rule>(
         MatchResult result
         (λ _. AreReplied s a (HasZone R.KIND t s) walk.old.board passed.now (points_of walk.old.board) marks.old.items marks.new.items)
         (Stopped (IsWithstoodBy R.KIND t s a walk.old.board) walk.old.left
-        (sum_by (reply_pairs t s a walk.old.board) (points_of walk.old.board))) }
+        (ComesTo (ReplyHasPairsBy R.KIND t s a asked.entry.rest walk.old.board) (points_of walk.old.board))) }
     ensures same { walk.new.board ≡ walk.old.board }
     ensures took { let t = ground.entry.table.now in let s = ground.entry.side in
         let a = asked_of asked.entry.replies.now asked.entry.rest in
-        Took (sum_by (reply_pairs t s a walk.old.board) (points_of walk.old.board)) walk.old.left walk.new.left }
+        let paired = ComesTo (ReplyHasPairsBy R.KIND t s a asked.entry.rest walk.old.board) (points_of walk.old.board) in
+        IfOk result (λ _. Took paired walk.old.left walk.new.left) }
 {
     for q in ground.points {
         reply::<R>(ground, asked, passed, *q, marks, walk)?;
@@ -182,11 +183,12 @@ fn reply<R: Rule>(
         let a = asked_of asked.entry.replies.now asked.entry.rest in
         MatchResult result
         (λ _. IsReplied s a (HasZone R.KIND t s) walk.old.board passed.now q marks.old.items marks.new.items)
-        (Stopped (IsWithstoodBy R.KIND t s a walk.old.board) walk.old.left (reply_pairs t s a walk.old.board q)) }
+        (Stopped (IsWithstoodBy R.KIND t s a walk.old.board) walk.old.left
+        (ReplyHasPairsBy R.KIND t s a asked.entry.rest walk.old.board q)) }
     ensures same { walk.new.board ≡ walk.old.board }
     ensures took { let t = ground.entry.table.now in let s = ground.entry.side in
         let a = asked_of asked.entry.replies.now asked.entry.rest in
-        Took (reply_pairs t s a walk.old.board q) walk.old.left walk.new.left }
+        IfOk result (λ _. Took (ReplyHasPairsBy R.KIND t s a asked.entry.rest walk.old.board q) walk.old.left walk.new.left) }
 {
     let Some(next) = to_walk(&walk.board, asked, passed, q) else {
         return Ok(());

@@ -10,32 +10,24 @@ use Rattle.relevance_zone.specs.Zones.{HasZone}
 use Rattle.zone_checker.specs.Marks.{AreCovered, IsEntered, IsGreatest, kept_back}
 use Rattle.zone_checker.specs.declared.marks.Mark.{Mark}
 use Rattle.zone_checker.specs.Walks.{IsWithstoodBy, asked_of}
-use Rattle.zone_checker.proofs.Counting.{pairs-some, took-pair, took-behind, stopped-then, taken-more, taken-all}
-use Rattle.zone_checker.proofs.Counting.{taken-short, taken-stopped}
-use Rattle.zone_checker.proofs.Replying.{reply-idle, reply-found, reply-took, reply-stopped, replied-more, replied-all}
+use Rattle.zone_checker.proofs.Counting.{answers-short, answers-took, pairs-some, replies-one, stopped-then, taken-all, taken-more}
+use Rattle.zone_checker.proofs.Counting.{taken-short}
+use Rattle.zone_checker.proofs.Replying.{idle-took, reply-idle, reply-found, reply-took, reply-stopped, replied-more, replied-all}
 use Rattle.zone_checker.proofs.Steps.{four-fails, replies-greatest}
-use Rattle.zone_checker.proofs.Walking.{taken-fails, restless-fails, left-greatest, left-stopped, behind-few, won-greatest, asked-below}
-use Rattle.zone_checker.proofs.Walking.{answer-lower, lifted-same, stone-there, same_size}
+use Rattle.zone_checker.proofs.Walking.{taken-fails, restless-fails, left-greatest, left-stopped, left-took, won-greatest, won-took}
+use Rattle.zone_checker.proofs.Walking.{answer-lower, asked-below, lifted-same, stone-there, same_size}
 use Rattle.zone_checker.proofs.walk.+zones.Goals as goal
 
 -- ---- a node
 
 pub node_zone-returns-then-walk-eq0-clause-found : goal.node_zone-returns-then-walk-eq0-clause-found
-node_zone-returns-then-walk-eq0-clause-found g t c =
-    let some = pairs-some c.args.ground.table.now c.args.ground.side c.args.i c.args.walk.now.board in omega (arith, some)
+node_zone-returns-then-walk-eq0-clause-found g t c = λ n h.
+    let some = pairs-some g.R.Rule.KIND c.args.ground.table.now c.args.ground.side c.args.i c.args.walk.now.board n h in omega arith
 
 pub node_zone-returns-then-not-is_empty-clause-found : goal.node_zone-returns-then-not-is_empty-clause-found
 node_zone-returns-then-not-is_empty-clause-found g t c = λ z h.
     taken-fails g.R.Rule.KIND _ (IsTable-lower _ c.node-node.ensures.table) _ c.args.i
     c.args.walk.now.board c.node-node.result.now c.node-node.ensures.node (sym c.is_empty.ensures.empty ∙ c.if-not-is_empty.true) z h
-
-pub node_zone-returns-then-not-is_empty-clause-took : goal.node_zone-returns-then-not-is_empty-clause-took
-node_zone-returns-then-not-is_empty-clause-took g t c =
-    took-pair c.args.ground.table.now c.args.ground.side c.args.i c.args.walk.now.board c.args.walk.now.left (omega arith)
-
-pub node_zone-returns-in_default-clause-took : goal.node_zone-returns-in_default-clause-took
-node_zone-returns-in_default-clause-took g t c =
-    took-pair c.args.ground.table.now c.args.ground.side c.args.i c.args.walk.now.board c.args.walk.now.left (omega arith)
 
 pub node_zone-returns-then-is_five_point-clause-found : goal.node_zone-returns-then-is_five_point-clause-found
 node_zone-returns-then-is_five_point-clause-found g t c =
@@ -46,7 +38,9 @@ node_zone-returns-then-is_five_point-clause-found g t c =
 
 pub node_zone-returns-then-is_five_point-clause-took : goal.node_zone-returns-then-is_five_point-clause-took
 node_zone-returns-then-is_five_point-clause-took g t c =
-    took-pair c.args.ground.table.now c.args.ground.side c.args.i c.args.walk.now.board c.args.walk.now.left (omega arith)
+    won-took g.R.Rule.KIND _ (IsTable-lower _ c.node-node.ensures.table) _ c.args.i
+    c.args.walk.now.board c.node-node.result.now c.node-node.ensures.node (sym c.is_five_point.ensures.five ∙ c.if-is_five_point.true)
+    (sym c.is_empty.ensures.empty ∙ c.if-not-is_empty.false) c.args.walk.now.left (omega arith)
 
 pub node_zone-returns-in_default-rest : goal.node_zone-returns-in_default-rest
 node_zone-returns-in_default-rest g t c = record {
@@ -54,7 +48,7 @@ node_zone-returns-in_default-rest g t c = record {
       c.args.walk.now.board c.node-node.result.now c.node-node.ensures.node (sym c.is_five_point.ensures.five ∙ c.if-is_five_point.false)
       c.in_default-rest.not-To;
   same = refl;
-  took = took-pair c.args.ground.table.now c.args.ground.side c.args.i c.args.walk.now.board c.args.walk.now.left (omega arith);
+  took = tt;
 }
 
 pub node_zone-withstand-withstood-requires : goal.node_zone-withstand-withstood-requires
@@ -84,26 +78,17 @@ node_zone-returns-in-Err-clause-same g t c =
 
 pub node_zone-returns-in-Ok-withstood-clause-took : goal.node_zone-returns-in-Ok-withstood-clause-took
 node_zone-returns-in-Ok-withstood-clause-took g t c =
-    took-behind _ _ c.args.walk.now.left _
-    (behind-few g.R.Rule.KIND _ (IsTable-lower _ c.node-node.ensures.table) _ c.args.i
+    left-took g.R.Rule.KIND _ (IsTable-lower _ c.node-node.ensures.table) _ c.args.i
     c.args.walk.now.board c.node-node.result.now c.node-node.ensures.node c.in-To.rest c.in-To.is
-    (sym c.is_five_point.ensures.five ∙ c.if-is_five_point.false) c.put.new.self c.put.ensures.put) (omega arith)
-    c.withstand-withstood.ensures.took
-
-pub node_zone-returns-in-Err-clause-took : goal.node_zone-returns-in-Err-clause-took
-node_zone-returns-in-Err-clause-took g t c =
-    took-behind _ _ c.args.walk.now.left _
-    (behind-few g.R.Rule.KIND _ (IsTable-lower _ c.node-node.ensures.table) _ c.args.i
-    c.args.walk.now.board c.node-node.result.now c.node-node.ensures.node c.in-To.rest c.in-To.is
-    (sym c.is_five_point.ensures.five ∙ c.if-is_five_point.false) c.put.new.self c.put.ensures.put) (omega arith)
-    c.withstand-withstood.ensures.took
+    (sym c.is_five_point.ensures.five ∙ c.if-is_five_point.false) c.put.new.self c.put.ensures.put
+    (sym c.is_empty.ensures.empty ∙ c.if-not-is_empty.false) c.args.walk.now.left _ (omega arith) c.in-Ok-withstood.ensures.took
 
 pub node_zone-returns-in-Err-clause-found : goal.node_zone-returns-in-Err-clause-found
 node_zone-returns-in-Err-clause-found g t c =
     left-stopped g.R.Rule.KIND _ (IsTable-lower _ c.node-node.ensures.table) _ c.args.i
     c.args.walk.now.board c.node-node.result.now c.node-node.ensures.node c.in-To.rest c.in-To.is
-    (sym c.is_five_point.ensures.five ∙ c.if-is_five_point.false) c.put.new.self c.put.ensures.put c.args.walk.now.left c.in-Err.stop
-    (omega arith) c.in-Err.ensures.found
+    (sym c.is_five_point.ensures.five ∙ c.if-is_five_point.false) c.put.new.self c.put.ensures.put
+    (sym c.is_empty.ensures.empty ∙ c.if-not-is_empty.false) c.args.walk.now.left c.in-Err.stop (omega arith) c.in-Err.ensures.found
 
 pub node_zone-returns-in-Ok-withstood-clause-found : goal.node_zone-returns-in-Ok-withstood-clause-found
 node_zone-returns-in-Ok-withstood-clause-found g t c =
@@ -126,6 +111,9 @@ node_zone-returns-in-Ok-withstood-clause-found g t c =
 
 pub reply-returns-in_default-clause-replied : goal.reply-returns-in_default-clause-replied
 reply-returns-in_default-clause-replied g t c = reply-idle _ _ _ _ _ _ _ c.requires.passed c.args.q _ c.in_default.ensures.walked
+
+pub reply-returns-in_default-clause-took : goal.reply-returns-in_default-clause-took
+reply-returns-in_default-clause-took g t c = idle-took _ _ _ _ _ _ _ c.requires.passed c.args.q c.in_default.ensures.walked _
 
 pub reply-node_zone-found-requires : goal.reply-node_zone-found-requires
 reply-node_zone-found-requires g t c =
@@ -157,15 +145,10 @@ reply-returns-in-Ok-clause-same g t c =
     lifted-same c.args.walk.now.board _ _ c.other.result c.args.q c.in-Some.ensures.walked.empty c.put.ensures.put
     c.node_zone-found.ensures.same _ c.lift.ensures.lift
 
-pub reply-returns-in-Err-clause-took : goal.reply-returns-in-Err-clause-took
-reply-returns-in-Err-clause-took g t c =
-    reply-took _ _ _ _ _ _ _ c.requires.passed c.args.q c.in-Some.next c.in-Some.ensures.walked c.put.new.self
-    (c.put.ensures.put ∙ ap (λ (s : Side). put c.args.walk.now.board s c.args.q) c.other.ensures.other) _ _ c.node_zone-found.ensures.took
-
 pub reply-returns-in-Ok-clause-took : goal.reply-returns-in-Ok-clause-took
 reply-returns-in-Ok-clause-took g t c =
     reply-took _ _ _ _ _ _ _ c.requires.passed c.args.q c.in-Some.next c.in-Some.ensures.walked c.put.new.self
-    (c.put.ensures.put ∙ ap (λ (s : Side). put c.args.walk.now.board s c.args.q) c.other.ensures.other) _ _ c.node_zone-found.ensures.took
+    (c.put.ensures.put ∙ ap (λ (s : Side). put c.args.walk.now.board s c.args.q) c.other.ensures.other) _ _ c.in-Ok.ensures.took
 
 pub reply-returns-in-Ok-clause-replied : goal.reply-returns-in-Ok-clause-replied
 reply-returns-in-Ok-clause-replied g t c =
@@ -192,7 +175,7 @@ reply_all-loop-q-preserved g t c =
     record {
       board = c.reply.ensures.same ∙ c.loop-q.invariant.board;
       taken = taken-more _ c.args.ground.points.now c.loop-q.q-index _ _ _ _ c.loop-q-test.true here c.loop-q.invariant.taken
-          (rw c.loop-q.invariant.board at c.reply.ensures.took);
+          (rw c.loop-q.invariant.board at c.in_ok-reply.ensures.took);
       replied = replied-more _ _ _ _ _ c.args.ground.points.now c.loop-q.q-index _ _ _ _ c.loop-q.invariant.replied here
           (rw c.loop-q.invariant.board at c.in_ok-reply.ensures.replied);
     }
@@ -203,21 +186,18 @@ reply_all-returns-clause-replied g t c =
     replied-all _ _ _ _ _ c.args.ground.points.now _ _ c.requires.points (rw all at c.loop-q.invariant.replied)
 
 pub reply_all-returns-clause-took : goal.reply_all-returns-clause-took
-reply_all-returns-clause-took g t c = taken-all _ c.args.ground.points.now _ c.loop-q.q-index _ _ c.requires.points c.loop-q.invariant.taken
+reply_all-returns-clause-took g t c =
+    taken-all _ c.args.ground.points.now _ c.requires.points c.loop-q.q-index _ _ (omega arith) c.loop-q.invariant.taken
 
 pub reply_all-returns-in_err-reply-clause-replied : goal.reply_all-returns-in_err-reply-clause-replied
 reply_all-returns-in_err-reply-clause-replied g t c =
     let here = next-point c.args.ground.points.now c.loop-q.q-index c.loop-q-test.true in
     let p = err_from_is_err_and c.from_residual.result c.from_residual.ensures.1 in
     rw (p.1, p.2) (stopped-then _ _ c.loop-q.walk.left c.args.walk.now.left _ _ c.in_err-reply.field-0.0 (λ none. none)
-    (taken-short _ c.args.ground.points.now _ c.loop-q.q-index _ _ _ c.requires.points c.loop-q-test.true here c.loop-q.invariant.taken)
+    (taken-short _ c.args.ground.points.now _ c.requires.points
+    (replies-one _ _ _ (asked_of c.args.asked.replies.now c.args.asked.rest) _ _) c.loop-q.q-index _ _ _ c.loop-q-test.true here
+    c.loop-q.invariant.taken)
     (rw c.loop-q.invariant.board at c.in_err-reply.ensures.replied))
-
-pub reply_all-returns-in_err-reply-clause-took : goal.reply_all-returns-in_err-reply-clause-took
-reply_all-returns-in_err-reply-clause-took g t c =
-    taken-stopped _ c.args.ground.points.now _ c.loop-q.q-index _ _ _ _ c.requires.points c.loop-q-test.true
-    (next-point c.args.ground.points.now c.loop-q.q-index c.loop-q-test.true) c.loop-q.invariant.taken
-    (rw c.loop-q.invariant.board at c.reply.ensures.took)
 
 -- ---- the answers of a node
 
@@ -237,7 +217,10 @@ withstand-returns-clause-found g t c =
 
 pub withstand-returns-in_err-reply_all-clause-found : goal.withstand-returns-in_err-reply_all-clause-found
 withstand-returns-in_err-reply_all-clause-found g t c =
-    let took = c.node_zone.ensures.took.most in
     let p = err_from_is_err_and c.from_residual-in_err-reply_all.result c.from_residual-in_err-reply_all.ensures.1 in
     rw (p.1, p.2) (stopped-then _ _ c.node_zone.new.walk.left c.args.walk.now.left _ _ c.in_err-reply_all.field-0.0 (λ none. none)
-    (λ short. omega (arith, took, short)) (rw c.node_zone.ensures.same at c.in_err-reply_all.ensures.replied))
+    (answers-short _ _ _ _ _ _ _ _ c.in_ok-passed.ensures.took) (rw c.node_zone.ensures.same at c.in_err-reply_all.ensures.replied))
+
+pub withstand-returns-clause-took : goal.withstand-returns-clause-took
+withstand-returns-clause-took g t c =
+    answers-took _ _ _ _ _ _ _ _ c.in_ok-passed.ensures.took _ (rw c.node_zone.ensures.same at c.in_ok-reply_all.ensures.took)

@@ -1,7 +1,6 @@
 use Rattle.std.proofs.Common.{◌≡◌, ◌+◌, ◌*◌, take}
-use Rattle.std.specs.List.{sum_by}
 use Rattle.relevance_zone.specs.Zones.{HasZone}
-use Rattle.zone_checker.specs.Pairs.{reply_pairs}
+use Rattle.zone_checker.specs.Pairs.{ComesTo, ReplyHasPairsBy}
 use Rattle.zone_checker.specs.Walks.{Took, asked_of}
 use Rattle.zone_checker.proofs.Replying.{RepliedTo}
 use Rattle.zone_checker.proofs.walk.+zones.Given as goal
@@ -21,8 +20,8 @@ decreases-reply g l = 4 * l.asked.bound
 abbrev pub invariant-reply_all-loop-q : goal.invariant-reply_all-loop-q
 invariant-reply_all-loop-q g l = record {
   board : l.walk.board ≡ l.fn.walk.board;
-  taken : Took (sum_by (reply_pairs l.ground.table.now l.ground.side (asked_of l.asked.replies.now l.asked.rest) l.fn.walk.board)
-      (take l.q-index l.ground.points.now)) l.fn.walk.left l.walk.left;
+  taken : Took (ComesTo (ReplyHasPairsBy g.R.Rule.KIND l.ground.table.now l.ground.side (asked_of l.asked.replies.now l.asked.rest)
+      l.asked.rest l.fn.walk.board) (take l.q-index l.ground.points.now)) l.fn.walk.left l.walk.left;
   replied : RepliedTo l.ground.side (asked_of l.asked.replies.now l.asked.rest)
       (HasZone g.R.Rule.KIND l.ground.table.now l.ground.side) l.fn.walk.board l.passed l.ground.points.now l.q-index l.fn.marks.items
       l.marks.items;
