@@ -9,7 +9,7 @@ ghost use Rattle.quiet_search.specs.Trees.{IsSmall};
 
 use crate::finder::{Finder, Width};
 use crate::known::Memory;
-use crate::notes::Note;
+use crate::notes::Notes;
 use crate::steps::Ended;
 use crate::tree_growth::lone_leaf;
 use crate::zones::Zones;
@@ -17,7 +17,6 @@ use foul_judge::{Position, Seen};
 use proof_tree::ProofTree;
 use row_shapes::Rule;
 use std::alloc::{AllocError, Global};
-use stone_board::Point;
 use strategy_compiler::{Compiler, SearchError};
 
 /// So many rounds are searched at most.
@@ -86,8 +85,6 @@ impl<R: Rule> Finder<R> {
         let root = position.copy()?;
         let attacker = root.side();
         let size = root.board().cells().len();
-        let mut notes = Vec::new(alloc);
-        notes.push(Note::open(Point { x: 0, y: 0 }, None))?;
         Ok(Finder {
             alloc,
             root,
@@ -100,9 +97,7 @@ impl<R: Rule> Finder<R> {
             },
             memory: Memory::new(alloc)?,
             zones: Zones::new(alloc, attacker, size)?,
-            notes,
-            answers: Vec::new(alloc),
-            quiet: Vec::new(alloc),
+            notes: Notes::new(alloc)?,
         })
     }
 
@@ -132,9 +127,7 @@ impl<R: Rule> Finder<R> {
 
     /// Begins the next round: the tree's notes are those of one leaf again, and the width grows. What was won stays remembered.
     fn widen(&mut self) -> Result<(), AllocError> {
-        self.notes.truncate(0);
-        self.notes.push(Note::open(Point { x: 0, y: 0 }, None))?;
-        self.answers.truncate(0);
+        self.notes.begin()?;
         self.width = Width {
             round: self.width.round.saturating_add(1),
             pass: self.width.pass.saturating_mul(MORE_PASS),

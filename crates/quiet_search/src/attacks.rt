@@ -111,7 +111,7 @@ impl<R: Rule> Finder<R> {
         hint: Option<u32>,
     ) -> Option<Point> {
         let node = hint?;
-        if !self.is_quiet(node) || view.has_five(self.attacker.other()) {
+        if !self.notes.is_quiet(node) || view.has_five(self.attacker.other()) {
             return None;
         }
         let p = attack_of(compiler, node)?;

@@ -5,9 +5,7 @@ ghost use Rattle.std.specs.Prelude.{◌≡◌, nat_lt};
 ghost use Rattle.std.specs.List.{list_all};
 ghost use Rattle.quiet_search.specs.Trees.{IsSmall};
 
-use crate::MOST_ANSWERS;
 use crate::finder::Finder;
-use crate::notes::Note;
 use crate::steps::{Place, Step};
 use crate::tree_growth::{link_of, numbers_of, settle_leaf};
 use foul_judge::Seen;
@@ -98,26 +96,6 @@ impl<R: Rule> Finder<R> {
         Step::Done
     }
 
-    /// Whether so many answers more are to be kept.
-    pub(crate) fn has_room(&self, more: usize) -> bool {
-        self.answers.len().saturating_add(more) <= MOST_ANSWERS
-    }
-
-    /// Notes the rest at a node of the defender, and the answers to the replies that get no node.
-    pub(crate) fn write_rest(
-        &mut self,
-        leaf: u32,
-        rest: u32,
-        answers: &[Reply],
-    ) -> Result<(), AllocError> {
-        let note = self
-            .note(leaf)
-            .with_rest(rest, self.answers.len(), answers.len());
-        self.answers.extend_from_slice(answers)?;
-        self.write(leaf, note);
-        Ok(())
-    }
-
     /// Compiles and remembers what is settled on the way up.
     pub(crate) fn go_up(
         &mut self,
@@ -133,7 +111,7 @@ impl<R: Rule> Finder<R> {
             }
             let link = link_of(tree, node);
             let won = numbers.proof == 0;
-            if won && self.note(node).win.is_none() {
+            if won && self.notes.note(node).win.is_none() {
                 self.close(tree, compiler, node, link)?;
             }
             if let Kind::Attack = link.kind {
@@ -151,7 +129,7 @@ impl<R: Rule> Finder<R> {
         let round = self.width.round;
         let win = match way {
             [] => None,
-            [first, ..] => self.note(*first).win,
+            [first, ..] => self.notes.note(*first).win,
         };
         match win {
             Some(node) => self.memory.keep_won(view.board(), node),
@@ -169,23 +147,13 @@ impl<R: Rule> Finder<R> {
         link: Link,
     ) -> Result<(), SearchError> {
         let win = match link.kind {
-            Kind::Attack => self.win_of_child(tree, link),
+            Kind::Attack => self.notes.win_of_child(tree, link),
             Kind::Defend => self.close_defence(compiler, i, link)?,
         };
         if let Some(node) = win {
-            self.write_win(i, node);
+            self.notes.write_win(i, node);
         }
         Ok(())
-    }
-
-    /// The win of the first proved child.
-    fn win_of_child(&self, tree: &ProofTree, link: Link) -> Option<u32> {
-        for k in link.first..link.first.saturating_add(link.count) {
-            if numbers_of(tree, k).proof == 0 {
-                return self.note(k).win;
-            }
-        }
-        None
     }
 
     /// The attack that leads to a proved node of the defender, with the answers that were found at once and those of its children.
@@ -195,33 +163,15 @@ impl<R: Rule> Finder<R> {
         i: u32,
         link: Link,
     ) -> Result<Option<u32>, SearchError> {
-        let note = self.note(i);
+        let note = self.notes.note(i);
         let Some(rest) = note.rest else {
             return Ok(None);
         };
-        let answers = self.all_answers(note, link)?;
+        let answers = self.notes.all_answers(note, link)?;
         let node = self.compile(compiler, note.at, rest, answers.as_slice())?;
         if let Some(number) = node {
-            self.mark_quiet(number)?;
+            self.notes.mark_quiet(number)?;
         }
         Ok(node)
-    }
-
-    /// The answers that were found at once, and the wins of the children.
-    fn all_answers(&self, note: Note, link: Link) -> Result<Vec<Reply>, AllocError> {
-        let mut answers = Vec::new(self.alloc);
-        for k in note.first..note.first.saturating_add(note.count) {
-            let place = k as usize;
-            if place < self.answers.len() {
-                answers.push(self.answers[place])?;
-            }
-        }
-        for k in link.first..link.first.saturating_add(link.count) {
-            let child = self.note(k);
-            if let Some(next) = child.win {
-                answers.push(Reply { at: child.at, next })?;
-            }
-        }
-        Ok(answers)
     }
 }

@@ -78,7 +78,7 @@ impl<R: Rule> Finder<R> {
         ensures small { OnOk result (IsSmall tree.new place.most) }
     {
         let children = Children::one(self.alloc, BLOCK, block)?;
-        self.write_rest(place.leaf, rest, &[])?;
+        self.notes.write_rest(place.leaf, rest, &[])?;
         self.expand(tree, &children, place.most)
     }
 

@@ -2,7 +2,7 @@
 #![tactic(auto)]
 
 use crate::known::{Known, Memory};
-use crate::notes::Note;
+use crate::notes::Notes;
 use crate::zones::Zones;
 use foul_judge::{Outcome, Position, Seen};
 use four_search::{FourAnswer, finds_fours, four_search};
@@ -12,7 +12,7 @@ use row_shapes::Rule;
 use std::alloc::{AllocError, Global};
 use stone_board::{Board, Point, Side};
 use strategy_compiler::{Compiler, SearchError};
-use strategy_graph::{Node, Reply, answer_among};
+use strategy_graph::{Node, answer_among};
 
 /// So many positions are looked at for fours at one position.
 const FOUR_POSITIONS: u64 = 200;
@@ -78,11 +78,7 @@ pub(crate) struct Finder<R: Rule> {
     pub(crate) width: Width,
     pub(crate) memory: Memory,
     pub(crate) zones: Zones<R>,
-    pub(crate) notes: Vec<Note>,
-    /// The answers to replies that got no node, of all nodes of the tree.
-    pub(crate) answers: Vec<Reply>,
-    /// Which nodes of the compiler play a quiet move.
-    pub(crate) quiet: Vec<bool>,
+    pub(crate) notes: Notes,
 }
 
 /// The nodes of the compiler.
@@ -153,54 +149,6 @@ pub(crate) fn after_move<R: Rule>(
 }
 
 impl<R: Rule> Finder<R> {
-    /// The note of node `i` of the tree.
-    pub(crate) fn note(&self, i: u32) -> Note {
-        let place = i as usize;
-        if place < self.notes.len() {
-            self.notes[place]
-        } else {
-            Note::open(Point { x: 0, y: 0 }, None)
-        }
-    }
-
-    /// Writes the note of node `i` of the tree.
-    pub(crate) fn write(&mut self, i: u32, note: Note) {
-        let place = i as usize;
-        if place < self.notes.len() {
-            self.notes[place] = note;
-        }
-    }
-
-    /// Notes the node that wins at node `i` of the tree.
-    pub(crate) fn write_win(&mut self, i: u32, node: u32) {
-        let note = self.note(i);
-        self.write(
-            i,
-            Note {
-                win: Some(node),
-                ..note
-            },
-        );
-    }
-
-    /// Whether a node of the compiler is known to play a quiet move.
-    pub(crate) fn is_quiet(&self, node: u32) -> bool {
-        let place = node as usize;
-        place < self.quiet.len() && self.quiet[place]
-    }
-
-    /// Marks a node of the compiler as one that plays a quiet move.
-    pub(crate) fn mark_quiet(&mut self, node: u32) -> Result<(), AllocError> {
-        let place = node as usize;
-        if place >= self.quiet.len() {
-            self.quiet.resize(place.saturating_add(1), false)?;
-        }
-        if place < self.quiet.len() {
-            self.quiet[place] = true;
-        }
-        Ok(())
-    }
-
     /// The number of the zone of a node of the compiler at a board where the attacker is to move, if it has one.
     pub(crate) fn zone_at(
         &mut self,

@@ -234,14 +234,15 @@ impl<R: Rule> Finder<R> {
         if met.children.is_empty() {
             let node = self.compile(compiler, place.at, met.rest, met.answers.as_slice())?;
             if let Some(number) = node {
-                self.mark_quiet(number)?;
+                self.notes.mark_quiet(number)?;
             }
             return Ok(self.settle_by(tree, place, node));
         }
-        if !self.has_room(met.answers.len()) {
+        if !self.notes.has_room(met.answers.len()) {
             return Ok(Step::Spent);
         }
-        self.write_rest(place.leaf, met.rest, met.answers.as_slice())?;
+        self.notes
+            .write_rest(place.leaf, met.rest, met.answers.as_slice())?;
         self.expand(tree, &met.children, place.most)
     }
 }

@@ -121,7 +121,7 @@ impl<R: Rule> Finder<R> {
     /// What a settled root says.
     fn decided(&self, tree: &ProofTree) -> Ended {
         if numbers_of(tree, 0).proof == 0 {
-            Ended::Proved(self.note(0).win)
+            Ended::Proved(self.notes.note(0).win)
         } else {
             Ended::Disproved
         }
@@ -150,7 +150,7 @@ impl<R: Rule> Finder<R> {
     fn place_of(&self, leaf: u32, nodes: usize, most: u32) -> Place
         ensures most { result.most ≡ most }
     {
-        let note = self.note(leaf);
+        let note = self.notes.note(leaf);
         let moved = u32::try_from(nodes / 2).unwrap_or(u32::MAX);
         Place {
             leaf,
@@ -212,7 +212,7 @@ impl<R: Rule> Finder<R> {
     fn plays_down(&self, view: &mut Position<R>, way: &[u32]) -> bool {
         for k in 0..way.len() {
             let i = way[way.len() - 1 - k];
-            if i != 0 && !plays::<R>(view, self.note(i).at) {
+            if i != 0 && !plays::<R>(view, self.notes.note(i).at) {
                 return false;
             }
         }
@@ -224,7 +224,7 @@ impl<R: Rule> Finder<R> {
         requires small { IsSmall tree.old place.most }
         ensures small { IsSmall tree.new place.most }
     {
-        self.write_win(place.leaf, node);
+        self.notes.write_win(place.leaf, node);
         settle_leaf(tree, true, place.most);
     }
 
@@ -245,7 +245,7 @@ impl<R: Rule> Finder<R> {
         if !grow_leaf(tree, children.numbers.as_slice(), most)? {
             return Ok(Step::Spent);
         }
-        self.notes.extend_from_slice(children.notes.as_slice())?;
+        self.notes.add(children.notes.as_slice())?;
         Ok(Step::Done)
     }
 }
