@@ -1,6 +1,7 @@
 -- The pairs of a walk: they go by the nodes that are named, there is one number of them, and what was taken of those that were left.
 use Rattle.std.proofs.Common.{◌≡◌, inl, inr, ℕ, zero, suc, ◌+◌, ◌<◌, Bool, true, false, ◌&&◌, not, cond, List, [], ◌∷◌, ◌++◌, Option, Some}
 use Rattle.std.proofs.Common.{None, slice_get, refl, sym, ap, subst, ◌∙◌, arith, ◌≤◌, length, take, drop, get_or}
+use Rattle.std.specs.Option.{option_or}
 use Rattle.std.proofs.lemmas.List.{drop_more, take-append-drop, take_all, take_more}
 use Rattle.game_rules.proofs.Common.{Grid, five, is_empty, other, points_of, put}
 use Rattle.game_rules.specs.declared.RuleKind.{RuleKind}
@@ -8,7 +9,9 @@ use Rattle.game_rules.specs.declared.Side.{Side}
 use Rattle.game_rules.specs.declared.Point.{Point}
 use Rattle.strategy_graph.specs.declared.Node.{Node}
 use Rattle.strategy_graph.specs.declared.Reply.{Reply}
-use Rattle.strategy_graph.proofs.Common.{Answers, NamesLower, answer, answers_of, names_below, rest_node}
+use Rattle.strategy_graph.specs.declared.roots.Root.{Root}
+use Rattle.strategy_graph.specs.declared.roots.Root.TheVariants.{Attack, Defend}
+use Rattle.strategy_graph.proofs.Common.{Answers, NamesLower, answer, answers_of, listed_node, names_below, rest_node}
 use Rattle.strategy_graph.proofs.Answering.{answer-below}
 use Rattle.strategy_graph.proofs.Naming.{rest-below}
 use Rattle.relevance_zone.specs.Zones.{Zone, HasZone}
@@ -16,7 +19,7 @@ use Rattle.zone_checker.specs.Walks.{Stopped, Took, asked_of}
 use Rattle.zone_checker.specs.declared.walk.Stop.{Stop}
 use Rattle.zone_checker.specs.declared.walk.Stop.TheVariants.{Zoneless, Spent, Memory}
 use Rattle.zone_checker.specs.Pairs.{AnswersHavePairs, AnswersHavePairsBy, ComesTo, HasPairs, NodeHasPairs, ReplyHasPairs}
-use Rattle.zone_checker.specs.Pairs.{ReplyHasPairsBy, asked_rest}
+use Rattle.zone_checker.specs.Pairs.{ReplyHasPairsBy, RootHasPairs, asked_rest}
 unfoldable use Rattle.zone_checker.specs.Pairs.{HasPairsWithin}
 use Rattle.zone_checker.proofs.Steps.{same_answer}
 
@@ -42,6 +45,11 @@ module _ (Has : Point → ℕ → Type 0) where
       let first = one p h.0 g.0 h.2 g.2 in
       let others = comes-same one ps h.1 g.1 h.3 g.3 in
       omega arith
+
+  -- and to some, where each has one
+  comes-some : ((p : Point) → ((n : ℕ) → Has p n → ⊥) → ⊥) → (ps : List Point) → ((n : ℕ) → ComesTo Has ps n → ⊥) → ⊥
+  comes-some some [] none = none 0 refl
+  comes-some some (p ∷ ps) none = some p (λ k has. comes-some some ps (λ m others. none (k + m) (k, m, has, others, refl)))
 
 comes-also : (Has Also : Point → ℕ → Type 0) → ((p : Point) (n : ℕ) → Has p n → Also p n) → (ps : List Point) (n : ℕ) → ComesTo Has ps n
     → ComesTo Also ps n
@@ -155,6 +163,45 @@ module _ (rule : RuleKind) (t : List Node) (s : Side) where
   pub replies-one : (a : Answers) (r : ℕ) (b : Grid) (q : Point) (n m : ℕ)
       → ReplyHasPairsBy rule t s a r b q n → ReplyHasPairsBy rule t s a r b q m → n ≡ m
   replies-one a r b q = reply-one rule s (HasZone rule t s) (HasPairs rule t s) pairs-one a r b q
+
+  pub roots-one : (r : Root) (b : Grid) (n m : ℕ) → RootHasPairs rule t s r b n → RootHasPairs rule t s r b m → n ≡ m
+  roots-one (Attack i) = pairs-one i
+  roots-one (Defend a) = answers-one rule s (HasZone rule t s) (HasPairs rule t s) pairs-one (rest_node a.rest) a
+
+-- ---- and there is one
+
+module _ (rule : RuleKind) (s : Side) (Zoned : ℕ → Grid → Zone → Type 0) (Paired : ℕ → Grid → ℕ → Type 0)
+    (some : (j : ℕ) (b : Grid) → ((n : ℕ) → Paired j b n → ⊥) → ⊥) where
+  answers-some : (o : Option ℕ) (a : Answers) → ((j : ℕ) → o ≡ Some j → rest_node a.rest ≡ Some j) → (b : Grid)
+      → ((n : ℕ) → AnswersHavePairs o s a Zoned Paired b n → ⊥) → ⊥
+  answers-some None a named b none = none 0 refl
+  answers-some (Some r) a named b none = some r b (λ k passed. comes-some (ReplyHasPairs s a Zoned Paired r b) replied _
+      (λ m others. none (k + m) (k, m, passed, others, refl)))
+    where
+      answered : (o : Option ℕ) → (j : ℕ) × (option_or o (rest_node a.rest) ≡ Some j)
+      answered None = (r, named r refl)
+      answered (Some j) = (j, refl)
+
+      replied : (q : Point) → ((n : ℕ) → ReplyHasPairs s a Zoned Paired r b q n → ⊥) → ⊥
+      replied q none =
+          let by = answered (listed_node a.replies q) in
+          some by.0 (put b (other s) q) (λ n paired. none n (inr (by.0, by.1, λ idle. none 0 (inl (idle, refl)), paired)))
+
+  node-some : (o : Option Node) (b : Grid) → ((n : ℕ) → NodeHasPairs rule s o Zoned Paired b n → ⊥) → ⊥
+  node-some None b none = none 0 refl
+  node-some (Some d) b none = answers-some (asked_rest rule s b d) (answers_of d) (asked-named rule s b d) _ none
+
+module _ (rule : RuleKind) (t : List Node) (s : Side) where
+  within-some : (f i : ℕ) (b : Grid) → ((n : ℕ) → HasPairsWithin f rule t s i b n → ⊥) → ⊥
+  unfolding HasPairsWithin
+  within-some zero i b none = none 0 refl
+  within-some (suc f) i b none = node-some rule s (HasZone rule t s) (HasPairsWithin f rule t s) (within-some f) (slice_get t i) b
+      (λ m behind. none (m + 1) (m, behind, refl))
+
+  pub roots-some : (r : Root) (b : Grid) → ((n : ℕ) → RootHasPairs rule t s r b n → ⊥) → ⊥
+  roots-some (Attack i) = within-some (suc i) i
+  roots-some (Defend a) =
+      answers-some rule s (HasZone rule t s) (HasPairs rule t s) (λ i. within-some (suc i) i) (rest_node a.rest) a (λ j named. named)
 
 -- ---- a stop that is handed on
 

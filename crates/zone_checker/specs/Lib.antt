@@ -4,3 +4,4 @@ pub mod Pairs
 pub mod Walks
 pub mod Roots
 pub mod Verdicts
+pub mod Laws

@@ -7,7 +7,9 @@
 #![tactic(auto)]
 
 mod checks;
+mod laws;
 mod marks;
 mod walk;
 
 pub use checks::{MAX_ZONE_MOVES, ZoneVerdict, check_by_zones};
+pub use laws::root_has_one_number_of_pairs;
