@@ -13,21 +13,20 @@ use Rattle.open_windows.specs.OpenWindows.{is_open_at}
 use Rattle.open_windows.specs.Rows.{TellsRows, TellsTo, point_at}
 use Rattle.open_windows.proofs.RowBits.{one, at_row, tells-all}
 
+pub full-is : (width : ℕ) → width ≤ 32 → 4294967295 / 2 ^ (32 - width) ≡ 2 ^ width - 1
+full-is width fits =
+    let same : 32 - (32 - width) ≡ width = omega (arith, fits) in
+    ones_shr 32 (32 - width) (omega arith) ∙ ap (λ k. 2 ^ k - 1) same
+
 module _ (b : Grid) (ok : IsBoard b) where
   abbrev full : ℕ
-  full = 4294967295 / 2 ^ (32 - b.width)
-
-  full_is : full ≡ 2 ^ b.width - 1
-  full_is =
-      let fits = ok.width_fits in
-      let same : 32 - (32 - b.width) ≡ b.width = omega (arith, fits) in
-      ones_shr 32 (32 - b.width) (omega arith) ∙ ap (λ k. 2 ^ k - 1) same
+  full = 2 ^ b.width - 1
 
   inside : (x : ℕ) → x < b.width → bit_at full x ≡ 1
-  inside x low = ap (λ n. bit_at n x) full_is ∙ bit_at_ones b.width x low
+  inside x low = bit_at_ones b.width x low
 
   beyond : (x : ℕ) → b.width ≤ x → bit_at full x ≡ 0
-  beyond x high = ap (λ n. bit_at n x) full_is ∙ bit_at_ones_above b.width x high
+  beyond x high = bit_at_ones_above b.width x high
 
   both_tests : (r t : Bool) → r ≡ true → t ≡ true → (r && t) ≡ true
   both_tests r t h k = search rules

@@ -6,6 +6,8 @@ mod Sums
 mod RowBits
 -- the rows of a board
 mod BoardRows
+-- the points of a set one after another
+pub mod SetOrder
 -- the windows that begin at a point, and the points that lie in one
 mod WindowBits
 pub mod Points

@@ -22,7 +22,7 @@ use Rattle.game_rules.proofs.RunEnds.{new_end}
 use Rattle.game_rules.proofs.Ways.{go-then, go-same, go-zero, leads, leads_back, towards-put, beyond-put, run_before_end}
 use Rattle.game_rules.proofs.Wins.{wins_on-ways, no_win, row_wins-five}
 use Rattle.open_windows.specs.OpenWindows.{is_open_at, in_window}
-use Rattle.open_windows.proofs.Points.{three_of_five, window-made, in-made}
+use Rattle.open_windows.proofs.Points.{four_of_five, three_of_five, window-made, in-made}
 
 stone_clear : (r : Bool) (c : Cell) (s : Side) → (r && is_stone_of s c) ≡ true → (r && not (r && is_stone_of (other s) c)) ≡ true
 stone_clear r c s h = search rules
@@ -35,6 +35,49 @@ empty-open : (b : Grid) (s : Side) (q : Point) → is_empty b q ≡ true → is_
 empty-open b s q empty = clear_by (is_on b q) (holds b (other s) q) (is_empty-on b q empty) (empty_holds b (other s) q empty) where
   clear_by : (r h : Bool) → r ≡ true → h ≡ false → (r && not h) ≡ true
   clear_by r h on none = search rules
+
+-- a point where a stone of the side wins on the axis
+module _ (rule : RuleKind) (b : Grid) (s : Side) (d : Axis) (p : Point) (ok : IsBoard b) (wins : wins_on rule b s d p ≡ true) where
+  free : is_empty b p ≡ true
+  free = and_left (is_empty b p) _ wins
+
+  there : is_on b p ≡ true
+  there = is_empty-on b p free
+
+  abbrev fore : ℕ
+  fore = stones_towards Ahead b s d p
+
+  abbrev back : ℕ
+  back = stones_towards Behind b s d p
+
+  long : 5 ≤ 1 + fore + back
+  long = row_wins-five rule s _ (and_right (is_empty b p) _ (sym (wins_on-ways rule b s Ahead d p ok) ∙ wins))
+
+  abbrev t : ℕ
+  t = min back 4
+
+  stone_near : (k : ℕ) → k < 5 → k ≢ t → stone_at b s (along d p k t) ≡ true
+  stone_near k near differ = let five = long in elim (cases_lt k t) [
+    | inl behind ↦ ap (stone_at b s) (go-same Ahead d p k t 0 (t - k) (omega (arith, behind)))
+        ∙ (leads_back b s d p there Ahead).holds (t - k) (omega (arith, behind)) (omega arith)
+    | inr ahead ↦ ap (stone_at b s) (go-same Ahead d p k t (k - t) 0 (omega (arith, ahead)))
+        ∙ (leads b s d p there Ahead).holds (k - t) (omega (arith, ahead, differ)) (omega (arith, near, five))
+  ]
+
+  open_near : (k : ℕ) → k < 5 → is_open_at b s (along d p k t) ≡ true
+  open_near k near = elim (cases_eq k t) [
+    | inl same ↦ ap (is_open_at b s) (go-same Ahead d p k t 0 0 (omega (arith, same)) ∙ go-zero Ahead d p) ∙ empty-open b s p free
+    | inr differ ↦ stone-open b s (along d p k t) (stone_near k near differ)
+  ]
+
+  -- it lies in a window with four stones
+  pub win-in : in_window b s 4 p ≡ true
+  win-in = in-made b s 4 d p t (omega arith) free (window-made b s 4 d p t (omega arith) open_near
+      (four_of_five (λ k. stone_at b s (along d p k t)) t stone_near))
+
+-- so does a five point
+pub five-point-in : (rule : RuleKind) (b : Grid) (s : Side) (p : Point) → IsBoard b → five rule b s p ≡ true → in_window b s 4 p ≡ true
+five-point-in rule b s p ok h = let made = some_axis (λ d. wins_on rule b s d p) h in win-in rule b s made.0 p ok made.1
 
 -- a stone of the side on p wins at w on the axis, where none did before
 module _ (rule : RuleKind) (b : Grid) (s : Side) (p w : Point) (d : Axis) (ok : IsBoard b) (free : is_empty b p ≡ true)

@@ -83,6 +83,19 @@ module _ (f : ℕ → Bool) where
           ]
         ]
 
+  -- all hold but one at most
+  pub four_of_five : (u : ℕ) → ((k : ℕ) → k < 5 → k ≢ u → f k ≡ true) → 4 ≤ count_by f (range_with_len 0 5)
+  four_of_five u h =
+      let c0 = each 0 (omega arith) in let c1 = each 1 (omega arith) in let c2 = each 2 (omega arith) in
+      let c3 = each 3 (omega arith) in let c4 = each 4 (omega arith) in
+      let first = once u in let sum = count_five in
+      omega (arith, c0, c1, c2, c3, c4, first, sum) where
+        each : (k : ℕ) → k < 5 → 1 ≤ one_at k + hit k u
+        each k near = elim (cases_eq k u) [
+          | inl same ↦ let e : hit k u ≡ 1 = grind (arith, nat_tests) in omega (arith, e)
+          | inr other ↦ let e : one_at k ≡ 1 = ap (λ r. cond r 1 0) (h k near other) in omega (arith, e)
+        ]
+
 -- two tests that are the same of five numbers but one hold of as many but one
 pub one_fewer : (f g : ℕ → Bool) (u : ℕ) → ((k : ℕ) → k < 5 → k ≢ u → f k ≡ g k)
     → count_by f (range_with_len 0 5) ≤ count_by g (range_with_len 0 5) + 1

@@ -4,7 +4,7 @@
 //! that a step of four rows needs no test.
 #![tactic(auto)]
 
-ghost use Rattle.std.specs.Prelude.{◌≡◌, ◌≤◌, ◌<◌, ◌+◌};
+ghost use Rattle.std.specs.Prelude.{◌≡◌, ◌≤◌, ◌<◌, ◌-◌, ◌^◌};
 ghost use Rattle.game_rules.specs.Grid.{IsBoard};
 ghost use Rattle.game_rules.specs.Shapes.{stone_at};
 ghost use Rattle.open_windows.specs.OpenWindows.{is_open_at};
@@ -15,12 +15,22 @@ use stone_board::{Axis, Board, MAX_SIDE, Side};
 /// How many numbers there are.
 pub(crate) const ROWS: usize = 40;
 
+/// The bits of the points of a row of this width.
+#[inline(always)]
+pub(crate) fn full_row(width: u8) -> u32
+    requires some { 1 ≤ width }
+    requires fits { width ≤ MAX_SIDE }
+    ensures full { result ≡ 2 ^ width - 1 }
+{
+    u32::MAX >> (MAX_SIDE - width)
+}
+
 /// The stones of the side.
 pub(crate) fn own_rows(board: &Board, side: Side) -> [u32; ROWS]
     ensures rows { TellsRows (stone_at board.now side) result }
     ensures board { IsBoard board.now }
 {
-    let full = u32::MAX >> (MAX_SIDE - board.width());
+    let full = full_row(board.width());
     let mut rows = [0; ROWS];
     for y in 0..board.height() {
         rows[y as usize + 4] = board.line(side, Axis::Row, y) & full;
@@ -32,7 +42,7 @@ pub(crate) fn own_rows(board: &Board, side: Side) -> [u32; ROWS]
 pub(crate) fn open_rows(board: &Board, side: Side) -> [u32; ROWS]
     ensures rows { TellsRows (is_open_at board.now side) result }
 {
-    let full = u32::MAX >> (MAX_SIDE - board.width());
+    let full = full_row(board.width());
     let mut rows = [0; ROWS];
     for y in 0..board.height() {
         rows[y as usize + 4] = !board.line(side.other(), Axis::Row, y) & full;

@@ -54,6 +54,14 @@ module _ (rule : RuleKind) (b : Grid) (s : Side) where
               ∙ old.points;
         })
 
+  -- none is kept yet
+  pub first-none : (left : List Point) → filter test left ≡ filter test (points_of b) → FirstSoFar rule b s [] left
+  first-none left all = record {
+    few = omega arith;
+    each = λ k d low. absurd (omega (arith, low));
+    points = ap (take MOST_KEPT) all;
+  }
+
   -- enough are kept
   pub first-enough : (found : List Kept) (left : List Point) → FirstSoFar rule b s found left → MOST_KEPT ≤ length found
       → FirstSoFar rule b s found []

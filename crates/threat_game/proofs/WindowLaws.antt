@@ -1,7 +1,8 @@
 -- What a stone outside the open windows of its side does not make.
-use Rattle.std.proofs.Common.{rules, ◌≡◌, ◌∙◌, ℕ, List, subst, Bool, true, false, ◌&&◌, [], arith, ap, sym}
+use Rattle.std.proofs.Common.{◌≡◌, ◌∙◌, ℕ, List, refl, subst, Bool, true, false, [], arith, ap, sym}
 use Rattle.std.proofs.lemmas.Bool.{false_from_ne_true, both_ways}
 use Rattle.game_rules.proofs.Common.{Grid, IsBoard, is_empty, put, has_five, has_threat, is_double_point}
+use Rattle.game_rules.proofs.Boards.{and_left, and_right}
 use Rattle.game_rules.specs.declared.RuleKind.{RuleKind}
 use Rattle.game_rules.specs.declared.Side.{Side}
 use Rattle.game_rules.specs.declared.Point.{Point}
@@ -27,14 +28,19 @@ module _ (rule : RuleKind) (b : Grid) (s : Side) (p : Point) (ok : IsBoard b) (n
   pub outside-no_five : is_empty b p ≡ true → has_five rule (put b s p) s ≡ false
   outside-no_five empty = false_from_ne_true _ (λ h. both_ways _ out (five-in rule b s p ok empty none h))
 
-  pub outside-no_double : is_double_point rule b s p ≡ false
-  outside-no_double = false_from_ne_true _ (λ h.
-      both_ways _ (no_five-no_double rule b s p (outside-no_five (double-empty rule b s p h))) h)
+-- a double point lies in one, and so does a point that makes two five points
+module _ (rule : RuleKind) (b : Grid) (s : Side) (p : Point) (ok : IsBoard b) (none : has_five rule b s ≡ false) where
+  pub double-in : is_double_point rule b s p ≡ true → in_window b s 3 p ≡ true
+  double-in h = by_five (has_five rule (put b s p) s) refl where
+    by_five : (r : Bool) → has_five rule (put b s p) s ≡ r → in_window b s 3 p ≡ true
+    by_five true made = five-in rule b s p ok (double-empty rule b s p h) none made
+    by_five false quiet = absurd (both_ways _ (no_five-no_double rule b s p quiet) h)
 
-  pub outside-no_two : makes_two rule b s p ≡ false
-  outside-no_two = by_test (is_empty b p) _ (λ empty. ap is_several (none-short rule (put b s p) s (outside-no_five empty))) where
-    by_test : (r t : Bool) → (r ≡ true → t ≡ false) → (r && t) ≡ false
-    by_test r t h = search rules
+  pub two-in : makes_two rule b s p ≡ true → in_window b s 3 p ≡ true
+  two-in h = by_five (has_five rule (put b s p) s) refl where
+    by_five : (r : Bool) → has_five rule (put b s p) s ≡ r → in_window b s 3 p ≡ true
+    by_five true made = five-in rule b s p ok (and_left (is_empty b p) _ h) none made
+    by_five false quiet = absurd (both_ways _ (ap is_several (none-short rule (put b s p) s quiet)) (and_right (is_empty b p) _ h))
 
 -- outside windows with two, where no point makes two five points
 pub outside-no_threat : (rule : RuleKind) (b : Grid) (s : Side) (p : Point) → IsBoard b → has_five rule b s ≡ false → is_empty b p ≡ true

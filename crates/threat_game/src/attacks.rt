@@ -127,24 +127,19 @@ pub(crate) fn all_twos<R: Rule, V: Seen<R>>(alloc: Global, view: &V) -> Result<P
 {
     let windows = window_points(view.board(), view.side(), 3);
     let mut twos = Points::new(alloc);
-    for p in view.board().points() {
-        if makes_two::<R, V>(view, &windows, p) {
+    for p in windows.points(view.board()) {
+        if makes_two::<R, V>(view, p) {
             twos.push(p)?;
         }
     }
     Ok(twos)
 }
 
-/// Whether the point is empty and a stone of the side to move, which has no five point, leaves it two there or more. It does not but in
-/// these windows.
-fn makes_two<R: Rule, V: Seen<R>>(view: &V, windows: &PointSet, p: Point) -> bool
+/// Whether the point is empty and a stone of the side to move, which has no five point, leaves it two there or more.
+fn makes_two<R: Rule, V: Seen<R>>(view: &V, p: Point) -> bool
     requires none { has_five_lem R.KIND (V.position view.now) (mover (V.position view.now)) ≡ false }
-    requires windows { TellsWindows (V.position view.now) (mover (V.position view.now)) 3 windows.now }
     ensures two { result ≡ makes_two_lem R.KIND (V.position view.now) (mover (V.position view.now)) p }
 {
-    if !windows.has(p) {
-        return false;
-    }
     if !view.board().is_empty(p) {
         return false;
     }

@@ -10,7 +10,6 @@ ghost use Rattle.game_rules.specs.Shapes.{is_same_point};
 ghost use Rattle.game_rules.specs.Play.{IsPosition, outcome as outcome_lem, mover, after, goes_on as goes_on_lem};
 ghost use Rattle.game_rules.specs.declared.Outcome.{Outcome};
 ghost use Rattle.game_rules.specs.Games.{five_points, has_five as has_five_lem, is_double_point};
-ghost use Rattle.open_windows.specs.PointSets.{TellsWindows};
 ghost use Rattle.strategy_graph.specs.Tables.{IsNode};
 ghost use Rattle.strategy_compiler.specs.Growth.{Writes};
 ghost use Rattle.threat_game.specs.Attacks.{LeavesBoth, IsDoubleWin};
@@ -21,7 +20,7 @@ ghost use Rattle.threat_game.specs.Wins.{IsThreatWin};
 use crate::attacks::{each_goes_on, goes_on, goes_on_where};
 use foul_judge::Seen;
 use game_rules::RuleKind;
-use open_windows::{PointSet, window_points};
+use open_windows::{five_points, window_points};
 use row_shapes::Rule;
 use std::alloc::{AllocError, Global};
 use stone_board::{Board, Point, Side};
@@ -57,7 +56,7 @@ pub fn double_at<R: Rule>(
     ensures same { board.new ≡ board.old }
 {
     board.put(at, side);
-    let points = row_shapes::five_points::<R>(alloc, board, side);
+    let points = five_points::<R>(alloc, board, side);
     board.lift(at);
     match points?.as_slice() {
         [first, second, ..] => Ok(Some(DoublePoint {
@@ -89,35 +88,29 @@ pub(crate) fn first_doubles<R: Rule>(
 {
     let windows = window_points(board, side, 3);
     let mut found = Vec::new(alloc);
-    for p in board.points() {
+    for p in windows.points(board) {
         if found.len() >= MOST_KEPT {
             return Ok(found);
         }
-        if let Some(kept) = kept_at::<R>(alloc, board, side, &windows, p)? {
+        if let Some(kept) = kept_at::<R>(alloc, board, side, p)? {
             found.push(kept)?;
         }
     }
     Ok(found)
 }
 
-/// The point as a double point of the side, which has no five point, if it is one. It is none but in these windows. The board is as
-/// before.
+/// The point as a double point of the side, which has no five point, if it is one. The board is as before.
 fn kept_at<R: Rule>(
     alloc: Global,
     board: &mut Board,
     side: Side,
-    windows: &PointSet,
     p: Point,
 ) -> Result<Option<Kept>, AllocError>
     requires none { has_five_lem R.KIND board.old side ≡ false }
-    requires windows { TellsWindows board.old side 3 windows.now }
     ensures kept { IfOk result (λ found. IfSome found (IsKeptAt R.KIND board.old side p)) }
     ensures other { IfOk result (λ found. IfNone found (is_double_point R.KIND board.old side p ≡ false)) }
     ensures same { board.new ≡ board.old }
 {
-    if !windows.has(p) {
-        return Ok(None);
-    }
     if !is_new_double_point::<R>(board, side, p) {
         return Ok(None);
     }

@@ -15,10 +15,10 @@ ghost use Rattle.threat_game.specs.Replies.{EscapesBy, HasEscape};
 use crate::attacks::{Attacks, all_twos, find_attacks, goes_on};
 use crate::replies::{five_beside, last_after};
 use foul_judge::Seen;
+use open_windows::five_points;
 use row_shapes::{FivePoints, Rule, takes};
 use std::alloc::{AllocError, Global};
 use stone_board::{Board, Point, Points, Side};
-use threat_moves::fives;
 
 /// Whether there is no win within two moves after the reply `q`, which goes on and leaves the attacker no five point.
 /// The view is as before, also where memory ran out, and so is the board, a copy of its own.
@@ -164,7 +164,7 @@ fn has_escape<R: Rule, V: Seen<R>>(
     ensures same_board { board.new ≡ board.old }
 {
     let attacker = view.side().other();
-    let fives = fives::<R, V>(alloc, view, attacker)?;
+    let fives = five_points::<R>(alloc, view.board(), attacker)?;
     match fives.as_slice() {
         [] => Ok(some_escapes::<R, V>(view, board, &fives)),
         [five] => Ok(escapes_by::<R, V>(view, board, &fives, *five)),

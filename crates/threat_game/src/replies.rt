@@ -31,12 +31,11 @@ use crate::escapes::fails_after;
 use crate::last_moves::last_move;
 use crate::written::{compile_five, compile_last};
 use foul_judge::{Outcome, Seen};
-use open_windows::{PointSet, window_points};
+use open_windows::{PointSet, five_points, window_points};
 use row_shapes::Rule;
 use std::alloc::{AllocError, Global};
 use stone_board::{Board, Point, Points, Side};
 use strategy_compiler::{Compiler, SearchError, WrittenWin};
-use threat_moves::fives;
 
 /// What is known at once of a position of the attacker.
 #[derive(Clone, Copy, Debug, PartialEq, Eq)]
@@ -110,7 +109,7 @@ pub fn judge_replies<R: Rule, V: Seen<R>>(
     ensures same_board { board.new ≡ board.old }
 {
     let attacker = view.side().other();
-    let fives = fives::<R, V>(alloc, view, attacker)?;
+    let fives = five_points::<R>(alloc, view.board(), attacker)?;
     let doubles = doubles_for::<R>(alloc, board, attacker, fives.len())?;
     match each_reply::<R, V>(alloc, view, board, moves, &fives, doubles.as_slice())? {
         None => Ok(None),

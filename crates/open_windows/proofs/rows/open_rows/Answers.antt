@@ -1,4 +1,4 @@
-use Rattle.std.proofs.Common.{refl, subst, ap, ◌+◌, ◌-◌, ◌/◌, ◌^◌, arith, ◌∙◌, ◌<◌, ◌≡◌, ℕ, bit_and}
+use Rattle.std.proofs.Common.{refl, subst, ap, ◌+◌, ◌-◌, ◌^◌, arith, ◌∙◌, ◌<◌, ◌≡◌, ℕ, bit_and}
 use Rattle.std.specs.Int.{bit_at, bit_not, w32}
 use Rattle.game_rules.specs.declared.Side.{Side}
 use Rattle.game_rules.specs.declared.Axis.TheVariants.{Row}
@@ -22,7 +22,8 @@ loop-y-preserved c =
     let next : c.loop-y.y + 4 + 1 ≡ c.loop-y.y + 1 + 4 = omega arith in
     tells-more (is_open_at c.args.board.now c.args.side) refl c.loop-y.rows (c.loop-y.y + 4) (c.loop-y.y + 1 + 4) _ next
     (omega (arith, low, fits)) c.loop-y.invariant
-    (λ x. ap (λ w. bit_at (bit_and (bit_not w32 c.line.result) (4294967295 / 2 ^ (32 - w))) x) c.width.ensures.width
+    (λ x. ap (λ m. bit_at (bit_and (bit_not w32 c.line.result) m) x)
+    (c.full_row-full.ensures.full ∙ ap (λ w. 2 ^ w - 1) c.width.ensures.width)
     ∙ open-bit c.args.board.now ok c.loop-y.y low c.line.result c.args.side c.line.type_inv
     (subst (λ (s : Side). TellsLine c.args.board.now s Row c.loop-y.y c.line.result) c.other.ensures.other c.line.ensures.tells) x)
 

@@ -1,4 +1,4 @@
-use Rattle.std.proofs.Common.{refl, subst, ap, ◌+◌, ◌-◌, ◌/◌, ◌^◌, arith, ◌∙◌, ◌<◌, ◌≡◌, ℕ, bit_and}
+use Rattle.std.proofs.Common.{refl, subst, ap, ◌+◌, ◌-◌, ◌^◌, arith, ◌∙◌, ◌<◌, ◌≡◌, ℕ, bit_and}
 use Rattle.std.specs.Int.{bit_at}
 use Rattle.game_rules.specs.Shapes.{stone_at}
 use Rattle.open_windows.specs.Rows.{TellsTo}
@@ -19,7 +19,7 @@ loop-y-preserved c =
     let next : c.loop-y.y + 4 + 1 ≡ c.loop-y.y + 1 + 4 = omega arith in
     tells-more (stone_at c.args.board.now c.args.side) refl c.loop-y.rows (c.loop-y.y + 4) (c.loop-y.y + 1 + 4) _ next
     (omega (arith, low, fits)) c.loop-y.invariant
-    (λ x. ap (λ w. bit_at (bit_and c.line.result (4294967295 / 2 ^ (32 - w))) x) c.width.ensures.width
+    (λ x. ap (λ m. bit_at (bit_and c.line.result m) x) (c.full_row-full.ensures.full ∙ ap (λ w. 2 ^ w - 1) c.width.ensures.width)
     ∙ own-bit c.args.board.now ok c.loop-y.y low c.line.result c.args.side c.line.ensures.tells x)
 
 pub returns : goal.returns

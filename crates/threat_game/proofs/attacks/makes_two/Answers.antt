@@ -1,17 +1,7 @@
 use Rattle.std.proofs.Common.{◌≡◌, ◌&&◌, true, false, ap, sym, ◌∙◌}
 use Rattle.game_rules.proofs.Common.{Grid, is_empty, mover, after, five_points}
 use Rattle.row_shapes.specs.FivePoints.{in_short, is_several}
-use Rattle.open_windows.proofs.Points.{told-outside}
-use Rattle.threat_game.proofs.WindowLaws.{outside-no_two}
 use Rattle.threat_game.proofs.attacks.makes_two.Goals as goal
-
-pub returns-then-not-has : goal.returns-then-not-has
-returns-then-not-has g c =
-    let b : Grid = g.V.Seen.position c.args.view.now in
-    record {
-      two = sym (outside-no_two g.R.Rule.KIND b (mover b) c.args.p c.requires.windows.board c.requires.none
-          (told-outside b (mover b) 3 c.args.windows.now c.args.p c.has.result c.requires.windows c.has.ensures.has c.if-not-has.true));
-    }
 
 pub returns-then-not-is_empty : goal.returns-then-not-is_empty
 returns-then-not-is_empty g c =

@@ -1,10 +1,14 @@
-use Rattle.std.proofs.Common.{rules, ◌≡◌, subst, sym, ◌∙◌, arith, List, [], ◌∷◌}
+use Rattle.std.proofs.Common.{rules, ◌≡◌, refl, ap, subst, sym, ◌∙◌, arith, List, [], ◌∷◌}
+use Rattle.std.specs.List.{filter}
 use Rattle.std.proofs.lemmas.Grind.{common_steps}
 use Rattle.game_rules.specs.Grid.{Grid}
+use Rattle.game_rules.specs.Games.{is_double_point}
 use Rattle.game_rules.specs.declared.Point.{Point}
-use Rattle.open_windows.specs.PointSets.{TellsWindows}
+use Rattle.open_windows.proofs.SetOrder.{filter-windows}
+use Rattle.threat_game.specs.declared.doubles.Kept.{Kept}
 use Rattle.threat_game.specs.Replies.{IsKeptAt}
-use Rattle.threat_game.proofs.FirstDoubles.{FirstSoFar, first-all, first-enough, first-more}
+use Rattle.threat_game.proofs.FirstDoubles.{FirstSoFar, first-all, first-enough, first-more, first-none}
+use Rattle.threat_game.proofs.WindowLaws.{double-in}
 use Rattle.threat_game.proofs.doubles.first_doubles.Goals as goal
 
 pub returns-then-len-ge-MOST_KEPT-clause-kept : goal.returns-then-len-ge-MOST_KEPT-clause-kept
@@ -33,7 +37,16 @@ returns-clause-kept g c =
     first-all g.R.Rule.KIND c.args.board.now c.args.side c.loop-p.found.items
     (subst (λ (ps : List Point). FirstSoFar g.R.Rule.KIND c.args.board.now c.args.side c.loop-p.found.items ps) done c.loop-p.invariant.1)
 
-pub kept_at-requires-clause-windows : goal.kept_at-requires-clause-windows
-kept_at-requires-clause-windows g c =
-    subst (λ (b : Grid). TellsWindows b c.args.side 3 c.window_points-windows.result) (sym c.loop-p.invariant.0)
-    c.window_points-windows.ensures.points
+pub loop-p-init : goal.loop-p-init
+loop-p-init g c =
+    let rule = g.R.Rule.KIND in
+    let b : Grid = c.args.board.now in
+    let tells = c.window_points-windows.ensures.points in (
+      refl,
+      subst (λ (kept : List Kept). FirstSoFar rule b c.args.side kept c.into_iter-p-iterator.result) (sym c.new-found.ensures.items)
+          (first-none rule b c.args.side c.into_iter-p-iterator.result
+          (ap (filter (is_double_point rule b c.args.side))
+          (c.into_iter-p-iterator.ensures.into_iter_gives ∙ c.points-p-items.ensures.points)
+          ∙ filter-windows b c.args.side 3 c.window_points-windows.result tells (is_double_point rule b c.args.side)
+          (λ p h. double-in rule b c.args.side p tells.board c.requires.none h))),
+    )

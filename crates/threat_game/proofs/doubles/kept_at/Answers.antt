@@ -5,9 +5,7 @@ use Rattle.row_shapes.specs.FivePoints.{in_short, is_several}
 use Rattle.threat_moves.proofs.GainLaws.{double-empty, few-double}
 use Rattle.threat_moves.proofs.Common.{StaysFree}
 use Rattle.threat_game.proofs.Common.{LeavesBoth}
-use Rattle.open_windows.proofs.Points.{told-outside}
 use Rattle.threat_game.proofs.KeptDoubles.{double-free}
-use Rattle.threat_game.proofs.WindowLaws.{outside-no_double}
 use Rattle.threat_game.proofs.doubles.kept_at.Goals as goal
 
 pub stays_free-sure-requires : goal.stays_free-sure-requires
@@ -61,9 +59,3 @@ returns-in-None-clause-other g c =
     ∙ few-double rule c.stays_free-sure.new.board c.args.side c.args.p
     (sym (ap (λ r. r && is_several (in_short (five_points rule (put c.stays_free-sure.new.board c.args.side c.args.p) c.args.side))) empty)
     ∙ two)
-
-pub returns-then-not-has-clause-other : goal.returns-then-not-has-clause-other
-returns-then-not-has-clause-other g c =
-    let b : Grid = c.args.board.now in
-    outside-no_double g.R.Rule.KIND b c.args.side c.args.p c.requires.windows.board c.requires.none
-    (told-outside b c.args.side 3 c.args.windows.now c.args.p c.has.result c.requires.windows c.has.ensures.has c.if-not-has.true)

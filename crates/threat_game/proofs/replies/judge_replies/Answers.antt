@@ -11,13 +11,15 @@ pub doubles_for-requires : goal.doubles_for-requires
 doubles_for-requires g c =
     record {
       fives = c.len.ensures.length ∙ ap length c.in_ok-fives.ensures.fives
+          ∙ ap (λ (w : Grid). length (five_points g.R.Rule.KIND w c.other-attacker.result)) c.board.ensures.board
           ∙ ap (λ (b : Grid). length (five_points g.R.Rule.KIND b c.other-attacker.result)) (sym c.requires.copy);
     }
 
 pub each_reply-requires-clause-fives : goal.each_reply-requires-clause-fives
 each_reply-requires-clause-fives g c =
     let b : Grid = g.V.Seen.position c.args.view.now in
-    c.in_ok-fives.ensures.fives ∙ ap (five_points g.R.Rule.KIND b) (c.other-attacker.ensures.other ∙ ap other c.side.ensures.side)
+    c.in_ok-fives.ensures.fives ∙ ap (λ (w : Grid). five_points g.R.Rule.KIND w c.other-attacker.result) c.board.ensures.board
+    ∙ ap (five_points g.R.Rule.KIND b) (c.other-attacker.ensures.other ∙ ap other c.side.ensures.side)
 
 pub each_reply-requires-clause-doubles : goal.each_reply-requires-clause-doubles
 each_reply-requires-clause-doubles g c =
