@@ -1,27 +1,21 @@
-use Rattle.std.proofs.Common.{ap, sym, subst, ◌∙◌, arith, List}
+use Rattle.std.proofs.Common.{ap, sym, ◌∙◌, arith, subst, List}
+use Rattle.game_rules.proofs.Common.{Grid, wins_by_fours}
+use Rattle.four_search.proofs.Common.{four_line, IsSought, IsSoughtOut, IsFourTable}
 use Rattle.game_rules.specs.declared.Point.{Point}
-use Rattle.game_rules.proofs.Common.{Grid, IsPosition, wins_by_fours}
-use Rattle.four_search.proofs.Common.{IsSought, IsSoughtOut, IsFourTable, four_line}
 use Rattle.four_search.proofs.fewest.fewest_win.Goals as goal
 
 pub returns-in-None-clause-found : goal.returns-in-None-clause-found
-returns-in-None-clause-found g c =
-    subst (IsSoughtOut g.R.Rule.KIND c.args.depth c.args.budget (g.V.Seen.position c.args.view.now)) c.in-None.is
-    c.in_ok-seek_anew.ensures.sought
+returns-in-None-clause-found g c = rw c.in-None.is at c.in_ok-seek_anew.ensures.sought
 
 pub returns-in-Spent-clause-found : goal.returns-in-Spent-clause-found
-returns-in-Spent-clause-found g c =
-    subst (IsSoughtOut g.R.Rule.KIND c.args.depth c.args.budget (g.V.Seen.position c.args.view.now)) c.in-Spent.is
-    c.in_ok-seek_anew.ensures.sought
+returns-in-Spent-clause-found g c = rw c.in-Spent.is at c.in_ok-seek_anew.ensures.sought
 
 pub plan_table-requires : goal.plan_table-requires
 plan_table-requires g c =
-    let b : Grid = g.V.Seen.position c.args.view.now in
     let same = c.in_ok-seek_anew.ensures.same in
-    let is : IsSought g.R.Rule.KIND c.args.depth c.args.budget b c.in-Win.moves c.in-Win.line =
-    subst (IsSoughtOut g.R.Rule.KIND c.args.depth c.args.budget b) c.in-Win.is c.in_ok-seek_anew.ensures.sought in
+    let is = rw c.in-Win.is at c.in_ok-seek_anew.ensures.sought in
     record {
-      lawful = subst (IsPosition g.R.Rule.KIND) (sym same) c.in_ok-seek_anew.ensures.lawful;
+      lawful = rw same c.in_ok-seek_anew.ensures.lawful;
       wins = ap (λ (w : Grid). wins_by_fours g.R.Rule.KIND c.in-Win.moves w) same ∙ is.wins;
       line = c.as_slice.ensures.items ∙ is.tells ∙ ap (λ (w : Grid). four_line g.R.Rule.KIND c.in-Win.moves w) (sym same);
       few_moves = let within = is.within in let fits = c.requires.depth_fits in omega (arith, within, fits);

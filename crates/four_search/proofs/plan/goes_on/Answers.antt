@@ -8,4 +8,4 @@ returns-then-not-is_empty-clause-on g c =
     let b : Grid = g.V.Seen.position c.args.view.now in
     let taken : is_empty b c.args.q ≡ false = ap (λ (w : Grid). is_empty w c.args.q) (sym c.board.ensures.board)
     ∙ sym c.is_empty.ensures.empty ∙ c.if-not-is_empty.true in
-    sym (ap goes_on (taken_refused g.R.Rule.KIND b c.args.q taken))
+    sym (ap goes_on (taken_refused _ _ _ taken))
