@@ -6,7 +6,9 @@ a folder, and has `renju cover` tell in the end whether the tables cover the pos
     openings.py --lines [--depth D] [--nodes N] FOLDER [X,Y FILE]
 
 A folder begins with X,Y, the attack, and FILE, or - for standard input, a text that examples/position.py takes, or a table, whose
-position is meant. All that is known stands in its files, so that an interrupted run goes on where it was, with the folder alone.
+position is meant. All that is known stands in its files, so that an interrupted run goes on where it was, with the folder alone:
+replies/X,Y.txt is the position after the reply X,Y, tables/X,Y.txt or served/X,Y.txt the table of it, and each line of tried.txt has a
+reply, what was tried there, the status and the seconds.
 
 Replies far from all stones come first. At each reply the tables found so far are tried: the nodes of one, under the position of the
 reply, are given to `renju check`, which costs less than a search, and where they are accepted the text is kept in FOLDER/served. Else
