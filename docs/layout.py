@@ -77,6 +77,7 @@ CHAPTERS = (
             "file_loading",
             "table_commands",
             "cover_command",
+            "join_command",
             "position_commands",
             "solve_command",
             "quiet_command",

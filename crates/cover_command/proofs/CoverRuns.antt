@@ -170,10 +170,10 @@ cover-answers work attack names run is files free = answers-end work attack name
 -- ---- what is shown
 
 -- the number speaks of a cover
-abbrev Speaks : ℕ → Type 0
+abbrev pub Speaks : ℕ → Type 0
 Speaks n = (n ≡ status_number Done) ⊎ (n ≡ status_number NotFound)
 
-silent-by : (status told : Status) → status ≡ told → (Speaks (status_number told) → ⊥) → Speaks (status_number status) → ⊥
+pub silent-by : (status told : Status) → status ≡ told → (Speaks (status_number told) → ⊥) → Speaks (status_number status) → ⊥
 silent-by status told is silent speaks = silent (subst (λ (s : Status). Speaks (status_number s)) is speaks)
 
 -- what is told of a file that is not accepted speaks of none
@@ -185,19 +185,19 @@ part-silent work bytes status text (inr said) = by-verdict said.2 where
   by-verdict (inl refused) = silent-by status RefusedTable refused.ends (λ s. grind arith)
   by-verdict (inr spent) = silent-by status Spent spent.ends (λ s. grind arith)
 
-unheld-silent : (work : ℕ) (shelf : Change (Option Files)) (name : List ℕ) (status : Status) (text : List ℕ)
+pub unheld-silent : (work : ℕ) (shelf : Change (Option Files)) (name : List ℕ) (status : Status) (text : List ℕ)
     → IsUnheld (TableFileSays work) shelf name status text → Speaks (status_number status) → ⊥
 unheld-silent work shelf name status text (inl refused) = part-silent work refused.bytes status text refused.says
 unheld-silent work shelf name status text (inr (inl long)) = silent-by status TooLong long.ends (λ s. grind arith)
 unheld-silent work shelf name status text (inr (inr fault)) = silent-by status ShelfFault fault.ends (λ s. grind arith)
 
-delivered-silent : (status : Status) (text : List ℕ) (output : Change (Option (List ℕ))) (number : ℕ)
+pub delivered-silent : (status : Status) (text : List ℕ) (output : Change (Option (List ℕ))) (number : ℕ)
     → (Speaks (status_number status) → ⊥) → IsDelivered status text output number → Speaks number → ⊥
 delivered-silent status text output number silent (inl whole) = subst (λ (n : ℕ). Speaks n → ⊥) (sym whole.0) silent
 delivered-silent status text output number silent (inr failed) = subst (λ (n : ℕ). Speaks n → ⊥) (sym failed.0) (λ s. grind arith)
 
 -- nor does a status that stands in place of others
-yields-silent : (n : ℕ) → IsYielded n → Speaks n → ⊥
+pub yields-silent : (n : ℕ) → IsYielded n → Speaks n → ⊥
 yields-silent n yielded speaks = grind arith
 
 module _ (work : ℕ) (attack : Option Point) (names : List (List ℕ)) (run : Run) (shelf : Files)

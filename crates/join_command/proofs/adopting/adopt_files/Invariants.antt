@@ -1,0 +1,15 @@
+use Rattle.std.proofs.Common.{take}
+use Rattle.strategy_graph.specs.Tables.{TableOnBoard}
+use Rattle.strategy_compiler.specs.Growth.{GrowsBy}
+use Rattle.strategy_compiler.specs.Nodes.{IsCompiled}
+use Rattle.join_command.specs.Adopting.{AreAdopted}
+use Rattle.join_command.specs.Joins.{node_count}
+use Rattle.join_command.proofs.adopting.adopt_files.Given as goal
+
+abbrev pub invariant-loop-file : goal.invariant-loop-file
+invariant-loop-file l = record {
+  adopted : AreAdopted l.board l.nodes (take l.file-index l.files) l.roots.items;
+  grows : GrowsBy l.initial.nodes l.nodes (node_count (take l.file-index l.files));
+  compiled : IsCompiled l.nodes;
+  on_board : TableOnBoard l.board l.initial.nodes → TableOnBoard l.board l.nodes;
+}
