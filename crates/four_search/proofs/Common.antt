@@ -5,7 +5,7 @@ pub use Rattle.four_search.specs.FourGame.{behind_move, depths_tried, four_cost,
 unfoldable pub use Rattle.four_search.specs.FourGame.{four_tree}
 pub use Rattle.four_search.specs.FourPoints.{AfterFour, AfterReply, AreFourPoints, Joins, RulesOut, WasFourPoint, four_point_at}
 pub use Rattle.four_search.specs.FourPoints.{four_points_of, has_four_point, makes, place_in, still_at, still_of}
-pub use Rattle.four_search.specs.Gaps.{AreGaps, GapsOneWay, IsGap, IsGapOn, IsOfPair, IsPast, IsStoneGap, TellsGaps, next_gap}
+pub use Rattle.four_search.specs.Gaps.{AreGaps, GapsOneWay, IsGap, IsGapOn, IsOfPair, IsPast, TellsGaps, next_gap}
 pub use Rattle.four_search.specs.Plans.{answer_if, answers_for, branch_if, branches_for, plan_from}
 unfoldable pub use Rattle.four_search.specs.Plans.{four_plan}
 pub use Rattle.four_search.specs.Remembering.{IsDenied, IsTrueMemory}

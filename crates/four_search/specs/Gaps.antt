@@ -1,6 +1,6 @@
 -- Gaps beside a stone: the empty points that stones of its side part from it.
 use Rattle.std.specs.Prelude.{◌≡◌, ℕ, ◌+◌, ◌≤◌, true, ◌⊎◌, Option, Some}
-use Rattle.game_rules.specs.Grid.{Grid, is_empty, holds}
+use Rattle.game_rules.specs.Grid.{Grid, is_empty}
 use Rattle.game_rules.specs.Ways.{opposite, stones_towards, run_end}
 use Rattle.game_rules.specs.declared.Side.{Side}
 use Rattle.game_rules.specs.declared.Axis.{Axis}
@@ -45,10 +45,6 @@ pub record IsGapOn (b : Grid) (s : Side) (d : Axis) (p x : Point) : Type 0 where
 -- x is such a gap from the stone on p
 abbrev pub IsGap : Grid → Side → Point → Point → Type 0
 IsGap b s p x = (d : Axis) × IsGapOn b s d p x
-
--- x is such a gap from p, where a stone of the side stands
-abbrev pub IsStoneGap : Grid → Side → Point → Point → Type 0
-IsStoneGap b s p x = (holds b s p ≡ true) × IsGap b s p x
 
 -- the point past the stones of the side next to p in that way, if it is on the board and empty
 abbrev pub next_gap : Grid → Side → Axis → Way → Point → Option Point

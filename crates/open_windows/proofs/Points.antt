@@ -1,6 +1,6 @@
 -- The points of open windows.
 use Rattle.std.proofs.Common.{rules, ◌≡◌, ◌≢◌, inl, inr, ℕ, zero, suc, ◌+◌, ◌≤◌, ◌<◌, Bool, true, false, cond, ◌||◌, nat_le, nat_eq, List}
-use Rattle.std.proofs.Common.{refl, ap, ◌∙◌, arith, Option, Some, None}
+use Rattle.std.proofs.Common.{refl, subst, ap, ◌∙◌, arith, Option, Some, None}
 use Rattle.std.specs.List.{list_any, list_all, count_by, range_with_len}
 use Rattle.std.proofs.lemmas.Bool.{cases_eq, false_from_ne_true, both_ways}
 use Rattle.std.proofs.lemmas.Bool.Decides.{nat_tests}
@@ -158,6 +158,12 @@ in-lies b s least p h =
     let axis = some_axis (λ d. list_any (λ k. is_window b s least d (along d p 0 k)) (range_with_len 0 5)) (and_right (is_empty b p) _ h) in
     let place = some_of_five (λ k. is_window b s least axis.0 (along axis.0 p 0 k)) axis.1 in
     record { empty = and_left (is_empty b p) _ h; axis = axis.0; back = place.0; near = place.1; there = place.2 }
+
+-- the windows of a board and a side that are these
+pub windows-of : (a b : Grid) (t s : Side) (least : ℕ) (rows : List ℕ) → a ≡ b → t ≡ s → TellsWindows a t least rows
+    → TellsWindows b s least rows
+windows-of a b t s least rows board side h =
+    subst (λ (u : Side). TellsWindows b u least rows) side (subst (λ (w : Grid). TellsWindows w t least rows) board h)
 
 -- a point that the set is told not to have lies in no such window
 pub told-outside : (b : Grid) (s : Side) (least : ℕ) (rows : List ℕ) (p : Point) (r : Bool) → TellsWindows b s least rows

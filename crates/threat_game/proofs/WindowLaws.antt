@@ -16,12 +16,6 @@ use Rattle.threat_moves.proofs.GainLaws.{double-empty, threat-by_double}
 use Rattle.threat_game.proofs.Common.{makes_two, points_of_two}
 use Rattle.threat_game.proofs.NearDoubles.{no_five-no_double, outside-no_new_double}
 
--- the windows of a board and a side that are these
-pub windows-of : (a b : Grid) (t s : Side) (least : ℕ) (rows : List ℕ) → a ≡ b → t ≡ s → TellsWindows a t least rows
-    → TellsWindows b s least rows
-windows-of a b t s least rows board side h =
-    subst (λ (u : Side). TellsWindows b u least rows) side (subst (λ (w : Grid). TellsWindows w t least rows) board h)
-
 -- outside windows with three stones
 module _ (rule : RuleKind) (b : Grid) (s : Side) (p : Point) (ok : IsBoard b) (none : has_five rule b s ≡ false)
     (out : in_window b s 3 p ≡ false) where

@@ -5,7 +5,8 @@ use Rattle.game_rules.specs.Play.{mover}
 use Rattle.game_rules.specs.declared.Point.{Point}
 use Rattle.open_windows.specs.PointSets.{has_point}
 use Rattle.threat_game.specs.NearDoubles.{makes_two}
-use Rattle.threat_game.proofs.WindowLaws.{windows-of, two-in}
+use Rattle.open_windows.proofs.Points.{windows-of}
+use Rattle.threat_game.proofs.WindowLaws.{two-in}
 use Rattle.open_windows.proofs.SetOrder.{filter-windows}
 use Rattle.threat_game.proofs.attacks.all_twos.Goals as goal
 

@@ -5,7 +5,7 @@ use Rattle.game_rules.specs.Grid.{Grid, points_of}
 use Rattle.game_rules.specs.Play.{mover}
 use Rattle.threat_game.specs.Attacks.{AreWindows, tried_moves, is_settled_move}
 use Rattle.threat_game.proofs.AttackLaws.{others-fail}
-use Rattle.threat_game.proofs.WindowLaws.{windows-of}
+use Rattle.open_windows.proofs.Points.{windows-of}
 use Rattle.threat_game.proofs.attacks.find_moves.Goals as goal
 
 pub returns-clause-attacks : goal.returns-clause-attacks

@@ -6,7 +6,7 @@ use Rattle.threat_game.specs.declared.replies.Child.{Child}
 use Rattle.threat_game.proofs.Common.{AreKept, EachGoesOn, EscapesBy, IsJudgement, IsMetAt, first_with}
 use Rattle.threat_game.proofs.Kept.{first-more, stands}
 use Rattle.threat_game.proofs.ReplyLaws.{PartSoFar, all-in_part, part-met, part-more, part-none, part-pass}
-use Rattle.threat_game.proofs.WindowLaws.{windows-of}
+use Rattle.open_windows.proofs.Points.{windows-of}
 use Rattle.threat_game.proofs.replies.each_reply.Goals as goal
 
 pub loop-q-init : goal.loop-q-init
