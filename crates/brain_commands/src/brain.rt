@@ -9,7 +9,7 @@ ghost use Rattle.renju_io.specs.Faults.{HasNotFallen, HasStayed};
 ghost use Rattle.renju_io.specs.Asked.{GivesByEach};
 ghost use Rattle.brain_session.specs.Kept.{held_or_none};
 ghost use Rattle.command_base.specs.Statuses.{status_number};
-ghost use Rattle.command_base.specs.Runs.{change, program_run};
+ghost use Rattle.command_base.specs.Runs.{KeepsDevices, change, program_run};
 ghost use Rattle.brain_commands.specs.Brains.{EndsBrain, IsBrainWith, session_status};
 
 use brain_session::{Brain, ServeError, serve};
@@ -32,15 +32,9 @@ pub fn play_with<I: Source, O: Sink, F: Shelf>(
     ensures plays { (words : List (List ℕ)) → IsBrainWith file.now
         (program_run words (change I.left I.faults I.asked input.old input.new) (change O.written O.faults O.asked output.old output.new)
         (change F.files F.faults F.asked shelf.old shelf.new) (I.last input.new) (status_number result)) }
-    ensures taken { GivesByEach (I.left input.old) (I.left input.new) (I.asked input.old) (I.asked input.new) }
-    ensures input { HasNotFallen (I.faults input.old) (I.faults input.new) }
-    ensures output { HasNotFallen (O.faults output.old) (O.faults output.new) }
-    ensures shelf { HasNotFallen (F.faults shelf.old) (F.faults shelf.new) }
-    ensures files { F.files shelf.new ≡ F.files shelf.old }
-    ensures reads { status_number result ≢ status_number Status.ReadFault → HasStayed (I.faults input.old) (I.faults input.new) }
-    ensures writes { status_number result ≢ status_number Status.WriteFault → HasStayed (O.faults output.old) (O.faults output.new) }
-    ensures loads { status_number result ≢ status_number Status.ShelfFault → status_number result ≢ status_number Status.WriteFault
-        → HasStayed (F.faults shelf.old) (F.faults shelf.new) }
+    ensures devices { (words : List (List ℕ)) → KeepsDevices
+        (program_run words (change I.left I.faults I.asked input.old input.new) (change O.written O.faults O.asked output.old output.new)
+        (change F.files F.faults F.asked shelf.old shelf.new) (I.last input.new) (status_number result)) }
 {
     match load_file(alloc, Holdable::TableOrBook, file, shelf) {
         Ok(Loaded::Holds(held)) => play(alloc, Some(held), input, output),

@@ -1,7 +1,5 @@
 -- Commands that are told a position: what is said of a text that is that of a lawful one, and which statuses speak of it.
 use Rattle.std.proofs.Common.{◌≡◌, inl, inr, ap, subst, ◌∙◌, ◌⊎◌, ℕ, ◌≤◌, ◌<◌, List, arith, IfSome}
-use Rattle.game_rules.proofs.Common.{Grid}
-use Rattle.game_rules.specs.declared.RuleKind.{RuleKind}
 use Rattle.position_files.specs.declared.PositionFile.{PositionFile}
 use Rattle.position_files.proofs.ReadBack.{position-read-back}
 use Rattle.renju_io.specs.Told.{Takes}
@@ -9,10 +7,6 @@ use Rattle.command_base.specs.declared.status.Status.{Status}
 use Rattle.command_base.proofs.Common.{status_number, Run, AnswersTold, IsTold, IsYielded, IsPositionAt, PositionCommand, SaysOfPosition}
 use Rattle.command_base.proofs.Common.{of_position, SpeaksOfPosition, IsSearched, ShowsOfPosition}
 use Rattle.command_base.proofs.ToldLaws.{IsWhole, answers-told, whole-or-yielded, given-told, every-told}
-
--- the position at a board under a rule
-abbrev pub file_at : RuleKind → Grid → PositionFile
-file_at rule b = record { kind = rule; board = b }
 
 -- the text of a lawful position is not refused, and no other position has it: so what is said is said of this one
 pub said-of-position : (Says : PositionFile → Status → List ℕ → Type 0) (bytes : List ℕ) (file : PositionFile) → IsPositionAt file bytes

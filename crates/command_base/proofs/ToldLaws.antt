@@ -1,12 +1,15 @@
 -- How a told command ends, whatever it says.
-use Rattle.std.proofs.Common.{◌≡◌, inl, inr, refl, sym, ap, subst, ◌∙◌, ◌⊎◌, ℕ, suc, ◌+◌, ◌<◌, List, length}
+use Rattle.std.proofs.Common.{◌≡◌, ◌≢◌, inl, inr, refl, sym, ap, subst, ◌∙◌, ◌⊎◌, ℕ, suc, ◌+◌, ◌<◌, List, length}
 use Rattle.std.proofs.Common.{arith, Option, Some, None, IfSome, replicate}
 use Rattle.std.proofs.lemmas.Option.{same_Some}
 use Rattle.std.proofs.lemmas.List.{length-replicate}
 use Rattle.renju_io.specs.Told.{Takes}
+use Rattle.renju_io.specs.Faults.{HasNotFallen}
+use Rattle.renju_io.proofs.AskedCalls.{by_each_none}
 use Rattle.renju_io.specs.declared.TheConstants.{MAX_INPUT_BYTES}
 use Rattle.command_base.specs.declared.status.Status.{Status}
-use Rattle.command_base.specs.declared.status.Status.TheVariants.{TooLong}
+use Rattle.command_base.specs.declared.status.Status.TheVariants.{ShelfFault, TooLong, WriteFault}
+use Rattle.command_base.specs.Runs.{HasNoFault, IsUnasked, KeepsDevices}
 use Rattle.command_base.proofs.Common.{status_number, too_long_line, Change, Run, IsAskedNoMore, IsDelivered, IsOutOfMemory, ToldCommand}
 use Rattle.command_base.proofs.Common.{IsInput, IsSaid, IsLongInput, EndsTold, IsTold, IsYielded, IsUnhindered, HasToldAnswer, AnswersTold}
 
@@ -164,3 +167,19 @@ answers-told command law run told bytes free = answers-by command law run bytes 
 pub told-some : {X : Type 0} (P : X → Type 0) (o : Option X) (x : X) → o ≡ Some x → IfSome o P → P x
 told-some P None x told h = absurd (cc)
 told-some P (Some own) x told h = subst P (same_Some own x told) h
+
+-- a run that leaves its input unasked keeps the devices where it keeps the others
+pub unread-devices : (run : Run) → IsUnasked run.input → HasNotFallen run.output.faults_before run.output.faults_after
+    → HasNotFallen run.shelf.faults_before run.shelf.faults_after → run.shelf.after ≡ run.shelf.before
+    → (run.status ≢ status_number WriteFault → HasNoFault run.output)
+    → (run.status ≢ status_number ShelfFault → run.status ≢ status_number WriteFault → HasNoFault run.shelf) → KeepsDevices run
+unread-devices run unasked output shelf files writes loads = record {
+  taken = rw (unasked.same, unasked.asked) (by_each_none _ _);
+  input = let same = unasked.faults in omega (arith, same);
+  output = output;
+  shelf = shelf;
+  files = files;
+  reads = λ other. unasked.faults;
+  writes = writes;
+  loads = loads;
+}

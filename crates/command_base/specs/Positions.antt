@@ -1,12 +1,18 @@
 -- Commands that are told a position: the text is read, and why it is refused is told, or else something of the position.
 use Rattle.std.specs.Prelude.{◌⊎◌, ℕ, List}
+use Rattle.game_rules.specs.Grid.{Grid}
 use Rattle.game_rules.specs.Play.{IsPosition}
+use Rattle.game_rules.specs.declared.RuleKind.{RuleKind}
 use Rattle.position_files.specs.declared.PositionFile.{PositionFile}
 use Rattle.position_files.specs.Positions.{IsTextOfPosition}
 use Rattle.position_files.specs.Faults.{IsPositionFault}
 use Rattle.command_base.specs.declared.status.Status.{Status}
 use Rattle.command_base.specs.Refusals.{IsRefusedText}
 use Rattle.command_base.specs.Told.{ToldCommand}
+
+-- the position at a board under a rule
+abbrev pub file_at : RuleKind → Grid → PositionFile
+file_at rule b = record { kind = rule; board = b }
 
 -- the input is the text of a lawful position
 pub record IsPositionAt (file : PositionFile) (input : List ℕ) : Type 0 where

@@ -8,7 +8,7 @@ ghost use Rattle.std.specs.Prelude.{ℕ, List, IfOk};
 ghost use Rattle.game_rules.specs.Play.{IsPosition};
 ghost use Rattle.position_files.specs.declared.PositionFile.{PositionFile};
 ghost use Rattle.command_base.specs.declared.status.Status.{Status};
-ghost use Rattle.command_base.specs.Positions.{SaysOfPosition};
+ghost use Rattle.command_base.specs.Positions.{SaysOfPosition, file_at};
 
 use crate::answer::Answer;
 use crate::refusals::refused_text;
@@ -31,7 +31,7 @@ pub trait AtPosition {
     fn say_at<R: Rule>(&self, alloc: Global, position: Position<R>) -> Result<Answer, AllocError>
         requires in_range { in_range self.now }
         requires lawful { IsPosition R.KIND position }
-        ensures says { IfOk result (λ answer. says self.now (record { kind = R.KIND; board = position }) answer.status answer.text) };
+        ensures says { IfOk result (λ answer. says self.now (file_at R.KIND position) answer.status answer.text) };
 }
 
 /// A command that is told a position, as one that is told its input.

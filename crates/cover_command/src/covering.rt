@@ -1,13 +1,11 @@
 //! What the parts are to the position of the input, after an attack of the side to move or at once.
 #![tactic(auto)]
 
-ghost use Rattle.std.specs.Prelude.{◌≡◌, ◌≢◌, ◌≤◌, ℕ, List, length, map, IfOk, string_bytes};
+ghost use Rattle.std.specs.Prelude.{◌≡◌, ◌≤◌, ℕ, List, length, map, IfOk, string_bytes};
 ghost use Rattle.game_rules.specs.Play.{outcome};
-ghost use Rattle.renju_io.specs.Faults.{HasNotFallen, HasStayed};
-ghost use Rattle.renju_io.specs.Asked.{GivesByEach};
 ghost use Rattle.reply_cover.specs.declared.TheConstants.{MAX_PARTS};
 ghost use Rattle.command_base.specs.Statuses.{status_number};
-ghost use Rattle.command_base.specs.Runs.{change, program_run};
+ghost use Rattle.command_base.specs.Runs.{KeepsDevices, change, program_run};
 ghost use Rattle.cover_command.specs.PartFiles.{ArePartNames};
 ghost use Rattle.cover_command.specs.Covers.{AttackSays, IsCoverRun, IsToldCover, cover_line, no_table_line};
 
@@ -72,15 +70,9 @@ pub fn cover_with<I: Source, O: Sink, F: Shelf>(
     ensures covers { (words : List (List ℕ)) → IsCoverRun covering.now.work covering.now.attack (map string_bytes covering.now.names.now)
         (program_run words (change I.left I.faults I.asked input.old input.new) (change O.written O.faults O.asked output.old output.new)
         (change F.files F.faults F.asked shelf.old shelf.new) (I.last input.new) (status_number result)) }
-    ensures taken { GivesByEach (I.left input.old) (I.left input.new) (I.asked input.old) (I.asked input.new) }
-    ensures input { HasNotFallen (I.faults input.old) (I.faults input.new) }
-    ensures output { HasNotFallen (O.faults output.old) (O.faults output.new) }
-    ensures shelf { HasNotFallen (F.faults shelf.old) (F.faults shelf.new) }
-    ensures files { F.files shelf.new ≡ F.files shelf.old }
-    ensures reads { status_number result ≢ status_number Status.ReadFault → HasStayed (I.faults input.old) (I.faults input.new) }
-    ensures writes { status_number result ≢ status_number Status.WriteFault → HasStayed (O.faults output.old) (O.faults output.new) }
-    ensures loads { status_number result ≢ status_number Status.ShelfFault → status_number result ≢ status_number Status.WriteFault
-        → HasStayed (F.faults shelf.old) (F.faults shelf.new) }
+    ensures devices { (words : List (List ℕ)) → KeepsDevices
+        (program_run words (change I.left I.faults I.asked input.old input.new) (change O.written O.faults O.asked output.old output.new)
+        (change F.files F.faults F.asked shelf.old shelf.new) (I.last input.new) (status_number result)) }
 {
     match load_parts(alloc, covering.names, covering.work, shelf) {
         Ok(Parts::Kept(parts)) => {

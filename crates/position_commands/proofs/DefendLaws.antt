@@ -19,7 +19,8 @@ use Rattle.defence_finder.specs.Answers.{AreBeaten, IsLostStart, nodes_after}
 use Rattle.defence_finder.proofs.Telling.{spent-told}
 use Rattle.defence_finder.proofs.Losing.{beaten-replies-planned, beaten-replies-win, no_defence-loses}
 use Rattle.command_base.specs.Told.{IsYielded}
-use Rattle.command_base.proofs.PositionLaws.{file_at, shows-of-position}
+use Rattle.command_base.specs.Positions.{file_at}
+use Rattle.command_base.proofs.PositionLaws.{shows-of-position}
 
 -- ---- the budget
 

@@ -12,7 +12,7 @@ use Rattle.four_search.specs.FewestWins.{IsFoundTable, IsFourTable as IsMade}
 use Rattle.four_search.specs.FourGame.{four_cost}
 use Rattle.command_base.specs.declared.status.Status.TheVariants.{NotFound}
 use Rattle.command_base.specs.Texts.{none_line}
-use Rattle.command_base.proofs.PositionLaws.{file_at}
+use Rattle.command_base.specs.Positions.{file_at}
 
 -- a new compiler has no more nodes than are added
 pub new-few : (t c : List Node) (most : ℕ) → t ≡ [] → GrowsBy t c most → length c ≤ most

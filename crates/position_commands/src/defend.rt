@@ -9,6 +9,8 @@ ghost use Rattle.game_rules.specs.Play.{IsPosition};
 ghost use Rattle.defence_finder.specs.Defences.{defences_of};
 ghost use Rattle.defence_finder.specs.Answers.{AreBeaten, most_nodes};
 ghost use Rattle.defence_finder.specs.Lines.{defences_text};
+ghost use Rattle.command_base.specs.Positions.{file_at};
+ghost use Rattle.position_commands.specs.Fours.{AreLimits};
 ghost use Rattle.position_commands.specs.Defends.{DefenceSays, IsLostText, LostTextIsOne, spent_after_line};
 
 use command_base::{Answer, AtPosition, Status};
@@ -54,10 +56,8 @@ fn search_defences<R: Rule>(
     nodes: u64,
 ) -> Result<Answer, AllocError>
     requires lawful { IsPosition R.KIND position }
-    requires some_depth { 1 ≤ depth }
-    requires depth_fits { depth ≤ MAX_DEPTH }
-    requires some_nodes { 1 ≤ nodes }
-    ensures says { IfOk result (λ answer. DefenceSays depth nodes (record { kind = R.KIND; board = position }) answer.status answer.text) }
+    requires limits { AreLimits depth nodes }
+    ensures says { IfOk result (λ answer. DefenceSays depth nodes (file_at R.KIND position) answer.status answer.text) }
 {
     let mut view = position;
     let mut compiler = Compiler::new(alloc);

@@ -8,7 +8,8 @@ ghost use Rattle.std.specs.Prelude.{◌≡◌, ◌≤◌, ◌<◌, ℕ, length, 
 ghost use Rattle.strategy_graph.specs.Tables.{TableOnBoard};
 ghost use Rattle.strategy_compiler.specs.Wins.{IsWrittenWin};
 ghost use Rattle.position_files.specs.Tables.{IsTextOfTable};
-ghost use Rattle.position_commands.specs.Fours.{SearchSays, IsShortWinText, table_at};
+ghost use Rattle.command_base.specs.Positions.{file_at};
+ghost use Rattle.position_commands.specs.Fours.{AreLimits, SearchSays, IsShortWinText, table_at};
 
 use command_base::{Answer, AtPosition, Status, none, spent};
 use foul_judge::{Position, Seen};
@@ -48,10 +49,8 @@ fn search<R: Rule>(
     depth: u32,
     nodes: u64,
 ) -> Result<Answer, AllocError>
-    requires some_depth { 1 ≤ depth }
-    requires depth_fits { depth ≤ MAX_DEPTH }
-    requires some_nodes { 1 ≤ nodes }
-    ensures says { IfOk result (λ answer. SearchSays depth nodes (record { kind = R.KIND; board = position }) answer.status answer.text) }
+    requires limits { AreLimits depth nodes }
+    ensures says { IfOk result (λ answer. SearchSays depth nodes (file_at R.KIND position) answer.status answer.text) }
 {
     let mut view = position;
     match fewest_win::<R, Position<R>>(alloc, &mut view, depth, nodes)? {
@@ -74,7 +73,7 @@ pub fn table_text<R: Rule>(
     requires moves_fit { moves ≤ MAX_DEPTH }
     ensures status { IfOk result (λ answer. answer.status ≡ Status.Done) }
     ensures text { IfOk result (λ answer.
-        IsTextOfTable (table_at (record { kind = R.KIND; board = board.now }) moves table.now) answer.text) }
+        IsTextOfTable (table_at (file_at R.KIND board.now) moves table.now) answer.text) }
 {
     let root = Root::Attack(table.len() - 1);
     let bytes = write_table(alloc, R::KIND, board, table, &root, moves)?;
@@ -91,7 +90,7 @@ pub fn win_text<R: Rule>(
     requires win { (limit : ℕ) × (limit ≤ MAX_DEPTH) × IsWrittenWin R.KIND limit position compiler win }
     ensures status { IfOk result (λ answer. answer.status ≡ Status.Done) }
     ensures shown { IfOk result (λ answer. (limit : ℕ) → IsWrittenWin R.KIND limit position compiler win
-        → IsShortWinText limit (length compiler) (record { kind = R.KIND; board = position }) answer.text) }
+        → IsShortWinText limit (length compiler) (file_at R.KIND position) answer.text) }
 {
     let table = compiler.finish_win(win)?;
     table_text::<R>(alloc, position.board(), &table, win.moves)

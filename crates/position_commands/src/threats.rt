@@ -5,10 +5,11 @@
 //! to look for a win and is none by itself, since the other side may answer with fours of its own.
 #![tactic(auto)]
 
-ghost use Rattle.std.specs.Prelude.{◌≡◌, ◌≤◌, ◌++◌, IfOk, string_bytes};
+ghost use Rattle.std.specs.Prelude.{◌≡◌, ◌++◌, IfOk, string_bytes};
 ghost use Rattle.std.specs.List.{flat_map};
-ghost use Rattle.position_commands.specs.Threats.{SequenceSays, kind_word as kind_word_lem, axis_word as axis_word_lem, threat_line};
-ghost use Rattle.position_commands.specs.Threats.{sequence_text as sequence_text_lem};
+ghost use Rattle.command_base.specs.Positions.{file_at};
+ghost use Rattle.position_commands.specs.Threats.{AreLengthAndNodes, SequenceSays, kind_word as kind_word_lem, axis_word as axis_word_lem};
+ghost use Rattle.position_commands.specs.Threats.{threat_line, sequence_text as sequence_text_lem};
 
 use command_base::{Answer, AtPosition, Status, none, spent};
 use foul_judge::{Position, Seen};
@@ -17,7 +18,7 @@ use std::alloc::{AllocError, Global};
 use stone_board::{Axis, Point};
 use text_lines::{push_points, push_spaced_point};
 use threat_moves::{Threat, ThreatKind, Threats};
-use threat_space::{MAX_LENGTH, SpaceAnswer, threat_space};
+use threat_space::{SpaceAnswer, threat_space};
 
 /// `threats LENGTH NODES`.
 #[derive(Clone, Copy)]
@@ -47,10 +48,8 @@ fn search<R: Rule>(
     length: u32,
     nodes: u64,
 ) -> Result<Answer, AllocError>
-    requires some_length { 1 ≤ length }
-    requires length_fits { length ≤ MAX_LENGTH }
-    requires some_nodes { 1 ≤ nodes }
-    ensures says { IfOk result (λ answer. SequenceSays length nodes (record { kind = R.KIND; board = position }) answer.status answer.text) }
+    requires limits { AreLengthAndNodes length nodes }
+    ensures says { IfOk result (λ answer. SequenceSays length nodes (file_at R.KIND position) answer.status answer.text) }
 {
     let side = position.side();
     let mut board = position.into_board();

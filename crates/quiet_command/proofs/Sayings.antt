@@ -6,7 +6,7 @@ use Rattle.strategy_graph.specs.declared.Node.{Node}
 use Rattle.position_files.proofs.Common.{IsTextOfTable}
 use Rattle.command_base.specs.declared.answer.Answer.{Answer}
 use Rattle.command_base.specs.declared.status.Status.TheVariants.{Done}
-use Rattle.command_base.proofs.PositionLaws.{file_at}
+use Rattle.command_base.specs.Positions.{file_at}
 use Rattle.position_commands.specs.Fours.{table_at}
 use Rattle.quiet_command.proofs.Common.{IsCheckedTable, IsFinished, IsUnsolved, QuietSays}
 

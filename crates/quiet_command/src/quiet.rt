@@ -5,13 +5,14 @@
 //! names a point off the board counts as none.
 #![tactic(auto)]
 
-ghost use Rattle.std.specs.Prelude.{◌≡◌, ◌≤◌, ◌<◌, length, IfOk, IfSome, IsTrue};
+ghost use Rattle.std.specs.Prelude.{◌≡◌, ◌<◌, length, IfOk, IfSome, IsTrue};
 ghost use Rattle.strategy_graph.specs.Tables.{RepliesOn, TableOnBoard};
+ghost use Rattle.command_base.specs.Positions.{file_at};
+ghost use Rattle.position_commands.specs.Fours.{AreLimits};
 ghost use Rattle.quiet_command.specs.Quiets.{IsCheckedTable, IsFinished, IsUnsolved, QuietSays};
 
-use command_base::{Answer, AtPosition, MAX_SEARCHED, Status, spent};
+use command_base::{Answer, AtPosition, Status, spent};
 use foul_judge::{Position, Seen};
-use four_search::MAX_DEPTH;
 use position_commands::table_text;
 use proof_tree::ProofTree;
 use quiet_search::{MAX_LISTED, quiet_search};
@@ -64,12 +65,9 @@ fn by_quiet_moves<R: Rule>(
     depth: u32,
     nodes: u64,
 ) -> Result<Answer, AllocError>
-    requires some_depth { 1 ≤ depth }
-    requires depth_fits { depth ≤ MAX_DEPTH }
-    requires some_nodes { 1 ≤ nodes }
-    requires nodes_fit { nodes ≤ MAX_SEARCHED }
-    requires unsolved { IsUnsolved depth nodes (record { kind = R.KIND; board = position }) }
-    ensures says { IfOk result (λ answer. QuietSays depth nodes (record { kind = R.KIND; board = position }) answer.status answer.text) }
+    requires limits { AreLimits depth nodes }
+    requires unsolved { IsUnsolved depth nodes (file_at R.KIND position) }
+    ensures says { IfOk result (λ answer. QuietSays depth nodes (file_at R.KIND position) answer.status answer.text) }
 {
     let mut view = position;
     let Some(table) = found_table::<R>(alloc, &view, depth, nodes)? else {
@@ -89,9 +87,7 @@ fn found_table<R: Rule>(
     depth: u32,
     nodes: u64,
 ) -> Result<Option<Table>, AllocError>
-    requires some_depth { 1 ≤ depth }
-    requires depth_fits { depth ≤ MAX_DEPTH }
-    requires some_nodes { 1 ≤ nodes }
+    requires limits { AreLimits depth nodes }
     ensures finished { IfOk result (λ found. IfSome found IsFinished) }
 {
     let mut compiler = Compiler::new(alloc);

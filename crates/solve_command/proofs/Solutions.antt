@@ -25,7 +25,7 @@ use Rattle.position_commands.specs.Fours.{IsShortWinText, table_at}
 use Rattle.command_base.specs.Texts.{none_line, spent_line, full_line}
 use Rattle.solve_command.specs.declared.solve.Searched.TheVariants.{Win, None as NoWin, Spent as OverBudget}
 use Rattle.solve_command.proofs.Common.{SolutionSays, IsWonByFours, IsFirstLine, IsLeftOver, IsToldByThreats, MayBeTooGreat}
-use Rattle.command_base.proofs.PositionLaws.{file_at}
+use Rattle.command_base.specs.Positions.{file_at}
 use Rattle.position_commands.proofs.Searches.{four-text, wins-last}
 
 -- a line that is proved wins

@@ -6,13 +6,15 @@
 //! not told.
 #![tactic(auto)]
 
-ghost use Rattle.std.specs.Prelude.{◌≡◌, ◌≤◌, List, IfOk, MatchOption};
+ghost use Rattle.std.specs.Prelude.{◌≡◌, List, IfOk, MatchOption};
 ghost use Rattle.threat_moves.specs.declared.threat_list.Threat.{Threat};
+ghost use Rattle.command_base.specs.Positions.{file_at};
+ghost use Rattle.position_commands.specs.Fours.{AreLimits};
 ghost use Rattle.solve_command.specs.Solves.{SolutionSays, IsWonByFours, IsFirstLine, IsLeftOver, IsToldByThreats};
 
-use command_base::{Answer, AtPosition, MAX_SEARCHED, full, none, spent};
+use command_base::{Answer, AtPosition, full, none, spent};
 use foul_judge::{Position, Seen};
-use four_search::{MAX_DEPTH, fewest_win};
+use four_search::fewest_win;
 use line_proof::{LineAnswer, prove_line};
 use position_commands::{table_text, win_text};
 use proof_number::{ProofAnswer, proof_number};
@@ -52,11 +54,8 @@ fn by_fours<R: Rule>(
     depth: u32,
     nodes: u64,
 ) -> Result<Answer, AllocError>
-    requires some_depth { 1 ≤ depth }
-    requires depth_fits { depth ≤ MAX_DEPTH }
-    requires some_nodes { 1 ≤ nodes }
-    requires nodes_fit { nodes ≤ MAX_SEARCHED }
-    ensures says { IfOk result (λ answer. SolutionSays depth nodes (record { kind = R.KIND; board = position }) answer.status answer.text) }
+    requires limits { AreLimits depth nodes }
+    ensures says { IfOk result (λ answer. SolutionSays depth nodes (file_at R.KIND position) answer.status answer.text) }
 {
     let mut view = position;
     match fewest_win::<R, Position<R>>(alloc, &mut view, depth, nodes)?.win() {
@@ -72,12 +71,9 @@ fn by_line<R: Rule>(
     depth: u32,
     nodes: u64,
 ) -> Result<Answer, AllocError>
-    requires some_depth { 1 ≤ depth }
-    requires depth_fits { depth ≤ MAX_DEPTH }
-    requires some_nodes { 1 ≤ nodes }
-    requires nodes_fit { nodes ≤ MAX_SEARCHED }
-    requires no_fours { ¬ IsWonByFours depth nodes (record { kind = R.KIND; board = position }) }
-    ensures says { IfOk result (λ answer. SolutionSays depth nodes (record { kind = R.KIND; board = position }) answer.status answer.text) }
+    requires limits { AreLimits depth nodes }
+    requires no_fours { ¬ IsWonByFours depth nodes (file_at R.KIND position) }
+    ensures says { IfOk result (λ answer. SolutionSays depth nodes (file_at R.KIND position) answer.status answer.text) }
 {
     match first_line(alloc, &position, depth, nodes)? {
         Some(line) => prove_first(alloc, position, &line, depth, nodes),
@@ -92,10 +88,10 @@ fn first_line<R: Rule>(
     depth: u32,
     nodes: u64,
 ) -> Result<Option<Threats>, AllocError>
-    requires some_depth { 1 ≤ depth }
-    requires some_nodes { 1 ≤ nodes }
-    ensures line { IfOk result (λ found. MatchOption found ((line : List Threat) → ¬ IsFirstLine depth nodes (record { kind = R.KIND; board = position.now }) line)
-        (λ line. IsFirstLine depth nodes (record { kind = R.KIND; board = position.now }) line)) }
+    requires limits { AreLimits depth nodes }
+    ensures line { IfOk result (λ found. MatchOption found
+        ((line : List Threat) → ¬ IsFirstLine depth nodes (file_at R.KIND position.now) line)
+        (λ line. IsFirstLine depth nodes (file_at R.KIND position.now) line)) }
 {
     let mut board = position.board().copy()?;
     let length = depth.min(MAX_LENGTH);
@@ -114,13 +110,10 @@ fn prove_first<R: Rule>(
     depth: u32,
     nodes: u64,
 ) -> Result<Answer, AllocError>
-    requires some_depth { 1 ≤ depth }
-    requires depth_fits { depth ≤ MAX_DEPTH }
-    requires some_nodes { 1 ≤ nodes }
-    requires nodes_fit { nodes ≤ MAX_SEARCHED }
-    requires no_fours { ¬ IsWonByFours depth nodes (record { kind = R.KIND; board = position }) }
-    requires line { IsFirstLine depth nodes (record { kind = R.KIND; board = position }) line.now }
-    ensures says { IfOk result (λ answer. SolutionSays depth nodes (record { kind = R.KIND; board = position }) answer.status answer.text) }
+    requires limits { AreLimits depth nodes }
+    requires no_fours { ¬ IsWonByFours depth nodes (file_at R.KIND position) }
+    requires line { IsFirstLine depth nodes (file_at R.KIND position) line.now }
+    ensures says { IfOk result (λ answer. SolutionSays depth nodes (file_at R.KIND position) answer.status answer.text) }
 {
     let mut view = position;
     let mut compiler = Compiler::new(alloc);
@@ -139,12 +132,9 @@ fn by_threats<R: Rule>(
     depth: u32,
     nodes: u64,
 ) -> Result<Answer, AllocError>
-    requires some_depth { 1 ≤ depth }
-    requires depth_fits { depth ≤ MAX_DEPTH }
-    requires some_nodes { 1 ≤ nodes }
-    requires nodes_fit { nodes ≤ MAX_SEARCHED }
-    requires left { IsLeftOver depth nodes (record { kind = R.KIND; board = position }) }
-    ensures says { IfOk result (λ answer. SolutionSays depth nodes (record { kind = R.KIND; board = position }) answer.status answer.text) }
+    requires limits { AreLimits depth nodes }
+    requires left { IsLeftOver depth nodes (file_at R.KIND position) }
+    ensures says { IfOk result (λ answer. SolutionSays depth nodes (file_at R.KIND position) answer.status answer.text) }
 {
     let mut view = position;
     match searched_in_turn::<R>(alloc, &mut view, depth, nodes)? {
@@ -172,10 +162,7 @@ fn searched_in_turn<R: Rule>(
     depth: u32,
     nodes: u64,
 ) -> Result<Searched, AllocError>
-    requires some_depth { 1 ≤ depth }
-    requires depth_fits { depth ≤ MAX_DEPTH }
-    requires some_nodes { 1 ≤ nodes }
-    requires nodes_fit { nodes ≤ MAX_SEARCHED }
+    requires limits { AreLimits depth nodes }
     ensures told { IfOk result (IsToldByThreats R.KIND depth nodes view.old) }
     ensures same { view.new ≡ view.old }
 {
@@ -195,10 +182,7 @@ fn searched_within<R: Rule>(
     moves: u32,
     nodes: u64,
 ) -> Result<Searched, AllocError>
-    requires some_moves { 1 ≤ moves }
-    requires moves_fit { moves ≤ MAX_DEPTH }
-    requires some_nodes { 1 ≤ nodes }
-    requires nodes_fit { nodes ≤ MAX_SEARCHED }
+    requires limits { AreLimits moves nodes }
     ensures told { IfOk result (IsToldByThreats R.KIND moves nodes view.old) }
     ensures same { view.new ≡ view.old }
 {

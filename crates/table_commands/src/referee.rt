@@ -4,13 +4,11 @@
 //! game is asked only once the table is accepted.
 #![tactic(auto)]
 
-ghost use Rattle.std.specs.Prelude.{◌≡◌, ◌≢◌, ◌<◌, ℕ, List, length, IfOk, IsOk};
+ghost use Rattle.std.specs.Prelude.{◌≡◌, ◌<◌, ℕ, List, length, IfOk, IsOk};
 ghost use Rattle.game_rules.specs.Play.{IsPosition};
 ghost use Rattle.position_files.specs.declared.TableFile.{TableFile};
-ghost use Rattle.renju_io.specs.Faults.{HasNotFallen, HasStayed};
-ghost use Rattle.renju_io.specs.Asked.{GivesByEach};
 ghost use Rattle.command_base.specs.Statuses.{status_number};
-ghost use Rattle.command_base.specs.Runs.{change, program_run};
+ghost use Rattle.command_base.specs.Runs.{KeepsDevices, change, program_run};
 ghost use Rattle.file_loading.specs.HeldFiles.{held_by, of_table};
 ghost use Rattle.table_commands.specs.Referees.{IsCompared, IsJudged, IsRefereeWith, TellsTable, of_game, replay_line as replay_line_lem};
 
@@ -78,15 +76,9 @@ pub fn referee_with<I: Source, O: Sink, F: Shelf>(
     ensures referees { (words : List (List ℕ)) → IsRefereeWith file.now
         (program_run words (change I.left I.faults I.asked input.old input.new) (change O.written O.faults O.asked output.old output.new)
         (change F.files F.faults F.asked shelf.old shelf.new) (I.last input.new) (status_number result)) }
-    ensures taken { GivesByEach (I.left input.old) (I.left input.new) (I.asked input.old) (I.asked input.new) }
-    ensures input { HasNotFallen (I.faults input.old) (I.faults input.new) }
-    ensures output { HasNotFallen (O.faults output.old) (O.faults output.new) }
-    ensures shelf { HasNotFallen (F.faults shelf.old) (F.faults shelf.new) }
-    ensures files { F.files shelf.new ≡ F.files shelf.old }
-    ensures reads { status_number result ≢ status_number Status.ReadFault → HasStayed (I.faults input.old) (I.faults input.new) }
-    ensures writes { status_number result ≢ status_number Status.WriteFault → HasStayed (O.faults output.old) (O.faults output.new) }
-    ensures loads { status_number result ≢ status_number Status.ShelfFault → status_number result ≢ status_number Status.WriteFault
-        → HasStayed (F.faults shelf.old) (F.faults shelf.new) }
+    ensures devices { (words : List (List ℕ)) → KeepsDevices
+        (program_run words (change I.left I.faults I.asked input.old input.new) (change O.written O.faults O.asked output.old output.new)
+        (change F.files F.faults F.asked shelf.old shelf.new) (I.last input.new) (status_number result)) }
 {
     match load_file(alloc, Holdable::Table, file, shelf) {
         Ok(Loaded::Holds(held)) => tell(alloc, &RefereeBy { held: &held }, input, output),

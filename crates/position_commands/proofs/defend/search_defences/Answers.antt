@@ -14,7 +14,7 @@ unreachable-requires g c =
     let more = c.in-Err-Full.ensures.writes.full (ap Err c.in-Err-Full.field-0-is) in
     let none = rw c.new-compiler.ensures.empty at more in
     let board : IsBoard p = c.requires.lawful.board in
-    let fits = c.requires.depth_fits in
+    let fits = c.requires.limits.1 in
     let few = few-nodes n p fits board in
     omega (arith, none, few)
 

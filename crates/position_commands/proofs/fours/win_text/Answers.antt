@@ -2,7 +2,7 @@ use Rattle.std.proofs.Common.{ℕ, arith, length}
 use Rattle.std.proofs.lemmas.Result.{IfOk-weaker}
 use Rattle.position_commands.proofs.Common.{Grid, IsTextOfTable, Answer, table_at, IsShortWinText}
 use Rattle.strategy_compiler.proofs.Common.{IsWrittenWin}
-use Rattle.command_base.proofs.PositionLaws.{file_at}
+use Rattle.command_base.specs.Positions.{file_at}
 use Rattle.position_commands.proofs.fours.win_text.Goals as goal
 
 pub table_text-requires : goal.table_text-requires

@@ -4,7 +4,7 @@ use Rattle.strategy_graph.proofs.Fuel.{accepted-deep}
 use Rattle.strategy_compiler.proofs.Common.{last}
 use Rattle.position_files.proofs.Common.{IsTextOfTable}
 use Rattle.position_commands.specs.Fours.{table_at}
-use Rattle.command_base.proofs.PositionLaws.{file_at}
+use Rattle.command_base.specs.Positions.{file_at}
 use Rattle.quiet_command.proofs.Sayings.{checked-says}
 use Rattle.quiet_command.proofs.quiet.by_quiet_moves.Goals as goal
 

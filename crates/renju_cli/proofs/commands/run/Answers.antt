@@ -1,5 +1,5 @@
 use Rattle.std.proofs.Common.{◌≡◌, ℕ, List, arith, inl, refl, sym, subst, ◌∙◌, length, map, string_bytes}
-use Rattle.renju_io.proofs.AskedCalls.{by_each_none}
+use Rattle.command_base.proofs.ToldLaws.{unread-devices}
 use Rattle.renju_cli.specs.declared.commands.Form.{Form}
 use Rattle.renju_cli.specs.declared.commands.Form.TheVariants.{BrainWith, RefereeWith, Bind, Cover}
 use Rattle.command_base.specs.Statuses.{status_number}
@@ -23,29 +23,23 @@ returns-in-None-clause-report g c = inl (record {
 
 -- the input and the shelf are not asked for the usage line
 pub returns-in-None-clause-devices : goal.returns-in-None-clause-devices
-returns-in-None-clause-devices g c = record {
-  taken = by_each_none (g.I.Source.left c.args.input.now) (g.I.Source.asked c.args.input.now);
-  input = omega arith;
-  output = c.deliver.ensures.counted;
-  shelf = omega arith;
-  files = refl;
-  reads = λ _. refl;
-  writes = c.deliver.ensures.writes;
-  loads = λ _ _. refl;
-}
+returns-in-None-clause-devices g c = unread-devices _ (record { same = refl; faults = refl; asked = refl }) c.deliver.ensures.counted
+    (omega arith) refl c.deliver.ensures.writes (λ _ _. refl)
 
 -- nor is the input for files
 pub returns-in-Some-Bind-clause-devices : goal.returns-in-Some-Bind-clause-devices
-returns-in-Some-Bind-clause-devices g c = record {
-  taken = by_each_none (g.I.Source.left c.args.input.now) (g.I.Source.asked c.args.input.now);
-  input = omega arith;
-  output = c.bind_book.ensures.output;
-  shelf = c.bind_book.ensures.shelf;
-  files = c.bind_book.ensures.files;
-  reads = λ _. refl;
-  writes = c.bind_book.ensures.writes;
-  loads = c.bind_book.ensures.loads;
-}
+returns-in-Some-Bind-clause-devices g c = unread-devices _ (record { same = refl; faults = refl; asked = refl }) c.bind_book.ensures.output
+    c.bind_book.ensures.shelf c.bind_book.ensures.files c.bind_book.ensures.writes c.bind_book.ensures.loads
+
+-- what a command with files says of its devices holds whatever the words
+pub returns-in-Some-BrainWith-clause-devices : goal.returns-in-Some-BrainWith-clause-devices
+returns-in-Some-BrainWith-clause-devices g c = c.play_with.ensures.devices (map string_bytes c.args.words.now)
+
+pub returns-in-Some-RefereeWith-clause-devices : goal.returns-in-Some-RefereeWith-clause-devices
+returns-in-Some-RefereeWith-clause-devices g c = c.referee_with.ensures.devices (map string_bytes c.args.words.now)
+
+pub returns-in-Some-Cover-clause-devices : goal.returns-in-Some-Cover-clause-devices
+returns-in-Some-Cover-clause-devices g c = c.cover_with.ensures.devices (map string_bytes c.args.words.now)
 
 -- the file is the second word
 pub returns-in-Some-BrainWith-clause-report : goal.returns-in-Some-BrainWith-clause-report

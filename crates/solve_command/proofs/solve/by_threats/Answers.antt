@@ -1,5 +1,5 @@
 use Rattle.std.proofs.Common.{inr}
-use Rattle.command_base.proofs.PositionLaws.{file_at}
+use Rattle.command_base.specs.Positions.{file_at}
 use Rattle.solve_command.proofs.Solutions.{threats-says, unwon-says, undecided-says, full-says}
 use Rattle.solve_command.proofs.solve.by_threats.Goals as goal
 
@@ -10,7 +10,7 @@ win_text-requires g c =
     record {
       win = (
         c.args.depth,
-        c.requires.depth_fits,
+        c.requires.limits.1,
         rw c.searched_in_turn.ensures.same is.0.written,
       );
     }

@@ -1,5 +1,5 @@
 use Rattle.std.proofs.Common.{◌<◌, ◌+◌, ap, arith, inl, Err}
-use Rattle.command_base.proofs.PositionLaws.{file_at}
+use Rattle.command_base.specs.Positions.{file_at}
 use Rattle.position_commands.proofs.Searches.{new-few}
 use Rattle.solve_command.proofs.Solutions.{line-says, line-proved, full-says}
 use Rattle.solve_command.proofs.solve.prove_first.Goals as goal

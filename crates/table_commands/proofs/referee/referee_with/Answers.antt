@@ -1,6 +1,7 @@
 use Rattle.std.proofs.Common.{inl, inr, refl}
 use Rattle.brain_session.specs.declared.TheConstants.{BRAIN_WORK}
 use Rattle.file_loading.specs.HeldFiles.{TableFileSays}
+use Rattle.command_base.proofs.ToldLaws.{unread-devices}
 use Rattle.file_loading.proofs.HeldFileLaws.{told-sound}
 use Rattle.table_commands.proofs.RefereeLaws.{referees-by-file}
 use Rattle.table_commands.proofs.referee.referee_with.Goals as goal
@@ -22,8 +23,8 @@ returns-in-Ok-Tells-clause-referees g c = λ words. record {
   }));
 }
 
-pub returns-in-Ok-Tells-clause-loads : goal.returns-in-Ok-Tells-clause-loads
-returns-in-Ok-Tells-clause-loads g c =
-    told-sound (TableFileSays BRAIN_WORK) _ c.args.file.now c.in-Ok-Tells.answer.status c.in-Ok-Tells.answer.text _ _
-    (rw c.in-Ok-Tells.field-0-is at c.in-Ok-Tells.ensures.loaded)
-    (rw c.as_slice.ensures.value at c.deliver.ensures.delivered)
+pub returns-in-Ok-Tells-clause-devices : goal.returns-in-Ok-Tells-clause-devices
+returns-in-Ok-Tells-clause-devices g c = λ words. unread-devices _ (record { same = refl; faults = refl; asked = refl })
+    c.deliver.ensures.counted c.load_file.ensures.shelf c.load_file.ensures.files c.deliver.ensures.writes
+    (told-sound (TableFileSays BRAIN_WORK) _ c.args.file.now c.in-Ok-Tells.answer.status c.in-Ok-Tells.answer.text _ _
+    (rw c.in-Ok-Tells.field-0-is at c.in-Ok-Tells.ensures.loaded) (rw c.as_slice.ensures.value at c.deliver.ensures.delivered))

@@ -1,7 +1,7 @@
 use Rattle.std.proofs.Common.{inl, subst}
 use Rattle.game_rules.proofs.Common.{Grid}
 use Rattle.solve_command.specs.Solves.{SolutionSays}
-use Rattle.command_base.proofs.PositionLaws.{file_at}
+use Rattle.command_base.specs.Positions.{file_at}
 use Rattle.quiet_command.proofs.quiet.QuietAtPosition.say_at.Goals as goal
 
 pub returns-in-Done : goal.returns-in-Done
