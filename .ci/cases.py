@@ -42,7 +42,7 @@ MAX_NODES = 1_000_000
 USAGE = (
     "usage: renju check WORK, foul, fours DEPTH NODES, threats LENGTH NODES, solve DEPTH NODES, quiet DEPTH NODES, "
     "brain [FILE], drill N, image SYMMETRY, referee [FILE], defend DEPTH NODES, bind FILE .., book WORK, "
-    "cover WORK ATTACK FILE ..\n"
+    "cover WORK ATTACK FILE .., join ATTACK FILE ..\n"
 )
 
 
@@ -145,6 +145,10 @@ def words_without_a_form():
         ["cover", "1", "7, 7", "t"], ["cover", "1", "h8", "t"], ["cover", "1", "-", ""], ["cover", "1", "-", "t", ""],
         ["cover", "1", "-", *1000 * ["t"], "t"], ["cover 1 - t"], ["Cover", "1", "-", "t"], ["covers", "1", "-", "t"],
         [b"cover", b"1", b"-", b"\xff"],
+        ["join"], ["join", "7,7"], ["join", "-", "t"], ["join", "", "t"], ["join", "7", "t"], ["join", "7,", "t"], ["join", ",7", "t"],
+        ["join", "32,0", "t"], ["join", "0,32", "t"], ["join", "07,7", "t"], ["join", "7,7,7", "t"], ["join", "7, 7", "t"], ["join", "h8", "t"],
+        ["join", "7,7", ""], ["join", "7,7", "t", ""], ["join", "7,7", *1000 * ["t"], "t"], ["join 7,7 t"], ["Join", "7,7", "t"],
+        ["joins", "7,7", "t"], ["join", "1", "7,7", "t"], [b"join", b"7,7", b"\xff"],
         ["referee", ""], ["referee", "t", "t"], ["Referee"], ["referees"], ["referee t"], [b"referee", b"\xff"],
         ["brain", ""], ["brain", "t", "t"], ["brain", "t", ""], ["Brain"], ["BRAIN", "t"], ["brains"], ["brain t"], [b"brain", b"\xff"],
         [b"\xff"], [b"check", b"\xff"], [b"check", b"219\xff"], [b"check", b"219", b"\xff"], [b"\xc3\x28", b"219"],
@@ -849,6 +853,70 @@ def covers():
         yield Case(f"cover: an input that is {output}", ["cover", "1", "-", "right"], text, status, output, files)
 
 
+def joins():
+    """Tables that are joined to one, replies that none of them answers, and files that are not accepted, for which no input is asked."""
+    left = ("freestyle", 15, "4,7 5,7 6,7 7,7", "0,0 2,0 4,0 3,7")
+    right = ("freestyle", 15, "4,7 5,7 6,7 7,7", "0,0 2,0 4,0 8,7")
+    early = lift(CROSS, 0, "0,3")
+    files = {
+        "left": table(*left, 1, ["8,7 wins"]), "right": table(*right, 1, ["3,7 wins"]),
+        # Of another rule, of a start, and with a node that no reply leads to.
+        "exact": table("exact", *left[1:], 1, ["8,7 wins"]), "other": table("exact", *right[1:], 1, ["3,7 wins"]), "start": FOUR_AND_REPLY,
+        "spare": table(*left, 1, ["1,1 wins", "8,7 wins"]),
+        "two": table(*THREE, 2, THREE_WINS), "wrong": table(*THREE, 1, ["5,7 wins"]), "moves": table(*THREE, 3, THREE_WINS),
+        "across": table(*put(CROSS, 1, "4,0"), 1, ["0,4 wins"]), "below": table(*put(CROSS, 1, "0,4"), 1, ["4,0 wins"]),
+        "line": table(*put(COLUMN, 1, "0,4"), 1, ["4,0 wins"]),
+        "rule": "renju-table 1\nrule gomoku\n", "long": (MAX_INPUT_BYTES + 1) * b"x", "book": book(["8,7 wins"], (left, 1, "root 0")),
+    }
+    by_left = table(*THREE, 2, ["8,7 wins", "3,7 wins", "4,7 rest 0 8,7>1"])
+    by_right = table(*THREE, 2, THREE_WINS)
+    both = table(*early, 2, ["0,4 wins", "4,0 wins", "0,3 rest 0 0,4>1"])
+    runs = [
+        (THREE, "4,7 left right", 0, by_left),
+        (THREE, "4,7 right left", 0, by_right),
+        (THREE, "4,7 left left spare right right", 0, by_left),
+        (THREE, "4,7 spare right left", 0, by_left),
+        (THREE, "4,7 two start across left right", 0, by_left),
+        (THREE, "4,7 exact right", 0, by_left),
+        (("exact", *THREE[1:]), "4,7 left right exact other", 0, by_left.replace("freestyle", "exact")),
+        (THREE, "4,7 left", 9, "no answer 8,7\n"),
+        (THREE, "4,7 right exact start right", 0, by_right),
+        (THREE, "4,7 right", 9, "no answer 3,7\n"),
+        (THREE, "4,7 two start across", 9, "no answer 1,0\n"),
+        (THREE, "3,7 left right", 9, "no answer 1,0\n"),
+        # Black may have fouls, so no zone answers for it.
+        (("renju", *THREE[1:]), "4,7 left right", 9, "no answer 1,0\n"),
+        (early, "0,3 across below", 0, both),
+        (early, "0,3 below line across", 0, both),
+        (early, "0,3 across", 9, "no answer 0,4\n"),
+        (early, "0,3 below", 9, "no answer 4,0\n"),
+        (lift(COLUMN, 0, "0,3"), "0,3 line", 9, "no answer 4,0\n"),
+        (THREE, "5,7 left", 9, "illegal 1\n"),
+        (THREE, "15,0 left", 9, "illegal 1\n"),
+        (THREE, "31,31 left", 9, "illegal 1\n"),
+        (FIVE_ONE, "8,7 left", 9, "won black 1\n"),
+        (ONE_LEFT, "4,4 left", 9, "drawn 1\n"),
+        (("renju", 15, "7,6 6,7 8,7 7,8", "0,0 14,0 0,14 14,14"), "7,7 left", 9, "foul double-three 1\n"),
+    ]
+    for board, words, status, output in runs:
+        yield Case(f"join: {words} at {board}", ["join", *words.split()], position(*board), status, output, files)
+    yield Case("join: what is joined is accepted", ["check", "219"], by_left, 0, "accepted in 2 moves, 219 arrivals\n")
+    refused = [
+        (["v"], 2, "file 1 shelf failed\n"),
+        (["left", "right", "v", "wrong"], 2, "file 3 shelf failed\n"),
+        (["moves", "v"], 3, "file 1 refused moves 3 2\n"),
+        (["left", "rule"], 3, "file 2 refused line 2\n"),
+        (["left", "book"], 3, "file 2 refused line 1\n"),
+        (["left", "wrong"], 4, "file 2 refused attack-refused 5,7\n"),
+        (["long", "v"], 11, "file 1 input too long\n"),
+        ([*999 * ["left"], "v"], 2, "file 1000 shelf failed\n"),
+    ]
+    for names, status, output in refused:
+        yield Case(f"join: {' '.join(names)}", ["join", "4,7", *names], MAX_INPUT_BYTES * b"xx", status, output, files)
+    for text, status, output in ((MAX_INPUT_BYTES * b"xx", 11, "input too long\n"), (files["left"], 3, "refused line 1\n"), (position(*THREE) + "\n", 3, "refused line 6\n")):
+        yield Case(f"join: an input that is {output}", ["join", "4,7", "left"], text, status, output, files)
+
+
 def full_books():
     """Two tables that together hold as many different nodes as a table may have, and two that hold one more. The last node of each
     wins at once, and leads to no other."""
@@ -863,6 +931,14 @@ def full_books():
         output = book(first + deeper[left // 2:], (FIVE_ONE, 1, root), (FIVE_ONE, 1, root)) if status == 0 else "table full\n"
         files = {"t": table(*FIVE_ONE, 1, first), "u": table(*FIVE_ONE, 1, second)}
         yield Case(f"bind: files with {count} different nodes", ["bind", "t", "u"], "", status, output, files)
+    # A join has its own node beside those of the files.
+    three, four = ("freestyle", 15, "4,7 5,7 6,7", "0,0 2,0 4,0"), ("freestyle", 15, "4,7 5,7 6,7 7,7", "0,0 2,0 4,0 8,7")
+    joined = table(*three, 2, ["8,7 wins", "3,7 wins", "7,7 rest 0 8,7>1"])
+    for count, status, output in ((MAX_NODES - 1, 0, joined), (MAX_NODES, 12, "table full\n")):
+        left = count - len(deep) - 1
+        deeper = [f"{p} rest {len(points) + i // len(points)}" for i, p in zip(range(left), itertools.cycle(points))]
+        files = {"t": table(*FIVE_ONE, 1, [*deep, *deeper, "8,7 wins"]), "u": table(*four, 1, ["3,7 wins"])}
+        yield Case(f"join: files with {count} different nodes", ["join", "7,7", "t", "u"], position(*three), status, output, files)
 
 
 def referees():
@@ -980,7 +1056,7 @@ def long_inputs():
 
 
 def all_cases():
-    for group in (words_without_a_form, checks, shared_games, refused_tables, refused_texts, fouls, fours, threats, solves, quiets, drills, images, defends, brains, held_brains, books, binds, covers, full_books, referees, examples, rows, carriage_returns, long_tables, cut_tables, long_inputs):
+    for group in (words_without_a_form, checks, shared_games, refused_tables, refused_texts, fouls, fours, threats, solves, quiets, drills, images, defends, brains, held_brains, books, binds, covers, joins, full_books, referees, examples, rows, carriage_returns, long_tables, cut_tables, long_inputs):
         yield from group()
 
 
@@ -1063,10 +1139,36 @@ class Runs:
             self.expect(f"quiet: win {at}", found, 0, re.compile(head + r"moves ([1-9]|1[0-2])\nnodes \d+\n(.+\n)+"))
             checked = self.run(["check", "1000000000000"], input=found.stdout)
             self.expect(f"check of quiet win {at}", checked, 0, re.compile(r"accepted in ([1-9]|1[0-2]) moves, \d+ arrivals\n"))
+            if found.returncode == 0 and not (stones[0] == "renju" and len(stones[2].split()) == len(stones[3].split())):
+                self.over_parts(f"quiet win {at}", text, found.stdout.decode(), checked.stdout)
             if stones[1:] == BLOCKED_BY_A_FOUL:
                 where_none_fouls = found.stdout.replace(b"rule renju", b"rule exact")
                 refused = self.run(["check", "1000000000000"], input=where_none_fouls)
                 self.expect("check of a quiet win where no block fouls", refused, 4, re.compile(r"refused attack-refused .+\n"))
+
+    def over_parts(self, name, text, whole, accepted):
+        """A table that is taken apart after its first move, a file for each answer, and joined again is accepted as it was."""
+        nodes = [line.split() for line in whole.splitlines()[7:]]
+        attack, _, rest, *listed = nodes[-1]
+        attacker = text.splitlines()[3].count(",") != text.splitlines()[4].count(",")
+        rule, size, *sides = text.splitlines()[1].split()[1], *text.splitlines()[2].split()[1:2], *(line.split(" ", 1)[1] for line in text.splitlines()[3:5])
+        board = put((rule, int(size), *sides), attacker, attack)
+        named = {it.split(">")[0]: int(it.split(">")[1]) for it in listed}
+        taken = {*sides[0].split(), *sides[1].split(), attack, *named}
+        named[next(p for p in (f"{x},{y}" for y in range(int(size)) for x in range(int(size))) if p not in taken)] = int(rest)
+        files = {}
+        for reply, root in named.items():
+            kept, depths = [], {}
+            for number, node in enumerate(nodes[:root + 1]):
+                names = [int(it.split(">")[1]) for it in node[1:] if ">" in it] + ([int(node[2])] if node[1] == "rest" else [])
+                depths[number] = 1 + max((depths[it] for it in names), default=0)
+                kept.append(" ".join(node))
+            files[reply] = table(*put(board, not attacker, reply), depths[root], kept)
+        with shelf_of(files) as shelf:
+            joined = self.run(["join", attack, *files], input=as_bytes(text), cwd=shelf)
+        head = re.escape("".join(f"{line}\n" for line in whole.splitlines()[:6]))
+        self.expect(f"join of the parts of {name}", joined, 0, re.compile(head + r"nodes \d+\n(.+\n)+"))
+        self.expect(f"check of what is joined of {name}", self.run(["check", "1000000000000"], input=joined.stdout), 0, re.compile(r"accepted in \d+ moves, \d+ arrivals\n"))
 
     def over_collection(self):
         """The rows of the collection: a win is that of the side and the moves that are told, and its table is accepted."""

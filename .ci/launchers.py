@@ -50,6 +50,8 @@ def unproved():
         expect(
             "unproved: files of a cover", launched("unproved", ["cover", "1", "7,7", "a table"], input=b"text\n", env=env, cwd=folder)[1], covered,
         )
+        joined = f"try --seconds 600 --data table2={folder}/a table -- join 7,7 table2\ntext\n"
+        expect("unproved: files of a join", launched("unproved", ["join", "7,7", "a table"], input=b"text\n", env=env, cwd=folder)[1], joined)
         expect("unproved: no file", launched("unproved", ["brain", "none"], env=env, cwd=folder)[1], "try --seconds 600 -- brain table\n")
         ours, theirs = pty.openpty()
         status, output, errors = launched("unproved", ["brain"], stdin=theirs, env=env)
@@ -236,6 +238,10 @@ WRONG_WORDS = [
     (["cover", "0", "-", "t"], "WORK is 1 to 1,000,000,000,000, not 0; ./renju help cover tells more"),
     (["cover", "1", "7,32", "t"], "ATTACK is X,Y or -, not 7,32; ./renju help cover tells more"),
     (["cover", "1", "31,31", "t", ""], "FILE is empty; ./renju help cover tells more"),
+    (["join"], "the form is renju join ATTACK FILE .. < POSITION; ./renju help join tells more"),
+    (["join", "7,7"], "FILE is 1 to 1,000 paths, not 0; ./renju help join tells more"),
+    (["join", "-", "t"], "ATTACK is X,Y, not -; ./renju help join tells more"),
+    (["join", "31,31", ""], "FILE is empty; ./renju help join tells more"),
 ]
 
 
@@ -278,8 +284,9 @@ def ends_of(told):
         return [(it, True) for it in told[7:].split(", ")] + [("other", False)]
     if "path" in told:
         return [("none", True), ("", False)]
-    if told == "X,Y or -":
-        return [(it, True) for it in ("-", "0,0", "31,31")] + [(it, False) for it in ("32,0", "0,32", "00,1", "--", "")]
+    if told in ("X,Y", "X,Y or -"):
+        taken = {"-": told != "X,Y"}
+        return [(it, taken.get(it, it in ("0,0", "31,31"))) for it in ("31,31", "0,0", "-", "32,0", "0,32", "00,1", "--", "")]
     least, most = (int(it.replace(",", "")) for it in told.split(" to "))
     return [(str(it), least <= it <= most) for it in (least, most, least - 1, most + 1)]
 

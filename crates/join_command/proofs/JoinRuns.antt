@@ -1,10 +1,11 @@
 -- The command `join`: when it answers, and what its statuses show.
-use Rattle.std.proofs.Common.{◌≡◌, ◌⊎◌, inl, inr, sym, ap, subst, ◌∙◌, ℕ, List, Option, Some, IfSome, arith}
+use Rattle.std.proofs.Common.{◌≡◌, ◌⊎◌, inl, inr, sym, ap, subst, ◌∙◌, ℕ, List, Option, Some, IfSome, slice_get, arith}
 use Rattle.game_rules.specs.Games.{WinsWithin}
 use Rattle.game_rules.specs.declared.Outcome.{Outcome}
 use Rattle.game_rules.specs.declared.Outcome.TheVariants.{Refused, Wins, Fouls, Draws, GoesOn}
 use Rattle.game_rules.specs.declared.Point.{Point}
-use Rattle.game_rules.specs.Play.{outcome}
+use Rattle.game_rules.specs.Grid.{Grid}
+use Rattle.game_rules.specs.Play.{after, outcome}
 use Rattle.strategy_graph.proofs.Soundness.{accepted-wins}
 use Rattle.strategy_compiler.specs.Walks.{last}
 use Rattle.position_files.specs.declared.TableFile.{TableFile}
@@ -26,7 +27,8 @@ use Rattle.file_loading.specs.declared.TheConstants.{MAX_WORK}
 use Rattle.cover_command.specs.Covers.{TellsPart}
 use Rattle.cover_command.proofs.CoverRuns.{Speaks, delivered-silent, silent-by, unheld-silent, yields-silent}
 use Rattle.join_command.specs.Joins.{AttackJoins, IsJoinRun, IsJoinShown, IsWonByFiles, JoinLacks, JoinSays, JoinsFiles}
-use Rattle.join_command.specs.Joins.{joins_command}
+use Rattle.join_command.specs.Joins.{HasNoTable, joins_command}
+use Rattle.join_command.specs.Answering.{HasNoAnswer, OpenOr}
 
 -- ---- what is said of a position
 
@@ -46,9 +48,19 @@ module _ (p : Point) (files : List TableFile) (file : PositionFile) (status : St
   said-won (Fouls f) done said = let other = ap status_number said.0 in absurd (omega (arith, done, other))
   said-won Draws done said = let other = ap status_number said.0 in absurd (omega (arith, done, other))
 
+  -- of a reply that is open, no file is a table of the position after it
+  without-table : (o : Outcome) (c : Grid)
+      → OpenOr o ((k : ℕ) (f : TableFile) → slice_get files k ≡ Some f → HasNoAnswer file.kind c f) → OpenOr o (HasNoTable file.kind files c)
+  without-table Refused c h = h
+  without-table Wins c h = h
+  without-table (Fouls f) c h = h
+  without-table Draws c h = h
+  without-table GoesOn c none = λ k f at. (none k f at).0
+
   said-lacks : (o : Outcome) → status_number status ≡ 9 → AttackJoins files file p o status text → JoinLacks p o files file text
   said-lacks GoesOn lacks (inl h) = let other = ap status_number h.0 in absurd (omega (arith, lacks, other))
-  said-lacks GoesOn lacks (inr (inl h)) = h.1
+  said-lacks GoesOn lacks (inr (inl h)) =
+      let b = after file.board p in (h.1.0, without-table (outcome file.kind b h.1.0) (after b h.1.0) h.1.1, h.1.2)
   said-lacks GoesOn lacks (inr (inr h)) = let other = ap status_number h.0 in absurd (omega (arith, lacks, other))
   said-lacks Refused lacks said = said.1
   said-lacks Wins lacks said = said.1

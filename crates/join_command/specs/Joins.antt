@@ -2,11 +2,13 @@
 use Rattle.std.specs.Prelude.{◌≡◌, ◌⊎◌, ℕ, ◌≤◌, ◌<◌, List, [], ◌∷◌, ◌++◌, codes, length, Some, IfSome, slice_get}
 use Rattle.std.specs.List.{sum_by}
 use Rattle.std.specs.Option.{option_map}
+use Rattle.game_rules.specs.Grid.{Grid}
 use Rattle.game_rules.specs.Play.{after, outcome}
 use Rattle.game_rules.specs.Games.{WinsWithin}
 use Rattle.game_rules.specs.declared.Outcome.{Outcome}
 use Rattle.game_rules.specs.declared.Outcome.TheVariants.{Refused, Wins, Fouls, Draws, GoesOn}
 use Rattle.game_rules.specs.declared.Point.{Point}
+use Rattle.game_rules.specs.declared.RuleKind.{RuleKind}
 use Rattle.game_rules.specs.declared.TheConstants.{MAX_SIDE}
 use Rattle.text_lines.specs.Lines.{ended}
 use Rattle.text_lines.specs.Spellings.{point_text}
@@ -36,7 +38,7 @@ use Rattle.file_loading.specs.declared.TheConstants.{MAX_WORK}
 use Rattle.file_loading.specs.ManyFiles.{AreTableFiles}
 use Rattle.cover_command.specs.PartFiles.{ArePartNames}
 use Rattle.cover_command.specs.Covers.{IsJudged, ShowsOfCover, TellsPart}
-use Rattle.join_command.specs.Answering.{AnswersAt, IsOpenReply}
+use Rattle.join_command.specs.Answering.{AnswersAt, IsOpenReply, IsTableOf, OpenOr}
 use Rattle.join_command.specs.Making.{table_at}
 
 -- the words `join ATTACK FILE ..`
@@ -142,9 +144,19 @@ join_command p names = record {
 abbrev pub IsWonByFiles : Point → List TableFile → PositionFile → List ℕ → Type 0
 IsWonByFiles p files file text = (join : IsJoinText files file p text) × WinsWithin file.kind join.moves file.board
 
--- the attack does not go on, and the game of it alone is judged, or it goes on and a reply to it is told, which is open
+-- no file is a table of the position b
+abbrev pub HasNoTable : RuleKind → List TableFile → Grid → Type 0
+HasNoTable rule files b = (k : ℕ) (file : TableFile) → slice_get files k ≡ Some file → ¬ IsTableOf rule b file
+
+-- a reply after the attack is told, which wins or draws at once, or goes on to a position of which no file is a table
+abbrev pub TellsReply : List TableFile → PositionFile → Point → List ℕ → Type 0
+TellsReply files file p text =
+    let b = after file.board p in
+    (q : Point) × OpenOr (outcome file.kind b q) (HasNoTable file.kind files (after b q)) × (text ≡ no_answer_line q)
+
+-- the attack does not go on, and the game of it alone is judged, or it goes on and a reply to it is told
 abbrev pub JoinLacks : Point → Outcome → List TableFile → PositionFile → List ℕ → Type 0
-JoinLacks p GoesOn files file text = TellsOpenReply files file p text
+JoinLacks p GoesOn files file text = TellsReply files file p text
 JoinLacks p Refused files file text = text ≡ verdict_line (verdict file.kind file.board (p ∷ []))
 JoinLacks p Wins files file text = text ≡ verdict_line (verdict file.kind file.board (p ∷ []))
 JoinLacks p (Fouls f) files file text = text ≡ verdict_line (verdict file.kind file.board (p ∷ []))

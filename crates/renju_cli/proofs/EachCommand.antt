@@ -1,6 +1,7 @@
 -- What is proved of each command in turn: that its words tell its form, and that it answers where it is sure to.
 use Rattle.std.proofs.Common.{◌≡◌, refl, sym, ap, ◌∙◌, inl, ℕ, ◌<◌, ◌≤◌, ◌^◌, Bool, true, false, List, [], length, get_or, arith, codes}
 use Rattle.std.proofs.Common.{if◌then◌else◌, nat_lt, find, Option, Some, None}
+use Rattle.std.specs.Prelude.{unwrap_or}
 use Rattle.std.specs.Str.{bytes_eq}
 use Rattle.std.specs.Str.Parse.{digits_value}
 use Rattle.std.specs.Fmt.{decimal}
@@ -23,10 +24,10 @@ use Rattle.board_symmetry.specs.declared.symmetry.Symmetry.TheVariants.{Identity
 use Rattle.board_symmetry.specs.declared.symmetry.Symmetry.TheVariants.{AntiDiagonal}
 use Rattle.renju_cli.specs.declared.commands.Form.{Form}
 use Rattle.renju_cli.specs.declared.commands.Form.TheVariants.{Check, Foul, Fours, Threats, Solve, Brain, BrainWith, Drill, Referee}
-use Rattle.renju_cli.specs.declared.commands.Form.TheVariants.{RefereeWith, Image, Defend, Bind, Book, Quiet, Cover}
+use Rattle.renju_cli.specs.declared.commands.Form.TheVariants.{RefereeWith, Image, Defend, Bind, Book, Quiet, Cover, Join}
 use Rattle.file_loading.specs.declared.TheConstants.{MAX_WORK}
 use Rattle.command_base.specs.Runs.{Run}
-use Rattle.renju_cli.proofs.Common.{command, second_word, words_after, words_after_third}
+use Rattle.renju_cli.proofs.Common.{command, second_word, words_after, words_after_second, words_after_third}
 use Rattle.table_commands.specs.Checks.{check_command}
 use Rattle.position_commands.specs.Fouls.{foul_command}
 use Rattle.position_commands.specs.Fours.{fours_command}
@@ -54,6 +55,7 @@ use Rattle.table_commands.proofs.BindLaws.{bind-answers}
 use Rattle.table_commands.proofs.BookLaws.{book-answers}
 use Rattle.cover_command.specs.Covers.{IsAttack, attack_word}
 use Rattle.cover_command.proofs.CoverRuns.{cover-answers}
+use Rattle.join_command.proofs.JoinRuns.{join-answers}
 
 -- the number that a word writes
 abbrev number_at : List (List ℕ) → ℕ → ℕ
@@ -124,6 +126,14 @@ attack-spelled : (attack : Option Point) → IsAttack attack → attack_told (at
 attack-spelled None fits = none-spelled MAX_SIDE MAX_SIDE (omega arith) (omega arith)
 attack-spelled (Some p) fits = point-spelled MAX_SIDE MAX_SIDE (omega arith) (omega arith) p fits
 
+-- the point that a word tells, or else the first
+abbrev pub place_told : List ℕ → Point
+place_told word = unwrap_or (attack_told word) (record { x = 0; y = 0 })
+
+place-spelled : (p : Point) → IsWithin MAX_SIDE MAX_SIDE p → place_told (point_text p) ≡ p
+place-spelled p fits =
+    ap (λ (o : Option Point). unwrap_or o (record { x = 0; y = 0 })) (point-spelled MAX_SIDE MAX_SIDE (omega arith) (omega arith) p fits)
+
 -- the form that words tell, if they have one
 abbrev pub form_told : List (List ℕ) → Form
 form_told words =
@@ -140,7 +150,8 @@ form_told words =
     else (if bytes_eq (get_or words 0 []) (codes "bind") then Bind
     else (if bytes_eq (get_or words 0 []) (codes "book") then Book (number_at words 1)
     else (if bytes_eq (get_or words 0 []) (codes "cover") then Cover (number_at words 1) (attack_told (get_or words 2 []))
-    else (if nat_lt 1 (length words) then BrainWith else Brain)))))))))))))
+    else (if bytes_eq (get_or words 0 []) (codes "join") then Join (place_told (get_or words 1 []))
+    else (if nat_lt 1 (length words) then BrainWith else Brain))))))))))))))
 
 number-written : (n : ℕ) → n ≤ MAX_WORK → digits_value 10 (decimal n) ≡ n
 number-written n few = let d = decimal_is_IsNumeral n (omega (arith, few)) in d.1
@@ -164,6 +175,7 @@ form-spelled words (Cover work attack) range =
     let number = number-written work range.work_fits in
     let point = attack-spelled attack range.attack_fits in
     λ i. Cover (number i) (point i)
+form-spelled words (Join attack) range = ap Join (place-spelled attack range.attack_fits)
 form-spelled words (Drill number) range = ap Drill (number-written number (omega (arith, range)))
 form-spelled words (Fours depth nodes) range = two-written Fours depth nodes (omega (arith, range.1)) (omega (arith, range.3))
 form-spelled words (Threats limit nodes) range = two-written Threats limit nodes (omega (arith, range.1)) (omega (arith, range.3))
@@ -181,6 +193,7 @@ answers (Drill number) run does = drill-answers number run does
 answers Bind run does = bind-answers (words_after run.words) run does
 answers (Image s) run does = answers-told (image_command s) (image-answers s) run does
 answers (Cover work attack) run does = cover-answers work attack (words_after_third run.words) run does
+answers (Join attack) run does = join-answers attack (words_after_second run.words) run does
 answers Referee run does = answers-told referee_command referee-answers run does
 answers (Book work) run does = answers-told (book_command work) (book-answers work) run does
 answers RefereeWith run does = referee-with-answers (second_word run.words) run does

@@ -1,15 +1,16 @@
 -- What follows of a run from its report: the command of its form did what it does, and so answered where it is sure to.
 use Rattle.std.proofs.Common.{◌≡◌, inl, inr, subst, ℕ, List, Option}
 use Rattle.renju_cli.specs.declared.commands.Form.{Form}
-use Rattle.renju_cli.specs.declared.commands.Form.TheVariants.{BrainWith, RefereeWith, Bind, Cover}
+use Rattle.renju_cli.specs.declared.commands.Form.TheVariants.{BrainWith, RefereeWith, Bind, Cover, Join}
 use Rattle.command_base.specs.Runs.{Run}
 use Rattle.command_base.specs.Forms.{HasWords}
-use Rattle.renju_cli.proofs.Common.{second_word, words_after, words_after_third, command, IsForm, Report, IsComplete}
+use Rattle.renju_cli.proofs.Common.{second_word, words_after, words_after_second, words_after_third, command, IsForm, Report, IsComplete}
 use Rattle.brain_commands.specs.Brains.{IsBrainWith}
 use Rattle.table_commands.specs.Referees.{IsRefereeWith}
 use Rattle.table_commands.specs.Binds.{IsBind}
 use Rattle.game_rules.specs.declared.Point.{Point}
 use Rattle.cover_command.specs.Covers.{IsCoverRun}
+use Rattle.join_command.specs.Joins.{IsJoinRun}
 use Rattle.renju_cli.proofs.EachCommand.{answers}
 use Rattle.renju_cli.proofs.FormLaws.{one-form}
 
@@ -34,6 +35,11 @@ pub cover-reported : (run : Run) (work : ℕ) (attack : Option Point) (names : L
     → names ≡ words_after_third run.words → IsCoverRun work attack names run → Report run
 cover-reported run work attack names form is does =
     inr (Cover work attack, form, subst (λ (ns : List (List ℕ)). IsCoverRun work attack ns run) is does)
+
+-- and what `join` did with those after the second
+pub join-reported : (run : Run) (attack : Point) (names : List (List ℕ)) → IsForm run.words (Join attack)
+    → names ≡ words_after_second run.words → IsJoinRun attack names run → Report run
+join-reported run attack names form is does = inr (Join attack, form, subst (λ (ns : List (List ℕ)). IsJoinRun attack ns run) is does)
 
 -- the same of `referee FILE`
 pub game-reported : (run : Run) (name : List ℕ) → IsForm run.words RefereeWith → name ≡ second_word run.words → IsRefereeWith name run

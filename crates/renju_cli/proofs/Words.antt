@@ -1,9 +1,9 @@
--- Words that forms have: the second one, those after the first or the third, and two numbers.
+-- Words that forms have: the second one, those after the first, the second or the third, and two numbers.
 use Rattle.std.proofs.Common.{◌≡◌, sym, ap, ◌∙◌, ℕ, ◌≤◌, ◌<◌, List, [], ◌∷◌, length, map, take, drop}
 use Rattle.std.proofs.Common.{get_or, refl, ◌-◌, arith}
 use Rattle.std.proofs.Math.Seq.{take-length}
 use Rattle.std.proofs.lemmas.List.{length-map}
-use Rattle.renju_cli.specs.Words.{second_word, words_after, words_after_third}
+use Rattle.renju_cli.specs.Words.{second_word, words_after, words_after_second, words_after_third}
 
 module _ {X : Type 0} (f : X → List ℕ) where
   -- as many words as there are in the list
@@ -59,6 +59,15 @@ module _ {X : Type 0} (f : X → List ℕ) where
       let count : length (v ∷ w ∷ xs) - 2 ≡ length xs = omega arith in
       let rest : take (length (v ∷ w ∷ xs) - 2) xs ≡ xs = ap (λ n. take n xs) count ∙ take-length xs in
       ap (λ u. f u ∷ f w ∷ map f xs) (sym first) ∙ ap (λ u. f x ∷ f u ∷ map f xs) (sym second) ∙ ap (λ l. f x ∷ f y ∷ map f l) (sym rest)
+
+  -- the words after the second
+  pub words-after-second : (xs : List X) → map f (take (length xs - 2) (drop 2 xs)) ≡ words_after_second (map f xs)
+  words-after-second [] = refl
+  words-after-second (u ∷ []) = refl
+  words-after-second (u ∷ v ∷ xs) =
+      let count : length (u ∷ v ∷ xs) - 2 ≡ length xs = omega arith in
+      let rest : take (length (u ∷ v ∷ xs) - 2) xs ≡ xs = ap (λ n. take n xs) count ∙ take-length xs in
+      ap (map f) rest
 
   -- the words after the third
   pub words-after-third : (xs : List X) → map f (take (length xs - 3) (drop 3 xs)) ≡ words_after_third (map f xs)

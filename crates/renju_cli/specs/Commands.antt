@@ -3,7 +3,7 @@ use Rattle.std.specs.Prelude.{ℕ, List, codes}
 use Rattle.text_lines.specs.Lines.{ended}
 use Rattle.renju_cli.specs.declared.commands.Form.{Form}
 use Rattle.renju_cli.specs.declared.commands.Form.TheVariants.{Check, Foul, Fours, Threats, Solve, Brain, BrainWith, Drill, Referee}
-use Rattle.renju_cli.specs.declared.commands.Form.TheVariants.{RefereeWith, Image, Defend, Bind, Book, Quiet, Cover}
+use Rattle.renju_cli.specs.declared.commands.Form.TheVariants.{RefereeWith, Image, Defend, Bind, Book, Quiet, Cover, Join}
 use Rattle.command_base.specs.Forms.{Command, IsSpelled}
 use Rattle.command_base.specs.Told.{told}
 use Rattle.command_base.specs.Positions.{of_position}
@@ -13,7 +13,7 @@ use Rattle.position_commands.specs.Fours.{fours_command}
 use Rattle.position_commands.specs.Threats.{threats_command}
 use Rattle.solve_command.specs.Solves.{solve_command}
 use Rattle.quiet_command.specs.Quiets.{quiet_command}
-use Rattle.renju_cli.specs.Words.{second_word, words_after, words_after_third}
+use Rattle.renju_cli.specs.Words.{second_word, words_after, words_after_second, words_after_third}
 use Rattle.brain_commands.specs.Brains.{brain_command, brain_with_command}
 use Rattle.brain_commands.specs.Drills.{drill_command}
 use Rattle.table_commands.specs.Referees.{referee_command, referee_with_command}
@@ -22,6 +22,7 @@ use Rattle.position_commands.specs.Defends.{defend_command}
 use Rattle.table_commands.specs.Books.{book_command}
 use Rattle.table_commands.specs.Binds.{bind_command}
 use Rattle.cover_command.specs.Covers.{cover_command}
+use Rattle.join_command.specs.Joins.{join_command}
 
 -- the command that a form of these words stands for
 abbrev pub command : List (List ℕ) → Form → Command
@@ -41,6 +42,7 @@ command words (Defend depth nodes) = told (of_position (defend_command depth nod
 command words (Book work) = told (book_command work)
 command words Bind = bind_command (words_after words)
 command words (Cover work attack) = cover_command work attack (words_after_third words)
+command words (Join attack) = join_command attack (words_after_second words)
 
 -- the words have this form
 abbrev pub IsForm : List (List ℕ) → Form → Type 0
@@ -53,4 +55,4 @@ HasForm words = (form : Form) × IsForm words form
 -- what words without a form are answered with
 abbrev pub usage_line : List ℕ
 usage_line = ended (codes
-    "usage: renju check WORK, foul, fours DEPTH NODES, threats LENGTH NODES, solve DEPTH NODES, quiet DEPTH NODES, brain [FILE], drill N, image SYMMETRY, referee [FILE], defend DEPTH NODES, bind FILE .., book WORK, cover WORK ATTACK FILE ..")
+    "usage: renju check WORK, foul, fours DEPTH NODES, threats LENGTH NODES, solve DEPTH NODES, quiet DEPTH NODES, brain [FILE], drill N, image SYMMETRY, referee [FILE], defend DEPTH NODES, bind FILE .., book WORK, cover WORK ATTACK FILE .., join ATTACK FILE ..")

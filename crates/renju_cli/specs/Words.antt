@@ -1,4 +1,4 @@
--- Words that forms have: the second one, those after the first or the third, and two numbers.
+-- Words that forms have: the second one, those after the first, the second or the third, and two numbers.
 use Rattle.std.specs.Prelude.{ℕ, ◌≤◌, List, [], ◌∷◌, unwrap_or, slice_get}
 use Rattle.std.specs.Fmt.{decimal}
 use Rattle.command_base.specs.Forms.{HasWords}
@@ -7,6 +7,10 @@ use Rattle.command_base.specs.Forms.{HasWords}
 abbrev pub words_after : List (List ℕ) → List (List ℕ)
 words_after [] = []
 words_after (word ∷ words) = words
+
+-- the words after the second
+abbrev pub words_after_second : List (List ℕ) → List (List ℕ)
+words_after_second words = words_after (words_after words)
 
 -- the words after the third
 abbrev pub words_after_third : List (List ℕ) → List (List ℕ)

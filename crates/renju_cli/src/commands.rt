@@ -14,6 +14,7 @@ use board_symmetry::Symmetry;
 use brain_commands::{play, play_with, print_drill};
 use command_base::{OfPosition, Status, deliver, tell};
 use cover_command::{Covering, cover_with};
+use join_command::{Joining, join_with};
 use position_commands::{Defend, FindSequence, Fours, ListFouls};
 use quiet_command::Quiet;
 use renju_io::{Shelf, Sink, Source};
@@ -24,7 +25,7 @@ use table_commands::{Check, CheckBook, Image, Referee, bind_book, referee_with};
 
 /// The line that words without a form are answered with.
 pub const USAGE: &str =
-    "usage: renju check WORK, foul, fours DEPTH NODES, threats LENGTH NODES, solve DEPTH NODES, quiet DEPTH NODES, brain [FILE], drill N, image SYMMETRY, referee [FILE], defend DEPTH NODES, bind FILE .., book WORK, cover WORK ATTACK FILE ..\n";
+    "usage: renju check WORK, foul, fours DEPTH NODES, threats LENGTH NODES, solve DEPTH NODES, quiet DEPTH NODES, brain [FILE], drill N, image SYMMETRY, referee [FILE], defend DEPTH NODES, bind FILE .., book WORK, cover WORK ATTACK FILE .., join ATTACK FILE ..\n";
 
 /// A form of words: the command and its numbers.
 #[derive(Clone, Copy, Debug, PartialEq, Eq)]
@@ -62,6 +63,8 @@ pub enum Form {
     /// `cover WORK ATTACK FILE ..`, with WORK as that of `check`, ATTACK a point or `-`, and 1 to `MAX_PARTS` files, none of which is
     /// empty. They are the words after the third.
     Cover { work: u64, attack: Option<Point> },
+    /// `join ATTACK FILE ..`, with ATTACK a point, and FILE as those of `cover`. They are the words after the second.
+    Join { attack: Point },
 }
 
 /// The form that the words have, if they have one.
@@ -86,6 +89,7 @@ pub(crate) fn form_of(words: &[String]) -> Option<Form>
         "bind" => forms::bind(rest),
         "book" => forms::book(rest),
         "cover" => forms::cover(rest),
+        "join" => forms::join(rest),
         _ => None,
     }
 }
@@ -154,6 +158,13 @@ pub(crate) fn run<I: Source, O: Sink, F: Shelf>(
                 names: &words[3..],
             };
             cover_with(alloc, &covering, input, output, shelf)
+        }
+        Some(Form::Join { attack }) => {
+            let joining = Joining {
+                attack,
+                names: &words[2..],
+            };
+            join_with(alloc, &joining, input, output, shelf)
         }
     }
 }

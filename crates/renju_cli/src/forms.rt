@@ -13,8 +13,9 @@ use command_base::MAX_SEARCHED;
 use cover_command::{are_part_names, attack_of_word};
 use file_loading::MAX_WORK;
 use four_search::MAX_DEPTH;
+use stone_board::MAX_SIDE;
 use table_commands::{are_names, symmetry_of_word};
-use text_lines::number;
+use text_lines::{number, point};
 use threat_space::MAX_LENGTH;
 
 /// The form of `check` and the words after it, if they are WORK alone.
@@ -174,6 +175,22 @@ pub(crate) fn cover(rest: &[String]) -> Option<Form>
     let attack = attack_of_word(attack.as_str())?;
     if are_part_names(names) {
         Some(Form::Cover { work, attack })
+    } else {
+        None
+    }
+}
+
+/// The form of `join` and the words after it, if they are a point and 1 to `MAX_PARTS` names, none of which is empty.
+pub(crate) fn join(rest: &[String]) -> Option<Form>
+    ensures form { MatchOption result (¬ HasForm (codes "join" ∷ map string_bytes rest.now))
+        (λ form. IsForm (codes "join" ∷ map string_bytes rest.now) form) }
+{
+    let [attack, names @ ..] = rest else {
+        return None;
+    };
+    let attack = point(attack.as_bytes(), MAX_SIDE, MAX_SIDE)?;
+    if are_part_names(names) {
+        Some(Form::Join { attack })
     } else {
         None
     }

@@ -20,6 +20,7 @@ ghost use Rattle.position_commands.specs.Defends.{ShowsDefence};
 ghost use Rattle.table_commands.specs.Books.{ShowsBook};
 ghost use Rattle.table_commands.specs.Binds.{ShowsBinding};
 ghost use Rattle.cover_command.specs.Covers.{ShowsCover};
+ghost use Rattle.join_command.specs.Joins.{ShowsJoin};
 
 use crate::commands::run;
 use renju_io::{Shelf, Sink, Source};
@@ -30,10 +31,10 @@ use std::alloc::Global;
 ///
 /// The status and the text that are due are those of `Status` and of the commands. Words without a form get the usage line and status
 /// 1, and leave the input unasked, as `drill` and `bind` do. `check`, `foul`, `fours`, `threats`, `solve`, `quiet`, `image`, `referee`,
-/// `defend`, `book` and `cover` speak of an input only once it was read to its end. Only `brain FILE`, `referee FILE` and `cover`,
-/// before the input, and `bind` ask the shelf, and no command changes it. A failing output gives status 8 in place of the status that
-/// was due, and the output then has the front of the text; want of memory gives 6 and a failing input 7, and then nothing is written,
-/// or by a brain that serves the answers to the lines before.
+/// `defend`, `book`, `cover` and `join` speak of an input only once it was read to its end. Only `brain FILE`, `referee FILE`, `cover`
+/// and `join`, before the input, and `bind` ask the shelf, and no command changes it. A failing output gives status 8 in place of the
+/// status that was due, and the output then has the front of the text; want of memory gives 6 and a failing input 7, and then nothing
+/// is written, or by a brain that serves the answers to the lines before.
 /// A status other than 7 says that the input counted no fault, one other than 8 that the output did not, and one that is neither 2 nor
 /// 8 that the shelf did not.
 pub fn run_renju<I: Source, O: Sink, F: Shelf>(
@@ -115,6 +116,11 @@ pub fn run_renju<I: Source, O: Sink, F: Shelf>(
     // What statuses 0 and 9 of `cover` show: the tables of its files are accepted, and they cover the position of the input, whose side
     // wins within the moves told; or the attack does not win or go on, or the reply that is told is the first that no table covers.
     ensures covered { ShowsCover (program_run (map string_bytes words.now) (change I.left I.faults I.asked input.old input.new)
+        (change O.written O.faults O.asked output.old output.new) (change F.files F.faults F.asked shelf.old shelf.new)
+        (I.last input.new) result) }
+    // What statuses 0 and 9 of `join` show: the tables of its files are accepted, and a table is told by which the side to move of the
+    // input wins with the attack; or the attack does not go on, or a reply to it is told after which no file is a table.
+    ensures joined { ShowsJoin (program_run (map string_bytes words.now) (change I.left I.faults I.asked input.old input.new)
         (change O.written O.faults O.asked output.old output.new) (change F.files F.faults F.asked shelf.old shelf.new)
         (I.last input.new) result) }
     // A command with a lawful input, enough work and devices without a fault answers, unless memory runs out.

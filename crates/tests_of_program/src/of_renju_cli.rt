@@ -124,6 +124,10 @@ const TWO_LEFT: &str =
 const ONE_LEFT: &str =
     "renju-table 1\nrule freestyle\nsize 5\nblack 0,0 1,0 2,0 3,0 0,1 4,1 0,2 2,2 0,3 3,3 1,4 4,4\nwhite 4,0 1,1 2,1 3,1 1,2 3,2 4,2 1,3 2,3 4,3 2,4 3,4\nmoves 1\nnodes 1\n0,4 wins\n";
 
+/// The win after 4,7 and 3,7 from the three stones in a row.
+const LEFT_BLOCKED: &str =
+    "renju-table 1\nrule freestyle\nsize 15\nblack 4,7 5,7 6,7 7,7\nwhite 0,0 2,0 4,0 3,7\nmoves 1\nnodes 1\n8,7 wins\n";
+
 const ACCEPTED: &str = "accepted in 2 moves, 219 arrivals\n";
 
 /// A row of one of the tables below. It is a macro, since a constant calls no function.
@@ -141,7 +145,7 @@ macro_rules! run {
 }
 
 /// Inputs that fail at their first read, in their midst and where the end is told.
-static FAILING_READS: [Run; 18] = [
+static FAILING_READS: [Run; 19] = [
     run!("check 219", "", THREE_TABLE, 7, "", reads: &[1]),
     run!("check 219", "", THREE_TABLE, 7, "", piece: 1, reads: &[11]),
     run!("check 219", "", THREE_TABLE, 7, "", reads: &[2]),
@@ -154,6 +158,7 @@ static FAILING_READS: [Run; 18] = [
     run!("defend 2 4", "", OPEN_THREE, 7, "", piece: 7, reads: &[2]),
     run!("referee t", THREE_TABLE, GAME, 7, "", reads: &[1]),
     run!("cover 1 - t", ONE_LEFT, TWO_LEFT, 7, "", piece: 7, reads: &[2]),
+    run!("join 4,7 t", LEFT_BLOCKED, THREE, 7, "", piece: 7, reads: &[2]),
     run!("brain t", BLOCK_FOULS, BLOCK_LINES, 7, "", reads: &[1]),
     run!("brain t", BLOCK_FOULS, BLOCK_LINES, 7, "OK\r\n", piece: 1, reads: &[11]),
     run!("brain", "", "START 15\nEND\n", 7, "", reads: &[1]),
@@ -176,7 +181,7 @@ static READS_AFTER: [Run; 8] = [
 
 /// Outputs that fail and keep the front of their piece, of which the drill's has an input that is not asked; and one that would fail
 /// after the last piece.
-static FAILING_WRITES: [Run; 11] = [
+static FAILING_WRITES: [Run; 12] = [
     run!("check 219", "", THREE_TABLE, 8, "acc", piece: 3, writes: &[1], kept: 3),
     run!("check 219", "", THREE_TABLE, 0, ACCEPTED, piece: 3, writes: &[2]),
     run!("book 219", "", TWO_ENTRIES, 8, "accepted", piece: 7, writes: &[1], kept: 8),
@@ -186,17 +191,20 @@ static FAILING_WRITES: [Run; 11] = [
     run!("drill 0", "", "", 8, "dri", piece: 1, reads: &[1], writes: &[1], kept: 3),
     run!("bind t t", THREE_TABLE, "input", 8, "renju-b", writes: &[1], kept: 7),
     run!("cover 1 - t", ONE_LEFT, TWO_LEFT, 8, "covered in", writes: &[1], kept: 10),
+    run!("join 4,7 t", LEFT_BLOCKED, THREE, 8, "no answer", writes: &[1], kept: 9),
     run!("referee t", THREE_TABLE, GAME, 8, "won ", writes: &[1], kept: 4),
     run!("brain t", BLOCK_FOULS, BLOCK_LINES, 8, "OK\r\n6,", writes: &[2], kept: 2),
 ];
 
 /// Files that cannot be loaded, each at its load: a table and a book that are held are loaded once.
-static FAILING_LOADS: [Run; 10] = [
+static FAILING_LOADS: [Run; 12] = [
     run!("bind t t", THREE_TABLE, "input", 2, "file 1 shelf failed\n", loads: &[1]),
     run!("bind t t", THREE_TABLE, "input", 2, "file 2 shelf failed\n", loads: &[2]),
     run!("bind t t", THREE_TABLE, "input", 0, THREE_TWICE, loads: &[3]),
     run!("cover 1 - t t", ONE_LEFT, TWO_LEFT, 2, "file 2 shelf failed\n", loads: &[2]),
     run!("cover 1 - t t", ONE_LEFT, TWO_LEFT, 0, "covered in 1 moves, 2 replies by 2 tables\n", loads: &[3]),
+    run!("join 4,7 t t", LEFT_BLOCKED, THREE, 2, "file 2 shelf failed\n", loads: &[2]),
+    run!("join 4,7 t t", LEFT_BLOCKED, THREE, 9, "no answer 8,7\n", loads: &[3]),
     run!("referee t", THREE_TABLE, GAME, 2, "shelf failed\n", loads: &[1]),
     run!("brain t", BLOCK_FOULS, BLOCK_LINES, 2, "shelf failed\n", loads: &[1]),
     run!("brain t", BLOCK_FOULS, BLOCK_LINES, 0, "OK\r\n6,3\r\n7,3\r\nERROR game over\r\n", loads: &[2]),
@@ -206,7 +214,7 @@ static FAILING_LOADS: [Run; 10] = [
 
 /// Runs that leave their input unread, of which one read would fail: words without a form, and files that are none, that hold no
 /// accepted table, or that are not there.
-static UNREAD: [Run; 12] = [
+static UNREAD: [Run; 13] = [
     run!("", "", "219", 1, USAGE, writes: &[2]),
     run!("check 0", "", THREE_TABLE, 1, USAGE, writes: &[2]),
     run!(
@@ -221,6 +229,13 @@ static UNREAD: [Run; 12] = [
     run!(
         "cover 1 4,7 t u",
         ONE_LEFT,
+        "input",
+        2,
+        "file 2 shelf failed\n"
+    ),
+    run!(
+        "join 4,7 t u",
+        LEFT_BLOCKED,
         "input",
         2,
         "file 2 shelf failed\n"

@@ -2,7 +2,7 @@ use Rattle.std.proofs.Common.{◌≡◌, List, ℕ, [], ◌∷◌, ◌∙◌, ap
 use Rattle.std.specs.Prelude.{codes, string_bytes, Option, MatchOption}
 use Rattle.renju_cli.specs.declared.commands.Form.{Form}
 use Rattle.renju_cli.specs.declared.commands.Form.TheVariants.{Check, Foul, Fours, Threats, Solve, Brain, BrainWith, Drill, Referee}
-use Rattle.renju_cli.specs.declared.commands.Form.TheVariants.{RefereeWith, Image, Defend, Bind, Book, Quiet, Cover}
+use Rattle.renju_cli.specs.declared.commands.Form.TheVariants.{RefereeWith, Image, Defend, Bind, Book, Quiet, Cover, Join}
 use Rattle.renju_cli.specs.Commands.{command, HasForm, IsForm}
 use Rattle.renju_cli.proofs.Words.{no-words as none, first-word}
 use Rattle.renju_cli.proofs.FormLaws.{no-words, no-command}
@@ -116,6 +116,13 @@ returns-in-cover c = record {
       (sym c.as_str.ensures.value ∙ c.in-cover.is) c.cover.ensures.form;
 }
 
+pub returns-in-join : goal.returns-in-join
+returns-in-join c = record {
+  form = told-of c.join.result _ _ (codes "join") _
+      (first-word string_bytes c.args.words.now c.name-item.result c.in-len1-up.len_at_least c.name-item.is)
+      (sym c.as_str.ensures.value ∙ c.in-join.is) c.join.ensures.form;
+}
+
 -- the first word is that of no command
 pub returns-in_default-as_str : goal.returns-in_default-as_str
 returns-in_default-as_str c =
@@ -137,6 +144,7 @@ returns-in_default-as_str c =
       | Defend depth nodes ↦ λ is. c.in_default-as_str.not-defend (c.as_str.ensures.value ∙ is)
       | Book work ↦ λ is. c.in_default-as_str.not-book (c.as_str.ensures.value ∙ is)
       | Cover work attack ↦ λ is. c.in_default-as_str.not-cover (c.as_str.ensures.value ∙ is)
+      | Join attack ↦ λ is. c.in_default-as_str.not-join (c.as_str.ensures.value ∙ is)
       | Bind ↦ λ is. c.in_default-as_str.not-bind (c.as_str.ensures.value ∙ is)
     ] in
     record { form = λ h. no-command _ _ other (subst HasForm words h) }

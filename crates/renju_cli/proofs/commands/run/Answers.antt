@@ -1,13 +1,13 @@
 use Rattle.std.proofs.Common.{◌≡◌, ℕ, List, arith, inl, refl, sym, subst, ◌∙◌, length, map, string_bytes}
 use Rattle.command_base.proofs.ToldLaws.{unread-devices}
 use Rattle.renju_cli.specs.declared.commands.Form.{Form}
-use Rattle.renju_cli.specs.declared.commands.Form.TheVariants.{BrainWith, RefereeWith, Bind, Cover}
+use Rattle.renju_cli.specs.declared.commands.Form.TheVariants.{BrainWith, RefereeWith, Bind, Cover, Join}
 use Rattle.command_base.specs.Statuses.{status_number}
 use Rattle.command_base.specs.declared.status.Status.TheVariants.{Usage}
 use Rattle.command_base.specs.Runs.{Run, IsDelivered, program_run, change}
 use Rattle.renju_cli.proofs.Common.{second_word, IsForm}
-use Rattle.renju_cli.proofs.Words.{same-count, word-after, words-after, words-after-third}
-use Rattle.renju_cli.proofs.ReportLaws.{bind-reported, cover-reported, file-reported, game-reported}
+use Rattle.renju_cli.proofs.Words.{same-count, word-after, words-after, words-after-second, words-after-third}
+use Rattle.renju_cli.proofs.ReportLaws.{bind-reported, cover-reported, file-reported, game-reported, join-reported}
 use Rattle.renju_cli.proofs.commands.run.Goals as goal
 
 -- the literal of the usage line is that line
@@ -97,3 +97,15 @@ returns-in-Some-Cover-clause-report g c =
     let form : IsForm words (Cover c.in-Some-Cover.work c.in-Some-Cover.attack) =
     subst (λ (f : Form). IsForm words f) c.in-Some-Cover.field-0-is c.in-Some-Cover.ensures.form in
     cover-reported run _ _ _ form (words-after-third string_bytes c.args.words.now) (c.cover_with.ensures.covers words)
+
+-- and those of `join` the words after the second
+pub returns-in-Some-Join-clause-report : goal.returns-in-Some-Join-clause-report
+returns-in-Some-Join-clause-report g c =
+    let words = map string_bytes c.args.words.now in
+    let run : Run = program_run words (change g.I.Source.left g.I.Source.faults g.I.Source.asked c.args.input.now c.join_with.new.input)
+    (change g.O.Sink.written g.O.Sink.faults g.O.Sink.asked c.args.output.now c.join_with.new.output)
+    (change g.F.Shelf.files g.F.Shelf.faults g.F.Shelf.asked c.args.shelf.now c.join_with.new.shelf)
+    (g.I.Source.last c.join_with.new.input) (status_number c.join_with.result) in
+    let form : IsForm words (Join c.in-Some-Join.attack) =
+    subst (λ (f : Form). IsForm words f) c.in-Some-Join.field-0-is c.in-Some-Join.ensures.form in
+    join-reported run _ _ form (words-after-second string_bytes c.args.words.now) (c.join_with.ensures.joins words)

@@ -1,7 +1,7 @@
 -- What the statuses of each command show follows from the report of its run.
 use Rattle.std.proofs.Common.{◌≡◌, sym, ap, subst, ℕ, List}
 use Rattle.renju_cli.specs.declared.commands.Form.TheVariants.{Check, Fours, Threats, Solve, Brain, BrainWith, Drill, Image, Book, Referee}
-use Rattle.renju_cli.specs.declared.commands.Form.TheVariants.{RefereeWith, Defend, Bind, Quiet, Cover}
+use Rattle.renju_cli.specs.declared.commands.Form.TheVariants.{RefereeWith, Defend, Bind, Quiet, Cover, Join}
 use Rattle.command_base.specs.Runs.{Run}
 use Rattle.command_base.specs.Forms.{HasWords}
 use Rattle.table_commands.specs.Checks.{ShowsWin}
@@ -11,7 +11,7 @@ use Rattle.solve_command.specs.Solves.{ShowsSolution}
 use Rattle.quiet_command.specs.Quiets.{ShowsQuietWin}
 use Rattle.brain_commands.specs.Brains.{brain_with_words, IsBrainWith}
 use Rattle.file_loading.specs.HeldFiles.{IsFileName}
-use Rattle.renju_cli.proofs.Common.{second_word, words_after, words_after_third, Report}
+use Rattle.renju_cli.proofs.Common.{second_word, words_after, words_after_second, words_after_third, Report}
 use Rattle.brain_commands.specs.Games.{ShowsHeldGames, ShowsOwnGames}
 use Rattle.brain_commands.specs.Drills.{ShowsDrill}
 use Rattle.table_commands.specs.Images.{ShowsImage}
@@ -21,6 +21,8 @@ use Rattle.table_commands.specs.Binds.{AreNames, IsBind, ShowsBinding, bind_word
 use Rattle.table_commands.specs.Books.{ShowsBook}
 use Rattle.cover_command.specs.Covers.{AreInRange, IsCoverRun, ShowsCover, cover_words}
 use Rattle.cover_command.proofs.CoverRuns.{cover-shown}
+use Rattle.join_command.specs.Joins.{AreJoinWords, IsJoinRun, ShowsJoin, join_words}
+use Rattle.join_command.proofs.JoinRuns.{join-shown}
 use Rattle.table_commands.proofs.CheckLaws.{check-won}
 use Rattle.position_commands.proofs.FoursLaws.{fours-searched}
 use Rattle.position_commands.proofs.ThreatsLaws.{threats-searched}
@@ -109,6 +111,14 @@ report-covered run report work attack names words range =
     cover-shown work attack names run (subst (λ (ns : List (List ℕ)). IsCoverRun work attack ns run) after
     (does-of run report (Cover work attack) is))
 
+report-joined : (run : Run) → Report run → ShowsJoin run
+report-joined run report attack names words range =
+    let after : words_after_second run.words ≡ names = ap words_after_second words in
+    let is : HasWords run.words (join_words attack (words_after_second run.words)) (AreJoinWords attack (words_after_second run.words)) =
+    subst (λ (ns : List (List ℕ)). HasWords run.words (join_words attack ns) (AreJoinWords attack ns)) (sym after)
+    (has_words words range) in
+    join-shown attack names run (subst (λ (ns : List (List ℕ)). IsJoinRun attack ns run) after (does-of run report (Join attack) is))
+
 -- all that holds of a run follows from its report
 pub returns : goal.returns
 returns g c = rw c.number.ensures.number (record {
@@ -125,6 +135,7 @@ returns g c = rw c.number.ensures.number (record {
   booked = report-booked _ c.run.ensures.report;
   bound = report-bound _ c.run.ensures.report;
   covered = report-covered _ c.run.ensures.report;
+  joined = report-joined _ c.run.ensures.report;
   sequences = report-sequences _ c.run.ensures.report;
   solved = report-solved _ c.run.ensures.report;
   quietly = report-quietly _ c.run.ensures.report;
