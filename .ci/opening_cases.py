@@ -75,7 +75,7 @@ def opened(ask, held, by, covered, begun):
     folder = held("few/replies")[left[0]].parent
     subprocess.run(["sh", "-c", "\n".join(lines)], cwd=folder.parents[1], timeout=SECONDS)
     # The first attack of a table falls on a stone, and one line didn't come to its end.
-    spoilt, empty = folder / f"{left[0]}.12.100000.answer", folder / f"{left[1]}.1.1.answer"
+    spoilt, empty = folder / f"{left[0]}.12.1000000.answer", folder / f"{left[1]}.1.1.answer"
     spoilt.write_text(re.sub(r"\n\d+,\d+( .*\n)$", r"\n2,3\1", spoilt.read_text()))
     empty.write_text("")
     status, told, errors = ask("few")

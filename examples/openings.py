@@ -321,7 +321,7 @@ def memory_of(given):
 def main():
     words = argparse.ArgumentParser(description=__doc__, formatter_class=argparse.RawDescriptionHelpFormatter)
     words.add_argument("--depth", type=ranged(*DEPTHS, "DEPTH"), default=40, metavar="D", help="the most moves after a reply; 40")
-    words.add_argument("--nodes", type=ranged(*NODES, "NODES"), default=100_000, metavar="N", help="NODES at first; 100,000")
+    words.add_argument("--nodes", type=ranged(*NODES, "NODES"), default=1_000_000, metavar="N", help="NODES at first; 1,000,000")
     words.add_argument("--most", type=ranged(*NODES, "NODES"), default=4_000_000, metavar="M", help="the most of NODES; 4,000,000")
     add_jobs(words)
     words.add_argument("--memory", type=ranged(64, 1_000_000, "MB"), metavar="MB", help="the most memory of a run")
