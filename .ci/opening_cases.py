@@ -28,7 +28,7 @@ PROGRAMS = {
 
 
 def openings():
-    """An opening is taken apart, also by command lines and after an interrupt, and covered in the end."""
+    """An opening is taken apart, also by command lines and after an interrupt, and joined or covered in the end."""
     with path_with(**PROGRAMS) as (_, folder):
         by = lambda name: {**os.environ, "RENJU": f"{folder}/{name}"}
         ask = lambda *words, text="", **more: run("openings.py", words, text, cwd=folder, **more)
@@ -38,27 +38,35 @@ def openings():
         tables = held("o/tables", "o/served")
         moves = 1 + max(int(re.search(r"^moves (\d+)$", path.read_text(), re.M).group(1)) for path in tables.values())
         covered = f"covered in {moves} moves, 58 replies by 58 tables\n"
-        expect("openings.py: an opening", (status, told, errors), (0, covered, begun(58)))
+        head = re.fullmatch(r"o/table\.txt: moves (\d+), nodes \d+\n", told)
+        expect("openings.py: an opening", (status, errors, head and head.group(1)), (0, begun(58), str(moves)))
+        table = Path(folder, "o/table.txt").read_text()
+        expect("openings.py: its table", asked(["check", "1000000"], table), re.compile(f"accepted in {moves} moves, \\d+ arrivals\n"))
+        expect("openings.py: its position and attack", (table.splitlines()[1:5], table.splitlines()[-1][:4]), (QUIET.splitlines()[1:], "2,3 "))
         expect("openings.py: a table for each reply", (len(tables), sorted(tables)), (58, sorted(held("o/replies"))))
         for reply, path in tables.items():
             told = asked(["check", "1000000"], path.read_text())
             expect(f"openings.py: the table of {reply}", told.startswith("accepted in "), True)
             expect(f"openings.py: its position", path.read_text().splitlines()[1:5], held("o/replies")[reply].read_text().splitlines()[1:])
         # What is known isn't asked again, and a table that is lost is.
-        expect("openings.py: a run that goes on", ask("o", env=by("idle")), (0, covered, begun(0)))
+        expect("openings.py: a run that goes on", ask("--cover", "o", env=by("idle")), (0, covered, begun(0)))
         lost = sorted(held("o/tables"))[0]
         held("o/tables")[lost].unlink()
-        expect("openings.py: a table that is lost", ask("o"), (0, covered, begun(1)))
+        expect("openings.py: a table that is lost", ask("--cover", "o"), (0, covered, begun(1)))
         wrong = sorted(tables.values())[0]
         wrong.write_text(re.sub(r"\nmoves .*", "\nmoves 1\nnodes 1\n0,0 wins\n", wrong.read_text(), flags=re.S))
-        status, told, _ = ask("o")
-        expect("openings.py: a table that isn't accepted", (status, told), (4, f"o/{wrong.parent.name}/{wrong.name} refused not-won 0,0\n"))
+        for words in (["o"], ["--cover", "o"]):
+            told = ask(*words)[:2]
+            expect(f"openings.py: a table that isn't accepted, {words}", told, (4, f"o/{wrong.parent.name}/{wrong.name} refused not-won 0,0\n"))
         opened(ask, held, by, covered, begun)
-        status, told, errors = ask("e", "e4", "-", text=EVEN)
-        expect("openings.py: two sides that are alike", (status, told), (0, "covered in 2 moves, 56 replies by 28 tables\n"))
-        told = ask("f", "5,9", "-", text=FOULING)[:2]
+        told = ask("--cover", "e", "e4", "-", text=EVEN)[:2]
+        expect("openings.py: two sides that are alike", told, (0, "covered in 2 moves, 56 replies by 28 tables\n"))
+        # Any of the two fives or both may be left to the rest.
+        expect("openings.py: they are joined", ask("e")[1], re.compile(r"e/table\.txt: moves 2, nodes 3\n"))
+        expect("openings.py: their table", asked(["check", "57"], Path(folder, "e/table.txt").read_text()), "accepted in 2 moves, 57 arrivals\n")
+        told = ask("--cover", "f", "5,9", "-", text=FOULING)[:2]
         expect("openings.py: fouls are no replies", told, (0, "covered in 2 moves, 110 replies by 110 tables\n"))
-        ask("--jobs", "1", "--memory", "100", "m", "4,4", "-", text=EVEN, env=by("limited"))
+        ask("--cover", "--jobs", "1", "--memory", "100", "m", "4,4", "-", text=EVEN, env=by("limited"))
         limits = Path(folder, "limits").read_text().split()
         expect("openings.py: the memory of a run", (limits[0], {*limits[1:]}), ("unlimited", {"102400"}))
 
@@ -78,7 +86,7 @@ def opened(ask, held, by, covered, begun):
     spoilt, empty = folder / f"{left[0]}.12.1000000.answer", folder / f"{left[1]}.1.1.answer"
     spoilt.write_text(re.sub(r"\n\d+,\d+( .*\n)$", r"\n2,3\1", spoilt.read_text()))
     empty.write_text("")
-    status, told, errors = ask("few")
+    status, told, errors = ask("--cover", "few")
     is_told = f"few/replies/{spoilt.name} is left there: renju check says refused attack-refused 2,3\n" in errors
     expect("openings.py: what command lines wrote", (len(lines), status, told, is_told), (len(left) + 1, 0, covered, True))
     expect("openings.py: what is left of it", sorted(folder.glob("*.answer")), sorted([spoilt, empty]))
@@ -88,7 +96,7 @@ def opened(ask, held, by, covered, begun):
     expect("openings.py: a run that doesn't end", stuck.stderr.readline().decode(), begun(58))
     stuck.send_signal(signal.SIGINT)
     stuck.communicate(timeout=SECONDS)
-    expect("openings.py: an interrupt", (stuck.returncode, ask("i")[:2]), (130, (0, covered)))
+    expect("openings.py: an interrupt", (stuck.returncode, ask("--cover", "i")[:2]), (130, (0, covered)))
 
 
 def unopened():

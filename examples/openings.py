@@ -1,8 +1,8 @@
 #!/usr/bin/env python3
 """Takes an opening apart: of a position and an attack it looks for a win after each reply, with all processors, keeps what is found in
-a folder, and has `renju cover` tell in the end whether the tables cover the position.
+a folder, and has `renju join` make one table of them in the end, FOLDER/table.txt.
 
-    openings.py [--depth D] [--nodes N] [--most M] [--jobs J] [--memory MB] FOLDER [X,Y FILE]
+    openings.py [--depth D] [--nodes N] [--most M] [--jobs J] [--memory MB] [--cover] FOLDER [X,Y FILE]
     openings.py --lines [--depth D] [--nodes N] FOLDER [X,Y FILE]
 
 A folder begins with X,Y, the attack, and FILE, or - for standard input, a text that examples/position.py takes, or a table, whose
@@ -19,8 +19,11 @@ MB of memory, or all runs at once half of the machine's, and where it runs out t
 --lines prints a command line of the shell for each reply that is left, for GNU parallel. What such a line writes stands beside the
 position in FOLDER/replies, and when the script goes on its table is taken in, if `renju check` accepts it.
 
-Standard error tells how far it is. The script itself never says that an opening is won: it prints the answer of `renju cover`, or
-which replies are left. The status is that of `renju cover`, or 5 where replies are left.
+Where one table has no room for all, or with --cover, `renju cover` is asked in place of `join` whether the tables win together.
+
+Standard error tells how far it is. The script itself never says that an opening is won: it prints the moves and the nodes of the table
+that `join` wrote, or else the answer of `join` or `cover`, with the path of a file for its number; or which replies are left. The
+status is that of `join` or `cover`, or 5 where replies are left.
 """
 import argparse
 import os
@@ -43,7 +46,7 @@ from solutions import all_of, both
 from solving import DEPTHS, NODES, SECONDS_OF_SILENCE, Clock, add_jobs, ranged
 
 HEAD = re.compile(r"renju-opening 1\nattack (\d+,\d+)\n")
-# The most files that `renju cover` takes, and the most arrivals that it and `check` take.
+# The most files that `renju join` and `cover` take, and the most arrivals that `check` and `cover` take.
 MOST_FILES, MOST_ARRIVALS = 1_000, 1_000_000_000_000
 # How many tables are tried at a reply each time, and with how many arrivals.
 TRIES, FEW_ARRIVALS = 8, 10_000_000_000
@@ -67,13 +70,18 @@ def end_of(position, attack):
 
 
 def replies_to(after):
-    """The replies that go on, far ones first, of those that a symmetry of the position exchanges the first one in reading order."""
+    """The replies that go on, far ones first, of those that a symmetry of the position exchanges the first one in reading order; and
+    each other one by that first one and the symmetry that takes it there.
+    """
     fits = [it for it in IMAGES if after.width == after.height or it not in EXCHANGING]
-    same = [IMAGES[it] for it in fits if image(after, it).text() == after.text()]
-    images = lambda point: [move(*point, after.width - 1, after.height - 1)[::-1] for move in same]
-    stones, fouls = after.stones(), after.fouls()
-    found = [it for it in after.empties() if it not in fouls and it[::-1] == min(images(it))]
-    return sorted(found, key=lambda point: -min(apart(point, stone) for stone in stones))
+    same = [it for it in fits if image(after, it).text() == after.text()]
+    moved = lambda point, name: IMAGES[name](*point, after.width - 1, after.height - 1)
+    stones, fouls, images, found = after.stones(), after.fouls(), {}, []
+    for point in after.empties():
+        if point not in fouls and point not in images:
+            found.append(point)
+            images.update({moved(point, name): (point, name) for name in same if moved(point, name) != point})
+    return sorted(found, key=lambda point: -min(apart(point, stone) for stone in stones)), images
 
 
 def apart(p, q):
@@ -88,7 +96,7 @@ class Opening:
         self.attack = numbers(HEAD.fullmatch((self.folder / "opening.txt").read_text()).group(1))
         self.position = read_file(self.folder / "position.txt")
         self.after = self.position.after(self.attack)
-        self.replies = replies_to(self.after)
+        self.replies, self.images = replies_to(self.after)
         for kind in ("replies", "tables", "served"):
             (self.folder / kind).mkdir(exist_ok=True)
         for reply in self.replies:
@@ -149,10 +157,20 @@ class Opening:
             found = sorted(self.found, key=lambda it: (-self.uses[it], apart(it, reply), it))
         return [it for it in found if not self.is_lost(reply, f"table-{spelled(it)}")][:TRIES]
 
+    def file(self, reply):
+        """The file of a reply's table."""
+        return self.path("tables" if reply in self.found else "served", reply)
+
     def files(self):
-        """The file of each reply's table, in reading order."""
-        found = sorted(self.found | self.served, key=lambda it: it[::-1])
-        return [str(self.path("tables" if it in self.found else "served", it)) for it in found]
+        """The files of the replies' tables, in reading order."""
+        return [str(self.file(it)) for it in sorted(self.replies, key=lambda it: it[::-1])]
+
+    def turned(self):
+        """The files of the replies that a symmetry makes of others, whose tables it turns."""
+        for reply, (first, symmetry) in self.images.items():
+            if not self.path("served", reply).exists():
+                replace(self.path("served", reply), asked(["image", symmetry], self.file(first).read_text()))
+        return [str(self.path("served", it)) for it in self.images]
 
 
 def begun(folder, attack, position):
@@ -160,7 +178,7 @@ def begun(folder, attack, position):
     end = end_of(position, attack)
     if end:
         raise Wrong(f"{both(attack, position)} {end}, and leaves nothing to take apart")
-    if len(replies_to(position.after(attack))) > MOST_FILES:
+    if len(replies_to(position.after(attack))[0]) > MOST_FILES:
         raise Wrong(f"there are more than {MOST_FILES:,} replies, and renju cover takes no more files")
     folder = Path(folder)
     if folder.exists() and (not folder.is_dir() or any(folder.iterdir())):
@@ -279,12 +297,28 @@ def lines(opening, depth, nodes):
     return DONE
 
 
-def closed(opening):
-    """Prints what the program says of all tables, with the path of a file that it counts, and answers its status."""
+def joined(opening):
+    """Has the program join the tables into one, and keeps it. It answers what is told, and the status."""
+    files = [*opening.files(), *opening.turned()]
+    if len(files) > MOST_FILES:
+        return "", FULL
+    told, status = answered(["join", spelled(opening.attack), *files], opening.position.text())
+    if status != DONE:
+        return named(told, files), status
+    replace(opening.folder / "table.txt", told)
+    return f"{opening.folder / 'table.txt'}: {', '.join(told.splitlines()[5:7])}\n", status
+
+
+def covered(opening):
+    """Has the program cover the position by the tables. It answers what is told, and the status."""
     files = opening.files()
     told, status = answered(["cover", MOST_ARRIVALS, spelled(opening.attack), *files], opening.position.text())
-    sys.stdout.write(re.sub(r"^file (\d+)", lambda number: files[int(number.group(1)) - 1], told))
-    return status
+    return named(told, files), status
+
+
+def named(told, files):
+    """What is told with the path of the file that it counts."""
+    return re.sub(r"^file (\d+)", lambda number: files[int(number.group(1)) - 1], told)
 
 
 def is_opening(folder):
@@ -326,6 +360,7 @@ def main():
     add_jobs(words)
     words.add_argument("--memory", type=ranged(64, 1_000_000, "MB"), metavar="MB", help="the most memory of a run")
     words.add_argument("--lines", action="store_true", help="print command lines, and run nothing")
+    words.add_argument("--cover", action="store_true", help="cover the position by the tables, and don't join them")
     words.add_argument("--rule", help="the rule of a text that says none"), words.add_argument("--size", help="its size")
     words.add_argument("folder", metavar="FOLDER"), words.add_argument("attack", nargs="?", metavar="X,Y")
     words.add_argument("file", nargs="?", metavar="FILE")
@@ -345,7 +380,11 @@ def main():
     if left:
         print(f"{len(left)} of {len(opening.replies)} replies are left with {nodes:,}: {all_of(left, opening.after)}")
         return SPENT
-    return closed(opening)
+    told, status = ("", FULL) if given.cover else joined(opening)
+    if status == FULL:
+        told, status = covered(opening)
+    sys.stdout.write(told)
+    return status
 
 
 if __name__ == "__main__":
