@@ -5,11 +5,10 @@ use Rattle.line_proof.proofs.doubles.compile_double.Goals as goal
 
 pub double-requires : goal.double-requires
 double-requires c = record {
-  rising = λ answers at. points-rising c.args.board.now answers
-      (at ∙ c.as_slice.ensures.items ∙ c.in_ok-points.ensures.all);
+  rising = λ answers at. points-rising c.args.board.now _ (at ∙ c.as_slice.ensures.items ∙ c.in_ok-points.ensures.all);
 }
 
 pub returns-clause-double : goal.returns-clause-double
 returns-clause-double c =
-    double-is c.args.board.now c.double.new.self c.as_slice.result.now _ c.in_ok-win.win
-    (c.as_slice.ensures.items ∙ c.in_ok-points.ensures.all) refl c.in_ok-win.ensures.moves c.in_ok-win.ensures.win
+    double-is c.args.board.now _ _ _ _ (c.as_slice.ensures.items ∙ c.in_ok-points.ensures.all) refl c.in_ok-win.ensures.moves
+    c.in_ok-win.ensures.win

@@ -1,7 +1,6 @@
-use Rattle.std.proofs.Common.{rules, ◌≡◌, Bool, true, cond, ap, ◌∙◌, sym, subst, arith}
+use Rattle.std.proofs.Common.{rules, ◌≡◌, true, ap, ◌∙◌, sym, arith}
 use Rattle.game_rules.proofs.Common.{Grid, five, mover}
 use Rattle.game_rules.proofs.Outcomes.{five-outcome}
-use Rattle.strategy_compiler.specs.Growth.{Writes}
 use Rattle.strategy_compiler.proofs.Growing.{writes-fails, writes-tells}
 use Rattle.line_proof.proofs.Doubling.{five-found}
 use Rattle.line_proof.proofs.fives.five_win.Goals as goal
@@ -12,8 +11,7 @@ returns-in_err-node-in-Some-clause-writes g c =
     let there : five g.R.Rule.KIND b (mover b) c.in-Some.point ≡ true =
     sym (ap (λ s. five g.R.Rule.KIND b s c.in-Some.point) c.side-attacker.ensures.side)
     ∙ c.is_five.ensures.five c.if-not-is_five.false in
-    subst (λ (r : Bool). Writes c.args.compiler.now c.leaf.new.self (cond r 1 0) c.from_residual.result)
-    (sym (five-found g.R.Rule.KIND b c.in-Some.point there))
+    rw (five-found g.R.Rule.KIND b c.in-Some.point there)
     (writes-fails _ _ 1 1 _ _ c.in_err-node-in-Some.ensures.writes (omega arith) (search rules))
 
 pub returns-in_ok-node-in-Some-clause-writes : goal.returns-in_ok-node-in-Some-clause-writes
@@ -28,9 +26,8 @@ pub returns-in_ok-node-in-Some-clause-win : goal.returns-in_ok-node-in-Some-clau
 returns-in_ok-node-in-Some-clause-win g c =
     let b : Grid = g.V.Seen.position c.args.view.now in
     let there : five g.R.Rule.KIND b (mover b) c.in-Some.point ≡ true =
-    sym (ap (λ s. five g.R.Rule.KIND b s c.in-Some.point) c.side-attacker.ensures.side)
-    ∙ c.is_five.ensures.five c.if-not-is_five.false in
-    c.in_ok-node-in-Some.ensures.wins g.R.Rule.KIND b (five-outcome g.R.Rule.KIND b c.in-Some.point there)
+    sym (ap (λ s. five g.R.Rule.KIND b s c.in-Some.point) c.side-attacker.ensures.side) ∙ c.is_five.ensures.five c.if-not-is_five.false in
+    c.in_ok-node-in-Some.ensures.wins g.R.Rule.KIND b (five-outcome _ _ _ there)
 
 pub returns-in_ok-node-in-Some-clause-wins : goal.returns-in_ok-node-in-Some-clause-wins
 returns-in_ok-node-in-Some-clause-wins g c =

@@ -1,12 +1,9 @@
-use Rattle.std.proofs.Common.{rules, ◌≡◌, ℕ, suc, ◌+◌, Bool, true, false, sym, ap, subst, ◌∙◌, arith, IfOk, OnOk, refl}
-use Rattle.std.proofs.Common.{List, Some, None, IfSome, sum_by}
+use Rattle.std.proofs.Common.{rules, ◌≡◌, ℕ, ◌+◌, Bool, true, sym, ap, ◌∙◌, arith, refl}
+use Rattle.std.proofs.Common.{None, sum_by}
 use Rattle.game_rules.proofs.Common.{Grid, points_of, outcome, after, goes_on_with, has_five, loses_or, if_goes_on, behind_replies}
 use Rattle.game_rules.specs.declared.Outcome.TheVariants.{GoesOn}
-use Rattle.strategy_graph.specs.declared.Node.{Node}
-use Rattle.strategy_compiler.proofs.Common.{Writes}
 use Rattle.game_rules.proofs.Undo.{stone_back, lift_back, unwon_back}
-use Rattle.line_proof.specs.declared.proof.LineAnswer.TheVariants.{Proved}
-use Rattle.line_proof.proofs.Common.{line_wins, line_tree, each_loses, IsTold, IsQuick, IsDouble, AreAnswers, FindsAnswers, IsAnswered}
+use Rattle.line_proof.proofs.Common.{line_wins, line_tree, each_loses}
 use Rattle.strategy_compiler.proofs.Growing.{grows-not, grows-then, writes-fails, writes-memory, writes-nothing, writes-tells, writes-then}
 use Rattle.strategy_compiler.proofs.Growing.{writes-then-fails}
 use Rattle.strategy_compiler.proofs.Standing.{compiled-lower}
@@ -23,28 +20,20 @@ prove_slow-returns-in_err-block-clause-writes g t c = writes-memory _ _ _ _ (gro
 
 pub prove_slow-returns-in-Some-clause-told : goal.prove_slow-returns-in-Some-clause-told
 prove_slow-returns-in-Some-clause-told g t c =
-    told-move g.R.Rule.KIND c.args.line.threats.now (g.V.Seen.position c.args.view.now) c.args.line.moves (Some c.in-Some.block)
-    c.requires.some
-    (sym c.in-Some.is ∙ c.in_ok-block.ensures.block) c.requires.slow c.prove_move.new.compiler c.prove_move.result
-    c.prove_move.ensures.told
+    told-move _ _ _ _ _ c.requires.some (sym c.in-Some.is ∙ c.in_ok-block.ensures.block) c.requires.slow _ _ c.prove_move.ensures.told
 
 pub prove_slow-returns-in-Some-clause-writes : goal.prove_slow-returns-in-Some-clause-writes
 prove_slow-returns-in-Some-clause-writes g t c =
-    subst (λ (k : ℕ). Writes c.args.compiler.now c.prove_move.new.compiler k c.prove_move.result)
-    (move-tree g.R.Rule.KIND c.args.line.threats.now (g.V.Seen.position c.args.view.now) c.args.line.moves (Some c.in-Some.block)
-    c.requires.some (sym c.in-Some.is ∙ c.in_ok-block.ensures.block) c.requires.slow) c.prove_move.ensures.writes
+    rw (move-tree _ _ _ _ _ c.requires.some (sym c.in-Some.is ∙ c.in_ok-block.ensures.block) c.requires.slow) at c.prove_move.ensures.writes
 
 pub prove_slow-returns-in-None-clause-told : goal.prove_slow-returns-in-None-clause-told
 prove_slow-returns-in-None-clause-told g t c =
-    told-move g.R.Rule.KIND c.args.line.threats.now (g.V.Seen.position c.args.view.now) c.args.line.moves None c.requires.some
-    (sym c.in-None.is ∙ c.in_ok-block.ensures.block) c.requires.slow c.prove_gain.new.compiler c.prove_gain.result
-    c.prove_gain.ensures.told
+    told-move _ _ _ _ None c.requires.some (sym c.in-None.is ∙ c.in_ok-block.ensures.block) c.requires.slow _ _ c.prove_gain.ensures.told
 
 pub prove_slow-returns-in-None-clause-writes : goal.prove_slow-returns-in-None-clause-writes
 prove_slow-returns-in-None-clause-writes g t c =
-    subst (λ (k : ℕ). Writes c.args.compiler.now c.prove_gain.new.compiler k c.prove_gain.result)
-    (move-tree g.R.Rule.KIND c.args.line.threats.now (g.V.Seen.position c.args.view.now) c.args.line.moves None
-    c.requires.some (sym c.in-None.is ∙ c.in_ok-block.ensures.block) c.requires.slow) c.prove_gain.ensures.writes
+    rw (move-tree _ _ _ _ None c.requires.some (sym c.in-None.is ∙ c.in_ok-block.ensures.block) c.requires.slow) at
+    c.prove_gain.ensures.writes
 
 -- ---- the move
 
@@ -54,10 +43,7 @@ prove_move-returns-in-GoesOn-clause-told g t c =
     let on : outcome g.R.Rule.KIND b c.args.p ≡ GoesOn = search rules in
     let lost : Grid → Bool = λ w. each_loses g.R.Rule.KIND (after w c.args.p)
     (line_wins g.R.Rule.KIND c.args.line.threats.now c.args.line.moves) in
-    subst (λ (r : Bool). IfOk c.prove_on.result (IsTold g.R.Rule.KIND (suc c.args.line.moves) b c.prove_on.new.compiler r))
-    (sym (ap (λ o. goes_on_with o (lost b)) on))
-    (subst (λ (w : Grid). IfOk c.prove_on.result (IsTold g.R.Rule.KIND (suc c.args.line.moves) w c.prove_on.new.compiler (lost w)))
-    c.in-GoesOn.ensures.same c.prove_on.ensures.told)
+    rw (ap (λ o. goes_on_with o (lost b)) on) (rw c.in-GoesOn.ensures.same at c.prove_on.ensures.told)
 
 pub prove_move-returns-in-GoesOn-clause-writes : goal.prove_move-returns-in-GoesOn-clause-writes
 prove_move-returns-in-GoesOn-clause-writes g t c =
@@ -65,10 +51,7 @@ prove_move-returns-in-GoesOn-clause-writes g t c =
     let on : outcome g.R.Rule.KIND b c.args.p ≡ GoesOn = search rules in
     let count : Grid → ℕ = λ w. behind_replies g.R.Rule.KIND (line_tree g.R.Rule.KIND c.args.line.threats.now c.args.line.moves)
     (after w c.args.p) in
-    subst (λ (k : ℕ). Writes c.args.compiler.now c.prove_on.new.compiler (1 + k) c.prove_on.result)
-    (sym (ap (λ o. if_goes_on o (count b)) on))
-    (subst (λ (w : Grid). Writes c.args.compiler.now c.prove_on.new.compiler (1 + count w) c.prove_on.result) c.in-GoesOn.ensures.same
-    c.prove_on.ensures.writes)
+    rw (ap (λ o. if_goes_on o (count b)) on) (rw c.in-GoesOn.ensures.same at c.prove_on.ensures.writes)
 
 -- ---- its replies, and the node
 
@@ -77,11 +60,7 @@ prove_on-returns-in_err-answers_after-clause-writes g t c =
     writes-fails _ _ _ _ _ _ c.in_err-answers_after.ensures.writes (omega arith) (search rules)
 
 pub prove_on-returns-in-None-clause-told : goal.prove_on-returns-in-None-clause-told
-prove_on-returns-in-None-clause-told g t c =
-    let d : Grid = after (g.V.Seen.position c.args.view.now) c.args.p in
-    subst (FindsAnswers g.R.Rule.KIND c.args.line.moves c.answers_after.new.compiler d
-    (each_loses g.R.Rule.KIND d (line_wins g.R.Rule.KIND c.args.line.threats.now c.args.line.moves))) c.in-None.is
-    c.in_ok-answers_after.ensures.found
+prove_on-returns-in-None-clause-told g t c = rw c.in-None.is at c.in_ok-answers_after.ensures.found
 
 pub prove_on-returns-in-None-clause-writes : goal.prove_on-returns-in-None-clause-writes
 prove_on-returns-in-None-clause-writes g t c = writes-tells _ _ _ _ _ _ c.in_ok-answers_after.ensures.writes (omega arith)
@@ -89,32 +68,18 @@ prove_on-returns-in-None-clause-writes g t c = writes-tells _ _ _ _ _ _ c.in_ok-
 pub prove_on-fork-requires-clause-rising : goal.prove_on-fork-requires-clause-rising
 prove_on-fork-requires-clause-rising g t c =
     let d : Grid = after (g.V.Seen.position c.args.view.now) c.args.p in
-    let found : FindsAnswers g.R.Rule.KIND c.args.line.moves c.answers_after.new.compiler d
-    (each_loses g.R.Rule.KIND d (line_wins g.R.Rule.KIND c.args.line.threats.now c.args.line.moves)) (Some c.in-Some.answers) =
-    subst (FindsAnswers g.R.Rule.KIND c.args.line.moves c.answers_after.new.compiler d
-    (each_loses g.R.Rule.KIND d (line_wins g.R.Rule.KIND c.args.line.threats.now c.args.line.moves))) c.in-Some.is
-    c.in_ok-answers_after.ensures.found in
-    replies-rising d (λ q. goes_on_with (outcome g.R.Rule.KIND d q) true) c.in-Some.answers.replies.items found.1.all
+    let found = rw c.in-Some.is at c.in_ok-answers_after.ensures.found in
+    replies-rising d (λ q. goes_on_with (outcome g.R.Rule.KIND d q) true) _ found.1.all
 
 pub prove_on-fork-requires-clause-below : goal.prove_on-fork-requires-clause-below
 prove_on-fork-requires-clause-below g t c =
-    let d : Grid = after (g.V.Seen.position c.args.view.now) c.args.p in
-    let found : FindsAnswers g.R.Rule.KIND c.args.line.moves c.answers_after.new.compiler d
-    (each_loses g.R.Rule.KIND d (line_wins g.R.Rule.KIND c.args.line.threats.now c.args.line.moves)) (Some c.in-Some.answers) =
-    subst (FindsAnswers g.R.Rule.KIND c.args.line.moves c.answers_after.new.compiler d
-    (each_loses g.R.Rule.KIND d (line_wins g.R.Rule.KIND c.args.line.threats.now c.args.line.moves))) c.in-Some.is
-    c.in_ok-answers_after.ensures.found in
-    answers-below g.R.Rule.KIND c.args.line.moves c.answers_after.new.compiler d c.in-Some.answers.replies.items found.1.answers.wins
+    let found = rw c.in-Some.is at c.in_ok-answers_after.ensures.found in
+    answers-below _ _ _ _ _ found.1.answers.wins
 
 pub prove_on-fork-requires-clause-few_moves : goal.prove_on-fork-requires-clause-few_moves
 prove_on-fork-requires-clause-few_moves g t c =
-    let d : Grid = after (g.V.Seen.position c.args.view.now) c.args.p in
-    let found : FindsAnswers g.R.Rule.KIND c.args.line.moves c.answers_after.new.compiler d
-    (each_loses g.R.Rule.KIND d (line_wins g.R.Rule.KIND c.args.line.threats.now c.args.line.moves)) (Some c.in-Some.answers) =
-    subst (FindsAnswers g.R.Rule.KIND c.args.line.moves c.answers_after.new.compiler d
-    (each_loses g.R.Rule.KIND d (line_wins g.R.Rule.KIND c.args.line.threats.now c.args.line.moves))) c.in-Some.is
-    c.in_ok-answers_after.ensures.found in
-    let few = answers-few g.R.Rule.KIND c.args.line.moves c.answers_after.new.compiler d c.in-Some.answers found.1.answers in
+    let found = rw c.in-Some.is at c.in_ok-answers_after.ensures.found in
+    let few = answers-few _ _ _ _ _ found.1.answers in
     omega (arith, few, c.requires.fits)
 
 pub prove_on-returns-in_err-fork-in-Some-clause-writes : goal.prove_on-returns-in_err-fork-in-Some-clause-writes
@@ -125,12 +90,7 @@ prove_on-returns-in_err-fork-in-Some-clause-writes g t c =
 pub prove_on-returns-in_ok-fork-in-Some-clause-told : goal.prove_on-returns-in_ok-fork-in-Some-clause-told
 prove_on-returns-in_ok-fork-in-Some-clause-told g t c =
     let b : Grid = g.V.Seen.position c.args.view.now in
-    let d : Grid = after b c.args.p in
-    let found : FindsAnswers g.R.Rule.KIND c.args.line.moves c.answers_after.new.compiler d
-    (each_loses g.R.Rule.KIND d (line_wins g.R.Rule.KIND c.args.line.threats.now c.args.line.moves)) (Some c.in-Some.answers) =
-    subst (FindsAnswers g.R.Rule.KIND c.args.line.moves c.answers_after.new.compiler d
-    (each_loses g.R.Rule.KIND d (line_wins g.R.Rule.KIND c.args.line.threats.now c.args.line.moves))) c.in-Some.is
-    c.in_ok-answers_after.ensures.found in (
+    let found = rw c.in-Some.is at c.in_ok-answers_after.ensures.found in (
       found.0,
       c.in_ok-fork-in-Some.ensures.win g.R.Rule.KIND c.args.line.moves b (line_wins g.R.Rule.KIND c.args.line.threats.now c.args.line.moves)
           c.requires.goes_on found.0 found.1,
@@ -147,30 +107,21 @@ prove_on-returns-in_ok-fork-in-Some-clause-writes g t c =
 
 pub answers_after-undo-requires-clause-stone : goal.answers_after-undo-requires-clause-stone
 answers_after-undo-requires-clause-stone g t c =
-    stone_back g.R.Rule.KIND (g.V.Seen.position c.args.view.now) _ c.args.p c.play.ensures.lawful c.requires.goes_on
-    (c.answer_each-found.ensures.same ∙ c.play.ensures.played)
+    stone_back _ _ _ _ c.play.ensures.lawful c.requires.goes_on (c.answer_each-found.ensures.same ∙ c.play.ensures.played)
 
 pub answers_after-undo-requires-clause-unwon : goal.answers_after-undo-requires-clause-unwon
 answers_after-undo-requires-clause-unwon g t c =
-    unwon_back g.R.Rule.KIND (g.V.Seen.position c.args.view.now) _ c.args.p c.play.ensures.lawful c.requires.goes_on
-    (c.answer_each-found.ensures.same ∙ c.play.ensures.played)
+    unwon_back _ _ _ _ c.play.ensures.lawful c.requires.goes_on (c.answer_each-found.ensures.same ∙ c.play.ensures.played)
 
 pub answers_after-returns-clause-found : goal.answers_after-returns-clause-found
-answers_after-returns-clause-found g t c =
-    subst (λ (d : Grid). IfOk c.answer_each-found.result (FindsAnswers g.R.Rule.KIND c.args.line.moves c.answer_each-found.new.compiler d
-    (each_loses g.R.Rule.KIND d (line_wins g.R.Rule.KIND c.args.line.threats.now c.args.line.moves)))) c.play.ensures.played
-    c.answer_each-found.ensures.found
+answers_after-returns-clause-found g t c = rw c.play.ensures.played at c.answer_each-found.ensures.found
 
 pub answers_after-returns-clause-writes : goal.answers_after-returns-clause-writes
-answers_after-returns-clause-writes g t c =
-    subst (λ (d : Grid). Writes c.args.compiler.now c.answer_each-found.new.compiler
-    (behind_replies g.R.Rule.KIND (line_tree g.R.Rule.KIND c.args.line.threats.now c.args.line.moves) d) c.answer_each-found.result)
-    c.play.ensures.played
-    c.answer_each-found.ensures.writes
+answers_after-returns-clause-writes g t c = rw c.play.ensures.played at c.answer_each-found.ensures.writes
 
 pub answers_after-returns-clause-same : goal.answers_after-returns-clause-same
 answers_after-returns-clause-same g t c =
-    c.undo.ensures.undone ∙ lift_back g.R.Rule.KIND (g.V.Seen.position c.args.view.now) _ c.args.p c.play.ensures.lawful c.requires.goes_on
+    c.undo.ensures.undone ∙ lift_back _ _ _ _ c.play.ensures.lawful c.requires.goes_on
     (c.answer_each-found.ensures.same ∙ c.play.ensures.played)
 
 -- ---- all replies
@@ -212,11 +163,7 @@ answer_each-loop-q-preserved g t c =
     let same : v ≡ b = c.loop-q.invariant.same in
     let loses : c.in_ok-answer_reply.field-0 ≡ true = c.if-not-branch.false in
     let left = c.loop-q.invariant.left in
-    let more : IsAnswered g.R.Rule.KIND c.args.line.moves c.answer_reply.new.compiler v c.in-Some.q
-    (line_wins g.R.Rule.KIND c.args.line.threats.now c.args.line.moves) c.loop-q.answers c.answer_reply.new.answers true =
-    subst (IsAnswered g.R.Rule.KIND c.args.line.moves c.answer_reply.new.compiler v c.in-Some.q
-    (line_wins g.R.Rule.KIND c.args.line.threats.now c.args.line.moves) c.loop-q.answers c.answer_reply.new.answers) loses
-    c.in_ok-answer_reply.ensures.answered in
+    let more = rw loses at c.in_ok-answer_reply.ensures.answered in
     let split = few-step g.R.Rule.KIND b v same c.in-Some.q c.loop-q.q-iterator c.next.new.self c.in-Some.ensures.steps
     (line_tree g.R.Rule.KIND c.args.line.threats.now c.args.line.moves) in
     record {
@@ -224,29 +171,19 @@ answer_each-loop-q-preserved g t c =
       compiled = c.in_ok-answer_reply.ensures.writes.compiled;
       left = omega (arith, left, split);
       grows = grows-then _ _ _ _ _ _ c.loop-q.invariant.grows c.in_ok-answer_reply.ensures.writes.grows (omega (arith, left, split));
-      hint = subst (λ (w : Grid). IfSome c.answer_reply.new.hints.double (IsDouble w.width w.height c.answer_reply.new.compiler)) same
-          c.in_ok-answer_reply.ensures.hint;
-      answers = subst (λ (w : Grid). AreAnswers g.R.Rule.KIND c.args.line.moves c.answer_reply.new.compiler w c.answer_reply.new.answers)
-          same
-          more.1;
-      rest = rest-step g.R.Rule.KIND b v same c.in-Some.q c.loop-q.q-iterator c.next.new.self c.in-Some.ensures.steps _ _
-          more.2 ∙ c.loop-q.invariant.rest;
+      hint = rw same at c.in_ok-answer_reply.ensures.hint;
+      answers = rw same at more.1;
+      rest = rest-step g.R.Rule.KIND b v same c.in-Some.q c.loop-q.q-iterator c.next.new.self c.in-Some.ensures.steps _ _ more.2
+          ∙ c.loop-q.invariant.rest;
       lose = lose-step g.R.Rule.KIND b v same c.in-Some.q c.loop-q.q-iterator c.next.new.self c.in-Some.ensures.steps
-          (line_wins g.R.Rule.KIND c.args.line.threats.now c.args.line.moves) true
-          (sym more.0) refl
-          ∙ c.loop-q.invariant.lose;
+          (line_wins g.R.Rule.KIND c.args.line.threats.now c.args.line.moves) true (sym more.0) refl ∙ c.loop-q.invariant.lose;
     }
 
 pub answer_each-returns-then-not-branch-clause-found : goal.answer_each-returns-then-not-branch-clause-found
 answer_each-returns-then-not-branch-clause-found g t c =
-    let v : Grid = g.V.Seen.position c.loop-q.view in
     let won : Grid → Bool = line_wins g.R.Rule.KIND c.args.line.threats.now c.args.line.moves in
-    let stays : loses_or (outcome g.R.Rule.KIND v c.in-Some.q) (won (after v c.in-Some.q)) ≡ false =
-    subst (IsAnswered g.R.Rule.KIND c.args.line.moves c.answer_reply.new.compiler v c.in-Some.q won c.loop-q.answers
-    c.answer_reply.new.answers)
-    c.if-not-branch.true c.in_ok-answer_reply.ensures.answered in
-    sym c.loop-q.invariant.lose ∙ fails-step g.R.Rule.KIND (g.V.Seen.position c.args.view.now) v c.loop-q.invariant.same c.in-Some.q
-    c.loop-q.q-iterator c.next.new.self c.in-Some.ensures.steps won stays
+    let stays = rw c.if-not-branch.true at c.in_ok-answer_reply.ensures.answered in
+    sym c.loop-q.invariant.lose ∙ fails-step _ _ _ c.loop-q.invariant.same _ _ _ c.in-Some.ensures.steps won stays
 
 pub answer_each-returns-in_err-answer_reply-clause-writes : goal.answer_each-returns-in_err-answer_reply-clause-writes
 answer_each-returns-in_err-answer_reply-clause-writes g t c =
@@ -281,41 +218,30 @@ pub answer_reply-returns-in-Wins-clause-writes : goal.answer_reply-returns-in-Wi
 answer_reply-returns-in-Wins-clause-writes g t c = writes-nothing _ _ _ _ c.requires.compiled refl
 
 pub answer_reply-returns-in-GoesOn-clause-answered : goal.answer_reply-returns-in-GoesOn-clause-answered
-answer_reply-returns-in-GoesOn-clause-answered g t c =
-    subst (λ (w : Grid). IfOk c.answer_on.result (IsAnswered g.R.Rule.KIND c.args.line.moves c.answer_on.new.compiler w c.args.q
-    (line_wins g.R.Rule.KIND c.args.line.threats.now c.args.line.moves) c.args.answers.now c.answer_on.new.answers))
-    c.in-GoesOn.ensures.same c.answer_on.ensures.answered
+answer_reply-returns-in-GoesOn-clause-answered g t c = rw c.in-GoesOn.ensures.same at c.answer_on.ensures.answered
 
 pub answer_reply-returns-in-GoesOn-clause-hint : goal.answer_reply-returns-in-GoesOn-clause-hint
-answer_reply-returns-in-GoesOn-clause-hint g t c =
-    subst (λ (w : Grid). OnOk c.answer_on.result (IfSome c.answer_on.new.hints.double
-    (IsDouble w.width w.height c.answer_on.new.compiler))) c.in-GoesOn.ensures.same c.answer_on.ensures.hint
+answer_reply-returns-in-GoesOn-clause-hint g t c = rw c.in-GoesOn.ensures.same at c.answer_on.ensures.hint
 
 pub answer_reply-returns-in-GoesOn-clause-writes : goal.answer_reply-returns-in-GoesOn-clause-writes
 answer_reply-returns-in-GoesOn-clause-writes g t c =
     let b : Grid = g.V.Seen.position c.args.view.now in
     let on : outcome g.R.Rule.KIND b c.args.q ≡ GoesOn = search rules in
     let count : Grid → ℕ = λ w. line_tree g.R.Rule.KIND c.args.line.threats.now c.args.line.moves (after w c.args.q) in
-    subst (λ (k : ℕ). Writes c.args.compiler.now c.answer_on.new.compiler k c.answer_on.result)
-    (sym (ap (λ o. if_goes_on o (count b)) on))
-    (subst (λ (w : Grid). Writes c.args.compiler.now c.answer_on.new.compiler (count w) c.answer_on.result) c.in-GoesOn.ensures.same
-    c.answer_on.ensures.writes)
+    rw (ap (λ o. if_goes_on o (count b)) on) (rw c.in-GoesOn.ensures.same at c.answer_on.ensures.writes)
 
 pub answer_on-returns-in_err-prove_after-clause-writes : goal.answer_on-returns-in_err-prove_after-clause-writes
 answer_on-returns-in_err-prove_after-clause-writes g t c =
     writes-fails _ _ _ _ _ _ c.in_err-prove_after.ensures.writes (omega arith) (search rules)
 
 pub answer_on-returns-in_err-add-in-Proved-clause-writes : goal.answer_on-returns-in_err-add-in-Proved-clause-writes
-answer_on-returns-in_err-add-in-Proved-clause-writes g t c =
-    writes-memory _ _ _ _ c.in_ok-prove_after.ensures.writes.grows (search rules)
+answer_on-returns-in_err-add-in-Proved-clause-writes g t c = writes-memory _ _ _ _ c.in_ok-prove_after.ensures.writes.grows (search rules)
 
 pub answer_on-returns-in-Fails-clause-answered : goal.answer_on-returns-in-Fails-clause-answered
 answer_on-returns-in-Fails-clause-answered g t c =
     let b : Grid = g.V.Seen.position c.args.view.now in
     let won : Grid → Bool = line_wins g.R.Rule.KIND c.args.line.threats.now c.args.line.moves in
-    let told : won (after b c.args.q) ≡ false =
-    subst (IsTold g.R.Rule.KIND c.args.line.moves (after b c.args.q) c.prove_after.new.compiler (won (after b c.args.q))) c.in-Fails.is
-    c.in_ok-prove_after.ensures.told in
+    let told = rw c.in-Fails.is at c.in_ok-prove_after.ensures.told in
     ap (λ o. loses_or o (won (after b c.args.q))) c.requires.goes_on ∙ told
 
 pub answer_on-returns-in-Fails-clause-writes : goal.answer_on-returns-in-Fails-clause-writes
@@ -323,16 +249,10 @@ answer_on-returns-in-Fails-clause-writes g t c = writes-tells _ _ _ _ _ _ c.in_o
 
 pub answer_on-returns-in_ok-add-in-Proved-clause-answered : goal.answer_on-returns-in_ok-add-in-Proved-clause-answered
 answer_on-returns-in_ok-add-in-Proved-clause-answered g t c =
-    let b : Grid = g.V.Seen.position c.args.view.now in
     let won : Grid → Bool = line_wins g.R.Rule.KIND c.args.line.threats.now c.args.line.moves in
-    let told : IsTold g.R.Rule.KIND c.args.line.moves (after b c.args.q) c.prove_after.new.compiler (won (after b c.args.q))
-    (Proved c.in-Proved.win) =
-    subst (IsTold g.R.Rule.KIND c.args.line.moves (after b c.args.q) c.prove_after.new.compiler (won (after b c.args.q))) c.in-Proved.is
-    c.in_ok-prove_after.ensures.told in
-    answered-more g.R.Rule.KIND c.args.line.moves c.args.compiler.now c.prove_after.new.compiler _ b c.args.q won c.in-Proved.win
-    c.args.answers.now c.add.new.answers (compiled-lower c.args.compiler.now c.requires.compiled)
-    c.in_ok-prove_after.ensures.writes.grows c.requires.goes_on told c.in_ok-add-in-Proved.ensures.added
-    c.in_ok-add-in-Proved.ensures.most c.requires.answers
+    let told = rw c.in-Proved.is at c.in_ok-prove_after.ensures.told in
+    answered-more _ _ _ _ _ _ _ won _ _ _ (compiled-lower _ c.requires.compiled) c.in_ok-prove_after.ensures.writes.grows c.requires.goes_on
+    told c.in_ok-add-in-Proved.ensures.added c.in_ok-add-in-Proved.ensures.most c.requires.answers
 
 pub answer_on-returns-in_ok-add-in-Proved-clause-writes : goal.answer_on-returns-in_ok-add-in-Proved-clause-writes
 answer_on-returns-in_ok-add-in-Proved-clause-writes g t c = writes-tells _ _ _ _ _ _ c.in_ok-prove_after.ensures.writes (omega arith)
@@ -341,42 +261,32 @@ answer_on-returns-in_ok-add-in-Proved-clause-writes g t c = writes-tells _ _ _ _
 
 pub prove_after-undo-requires-clause-stone : goal.prove_after-undo-requires-clause-stone
 prove_after-undo-requires-clause-stone g t c =
-    stone_back g.R.Rule.KIND (g.V.Seen.position c.args.view.now) _ c.args.q c.play.ensures.lawful c.requires.goes_on
-    (c.prove_reply-found.ensures.same ∙ c.play.ensures.played)
+    stone_back _ _ _ _ c.play.ensures.lawful c.requires.goes_on (c.prove_reply-found.ensures.same ∙ c.play.ensures.played)
 
 pub prove_after-undo-requires-clause-unwon : goal.prove_after-undo-requires-clause-unwon
 prove_after-undo-requires-clause-unwon g t c =
-    unwon_back g.R.Rule.KIND (g.V.Seen.position c.args.view.now) _ c.args.q c.play.ensures.lawful c.requires.goes_on
-    (c.prove_reply-found.ensures.same ∙ c.play.ensures.played)
+    unwon_back _ _ _ _ c.play.ensures.lawful c.requires.goes_on (c.prove_reply-found.ensures.same ∙ c.play.ensures.played)
 
 pub prove_after-returns-clause-same : goal.prove_after-returns-clause-same
 prove_after-returns-clause-same g t c =
-    c.undo.ensures.undone ∙ lift_back g.R.Rule.KIND (g.V.Seen.position c.args.view.now) _ c.args.q c.play.ensures.lawful c.requires.goes_on
+    c.undo.ensures.undone ∙ lift_back _ _ _ _ c.play.ensures.lawful c.requires.goes_on
     (c.prove_reply-found.ensures.same ∙ c.play.ensures.played)
 
 pub prove_after-returns-clause-told : goal.prove_after-returns-clause-told
-prove_after-returns-clause-told g t c =
-    subst (λ (d : Grid). IfOk c.prove_reply-found.result (IsTold g.R.Rule.KIND c.args.line.moves d c.prove_reply-found.new.compiler
-    (line_wins g.R.Rule.KIND c.args.line.threats.now c.args.line.moves d))) c.play.ensures.played c.prove_reply-found.ensures.told
+prove_after-returns-clause-told g t c = rw c.play.ensures.played at c.prove_reply-found.ensures.told
 
 pub prove_after-returns-clause-hint : goal.prove_after-returns-clause-hint
-prove_after-returns-clause-hint g t c =
-    subst (λ (d : Grid). OnOk c.prove_reply-found.result (IfSome c.prove_reply-found.new.hints.double
-    (IsDouble d.width d.height c.prove_reply-found.new.compiler))) c.play.ensures.played c.prove_reply-found.ensures.hint
+prove_after-returns-clause-hint g t c = rw c.play.ensures.played at c.prove_reply-found.ensures.hint
 
 pub prove_after-returns-clause-writes : goal.prove_after-returns-clause-writes
-prove_after-returns-clause-writes g t c =
-    subst (λ (d : Grid). Writes c.args.compiler.now c.prove_reply-found.new.compiler
-    (line_tree g.R.Rule.KIND c.args.line.threats.now c.args.line.moves d) c.prove_reply-found.result) c.play.ensures.played
-    c.prove_reply-found.ensures.writes
+prove_after-returns-clause-writes g t c = rw c.play.ensures.played at c.prove_reply-found.ensures.writes
 
 -- ---- after a reply
 
 pub prove_reply-returns-then-line-eq0-clause-told : goal.prove_reply-returns-then-line-eq0-clause-told
 prove_reply-returns-then-line-eq0-clause-told g t c =
     let b : Grid = g.V.Seen.position c.args.view.now in
-    ap (λ (k : ℕ). line_wins g.R.Rule.KIND c.args.line.threats.now k b) c.if-line-eq0.true
-    ∙ no_moves-wins g.R.Rule.KIND c.args.line.threats.now b
+    ap (λ (k : ℕ). line_wins g.R.Rule.KIND c.args.line.threats.now k b) c.if-line-eq0.true ∙ no_moves-wins _ _ _
 
 pub prove_reply-returns-then-line-eq0-clause-writes : goal.prove_reply-returns-then-line-eq0-clause-writes
 prove_reply-returns-then-line-eq0-clause-writes g t c = writes-nothing _ _ _ _ c.requires.compiled refl
@@ -384,45 +294,29 @@ prove_reply-returns-then-line-eq0-clause-writes g t c = writes-nothing _ _ _ _ c
 pub prove_reply-returns-in_err-win-clause-writes : goal.prove_reply-returns-in_err-win-clause-writes
 prove_reply-returns-in_err-win-clause-writes g t c =
     let some = c.if-line-eq0.false in
-    writes-fails _ _ _ _ _ _ c.in_err-win.ensures.writes
-    (quick-most g.R.Rule.KIND c.args.line.threats.now (g.V.Seen.position c.args.view.now) c.args.line.moves (omega (arith, some)))
-    (search rules)
+    writes-fails _ _ _ _ _ _ c.in_err-win.ensures.writes (quick-most _ _ _ _ (omega (arith, some))) (search rules)
 
 pub prove_reply-returns-in-Some-clause-told : goal.prove_reply-returns-in-Some-clause-told
 prove_reply-returns-in-Some-clause-told g t c =
-    let b : Grid = g.V.Seen.position c.args.view.now in
     let some = c.if-line-eq0.false in
-    let found : IsQuick g.R.Rule.KIND c.args.line.moves b c.args.compiler.now c.quick_reply.new.compiler (Some c.in-Some.win) =
-    subst (IsQuick g.R.Rule.KIND c.args.line.moves b c.args.compiler.now c.quick_reply.new.compiler) c.in-Some.is
-    c.in_ok-win.ensures.found in
-    (quick-wins g.R.Rule.KIND c.args.line.threats.now b c.args.line.moves (omega (arith, some)) found.0, found.1)
+    let found = rw c.in-Some.is at c.in_ok-win.ensures.found in
+    (quick-wins _ _ _ _ (omega (arith, some)) found.0, found.1)
 
 pub prove_reply-returns-in-Some-clause-writes : goal.prove_reply-returns-in-Some-clause-writes
 prove_reply-returns-in-Some-clause-writes g t c =
     let some = c.if-line-eq0.false in
-    writes-tells _ _ _ _ _ _ c.in_ok-win.ensures.writes
-    (quick-most g.R.Rule.KIND c.args.line.threats.now (g.V.Seen.position c.args.view.now) c.args.line.moves (omega (arith, some)))
+    writes-tells _ _ _ _ _ _ c.in_ok-win.ensures.writes (quick-most _ _ _ _ (omega (arith, some)))
 
 pub prove_reply-returns-in-None-clause-told : goal.prove_reply-returns-in-None-clause-told
-prove_reply-returns-in-None-clause-told g t c =
-    subst (λ (w : Grid). IfOk c.prove_slow.result (IsTold g.R.Rule.KIND c.args.line.moves w c.prove_slow.new.compiler
-    (line_wins g.R.Rule.KIND c.args.line.threats.now c.args.line.moves w))) c.in_ok-win.ensures.same c.prove_slow.ensures.told
+prove_reply-returns-in-None-clause-told g t c = rw c.in_ok-win.ensures.same at c.prove_slow.ensures.told
 
 pub prove_reply-returns-in-None-clause-writes : goal.prove_reply-returns-in-None-clause-writes
 prove_reply-returns-in-None-clause-writes g t c =
-    let b : Grid = g.V.Seen.position c.args.view.now in
-    let found : IsQuick g.R.Rule.KIND c.args.line.moves b c.args.compiler.now c.quick_reply.new.compiler None =
-    subst (IsQuick g.R.Rule.KIND c.args.line.moves b c.args.compiler.now c.quick_reply.new.compiler) c.in-None.is
-    c.in_ok-win.ensures.found in
-    subst (λ (t : List Node). Writes t c.prove_slow.new.compiler (line_tree g.R.Rule.KIND c.args.line.threats.now c.args.line.moves b)
-    c.prove_slow.result) found.1
-    (subst (λ (w : Grid). Writes c.quick_reply.new.compiler c.prove_slow.new.compiler
-    (line_tree g.R.Rule.KIND c.args.line.threats.now c.args.line.moves w) c.prove_slow.result) c.in_ok-win.ensures.same
-    c.prove_slow.ensures.writes)
+    let found = rw c.in-None.is at c.in_ok-win.ensures.found in
+    rw (← found.1) (rw c.in_ok-win.ensures.same at c.prove_slow.ensures.writes)
 
 pub prove_reply-returns-in-None-clause-hint : goal.prove_reply-returns-in-None-clause-hint
 prove_reply-returns-in-None-clause-hint g t c =
     let b : Grid = g.V.Seen.position c.args.view.now in
-    on-ok c.prove_slow.result (hint-grown b.width b.height c.quick_reply.new.compiler c.prove_slow.new.compiler _
-    c.quick_reply.new.hints.double (compiled-lower c.quick_reply.new.compiler c.in_ok-win.ensures.writes.compiled)
-    c.prove_slow.ensures.writes.grows c.in_ok-win.ensures.hint)
+    on-ok _ (hint-grown b.width b.height _ _ _ _ (compiled-lower _ c.in_ok-win.ensures.writes.compiled) c.prove_slow.ensures.writes.grows
+    c.in_ok-win.ensures.hint)

@@ -8,11 +8,9 @@ pub returns-in-empty : goal.returns-in-empty
 returns-in-empty g c =
     let b : Grid = g.V.Seen.position c.args.view.now in
     let side : c.other-defender.result ≡ other (mover b) = c.other-defender.ensures.other ∙ ap other c.side.ensures.side in
-    let points : c.as_slice.result.now ≡ five_points g.R.Rule.KIND b (other (mover b)) =
-    c.as_slice.ensures.items ∙ c.in_ok-points.ensures.fives ∙ ap (five_points g.R.Rule.KIND b) side in
+    let points = c.as_slice.ensures.items ∙ c.in_ok-points.ensures.fives ∙ ap (five_points g.R.Rule.KIND b) side in
     record {
-      block = sym (none-first (five g.R.Rule.KIND b (other (mover b))) (points_of b) c.as_slice.result.now points
-          c.in-empty.len_below);
+      block = sym (none-first (five g.R.Rule.KIND b (other (mover b))) (points_of b) c.as_slice.result.now points c.in-empty.len_below);
     }
 
 pub returns : goal.returns
@@ -20,8 +18,7 @@ returns g c =
     let b : Grid = g.V.Seen.position c.args.view.now in
     let nowhere : Point = record { x = 0; y = 0 } in
     let side : c.other-defender.result ≡ other (mover b) = c.other-defender.ensures.other ∙ ap other c.side.ensures.side in
-    let points : c.as_slice.result.now ≡ five_points g.R.Rule.KIND b (other (mover b)) =
-    c.as_slice.ensures.items ∙ c.in_ok-points.ensures.fives ∙ ap (five_points g.R.Rule.KIND b) side in
+    let points = c.as_slice.ensures.items ∙ c.in_ok-points.ensures.fives ∙ ap (five_points g.R.Rule.KIND b) side in
     record {
       block = sym (some-first (five g.R.Rule.KIND b (other (mover b))) (points_of b) c.as_slice.result.now nowhere points
           c.in-len1-up.len_at_least);

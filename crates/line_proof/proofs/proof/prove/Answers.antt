@@ -1,9 +1,6 @@
-use Rattle.std.proofs.Common.{rules, subst, ap, ◌∙◌, min, IfOk, List, Some, None}
+use Rattle.std.proofs.Common.{rules, ap, ◌∙◌, min}
 use Rattle.game_rules.proofs.Common.{Grid, wins_by_fours}
-use Rattle.strategy_graph.specs.declared.Node.{Node}
-use Rattle.strategy_compiler.proofs.Common.{Writes}
 use Rattle.strategy_compiler.proofs.Growing.{writes-fails, writes-tells}
-use Rattle.line_proof.proofs.Common.{IsTold, IsQuick, line_wins, line_tree}
 use Rattle.line_proof.proofs.Steps.{quick-wins, quick-most}
 use Rattle.line_proof.proofs.proof.prove.Goals as goal
 
@@ -14,10 +11,8 @@ returns-in_err-win-clause-writes g c =
 
 pub returns-in-Some-clause-told : goal.returns-in-Some-clause-told
 returns-in-Some-clause-told g c =
-    let b : Grid = g.V.Seen.position c.args.view.now in
-    let found : IsQuick g.R.Rule.KIND c.args.line.moves b c.args.compiler.now c.quick_win.new.compiler (Some c.in-Some.win) =
-    subst (IsQuick g.R.Rule.KIND c.args.line.moves b c.args.compiler.now c.quick_win.new.compiler) c.in-Some.is c.in_ok-win.ensures.found in
-    (quick-wins g.R.Rule.KIND c.args.line.threats.now b c.args.line.moves c.requires.some found.0, found.1)
+    let found = rw c.in-Some.is at c.in_ok-win.ensures.found in
+    (quick-wins _ _ _ _ c.requires.some found.0, found.1)
 
 pub returns-in-Some-clause-writes : goal.returns-in-Some-clause-writes
 returns-in-Some-clause-writes g c =
@@ -26,23 +21,13 @@ returns-in-Some-clause-writes g c =
 
 pub prove_slow-requires-clause-slow : goal.prove_slow-requires-clause-slow
 prove_slow-requires-clause-slow g c =
-    let b : Grid = g.V.Seen.position c.args.view.now in
-    let found : IsQuick g.R.Rule.KIND c.args.line.moves b c.args.compiler.now c.quick_win.new.compiler None =
-    subst (IsQuick g.R.Rule.KIND c.args.line.moves b c.args.compiler.now c.quick_win.new.compiler) c.in-None.is c.in_ok-win.ensures.found in
+    let found = rw c.in-None.is at c.in_ok-win.ensures.found in
     ap (λ (w : Grid). wins_by_fours g.R.Rule.KIND (min c.args.line.moves 2) w) c.in_ok-win.ensures.same ∙ found.0
 
 pub returns-in-None-clause-told : goal.returns-in-None-clause-told
-returns-in-None-clause-told g c =
-    subst (λ (w : Grid). IfOk c.prove_slow.result (IsTold g.R.Rule.KIND c.args.line.moves w c.prove_slow.new.compiler
-    (line_wins g.R.Rule.KIND c.args.line.threats.now c.args.line.moves w))) c.in_ok-win.ensures.same c.prove_slow.ensures.told
+returns-in-None-clause-told g c = rw c.in_ok-win.ensures.same at c.prove_slow.ensures.told
 
 pub returns-in-None-clause-writes : goal.returns-in-None-clause-writes
 returns-in-None-clause-writes g c =
-    let b : Grid = g.V.Seen.position c.args.view.now in
-    let found : IsQuick g.R.Rule.KIND c.args.line.moves b c.args.compiler.now c.quick_win.new.compiler None =
-    subst (IsQuick g.R.Rule.KIND c.args.line.moves b c.args.compiler.now c.quick_win.new.compiler) c.in-None.is c.in_ok-win.ensures.found in
-    subst (λ (t : List Node). Writes t c.prove_slow.new.compiler (line_tree g.R.Rule.KIND c.args.line.threats.now c.args.line.moves b)
-    c.prove_slow.result) found.1
-    (subst (λ (w : Grid). Writes c.quick_win.new.compiler c.prove_slow.new.compiler
-    (line_tree g.R.Rule.KIND c.args.line.threats.now c.args.line.moves w) c.prove_slow.result) c.in_ok-win.ensures.same
-    c.prove_slow.ensures.writes)
+    let found = rw c.in-None.is at c.in_ok-win.ensures.found in
+    rw (← found.1) (rw c.in_ok-win.ensures.same at c.prove_slow.ensures.writes)

@@ -1,4 +1,4 @@
-use Rattle.std.proofs.Common.{inl, inr, ◌≡◌, ◌↔◌, ℕ, ◌≤◌, Bool, true, false, refl, sym, subst, ap, ◌∙◌, arith}
+use Rattle.std.proofs.Common.{inl, inr, ◌≡◌, ◌↔◌, ℕ, ◌≤◌, Bool, true, false, refl, sym, ap, ◌∙◌, arith}
 use Rattle.std.proofs.Common.{List, [], ◌∷◌, ◌++◌, length, min}
 use Rattle.std.proofs.lemmas.Bool.{cases_lt}
 use Rattle.game_rules.proofs.Common.{Grid, IsPosition, wins_by_fours}
@@ -8,7 +8,6 @@ use Rattle.strategy_graph.proofs.Answering.{nodes-append_nil}
 use Rattle.strategy_compiler.specs.declared.wins.WrittenWin.{WrittenWin}
 use Rattle.strategy_compiler.proofs.Common.{GrowsBy}
 use Rattle.strategy_compiler.proofs.Growing.{win-within}
-use Rattle.four_search.specs.Answers.{IsFourWin, OnWin, most_added}
 use Rattle.four_search.specs.FourGame.{four_cost}
 use Rattle.four_search.specs.declared.answer.FourAnswer.{FourAnswer}
 use Rattle.four_search.specs.declared.answer.FourAnswer.TheVariants.{Win, None}
@@ -38,21 +37,19 @@ no-more t u grown = grown.is ∙ ap (λ (more : List Node). t ++ more) (by_list 
 
 pub unreachable-requires : goal.unreachable-requires
 unreachable-requires g c =
-    let b : Grid = g.V.Seen.position c.args.view.now in
     let two = c.min.ensures in
-    cost-fits g.R.Rule.KIND b c.side.ensures.lawful c.min.result 18446744073709551615 (omega (arith, two)) (omega arith)
+    cost-fits _ _ c.side.ensures.lawful _ 18446744073709551615 (omega (arith, two)) (omega arith)
     (c.in_ok-found.ensures.spent.0 c.in-Spent.is)
 
 pub returns-in-Win-clause-found : goal.returns-in-Win-clause-found
 returns-in-Win-clause-found g c =
     let b : Grid = g.V.Seen.position c.args.view.now in
     let two : c.min.result ≡ min c.args.moves 2 = c.min.ensures in
-    let won : IsFourWin g.R.Rule.KIND c.min.result b c.four_search.new.compiler c.in-Win.win =
-    subst (λ (a : FourAnswer). OnWin a (IsFourWin g.R.Rule.KIND c.min.result b c.four_search.new.compiler)) c.in-Win.is
-    c.in_ok-found.ensures.win in (
-      ap (λ (k : ℕ). wins_by_fours g.R.Rule.KIND k b) (sym two) ∙ won-by g.R.Rule.KIND b c.side.ensures.lawful c.min.result
-          (omega (arith, two)) 18446744073709551615 (omega arith) c.in_ok-found.found c.in-Win.win c.in-Win.is c.in_ok-found.ensures.none,
-      win-within g.R.Rule.KIND c.min.result c.args.moves b c.four_search.new.compiler c.in-Win.win (omega (arith, two)) won.written,
+    let won = rw c.in-Win.is at c.in_ok-found.ensures.win in (
+      ap (λ (k : ℕ). wins_by_fours g.R.Rule.KIND k b) (sym two)
+          ∙ won-by _ _ c.side.ensures.lawful _ (omega (arith, two)) 18446744073709551615 (omega arith) _ _ c.in-Win.is
+          c.in_ok-found.ensures.none,
+      win-within _ _ _ _ _ _ (omega (arith, two)) won.written,
     )
 
 pub returns-in-None-clause-found : goal.returns-in-None-clause-found
@@ -60,7 +57,5 @@ returns-in-None-clause-found g c =
     let b : Grid = g.V.Seen.position c.args.view.now in
     let two : c.min.result ≡ min c.args.moves 2 = c.min.ensures in (
       ap (λ (k : ℕ). wins_by_fours g.R.Rule.KIND k b) (sym two) ∙ (c.in_ok-found.ensures.none.0 c.in-None.is).0,
-      no-more c.args.compiler.now c.four_search.new.compiler
-          (subst (λ (a : FourAnswer). GrowsBy c.args.compiler.now c.four_search.new.compiler (most_added a)) c.in-None.is
-          c.in_ok-found.ensures.added),
+      no-more _ _ (rw c.in-None.is at c.in_ok-found.ensures.added),
     )
