@@ -1144,7 +1144,7 @@ class Runs:
             if stones[1:] == BLOCKED_BY_A_FOUL:
                 where_none_fouls = found.stdout.replace(b"rule renju", b"rule exact")
                 refused = self.run(["check", "1000000000000"], input=where_none_fouls)
-                self.expect("check of a quiet win where no block fouls", refused, 4, re.compile(r"refused attack-refused .+\n"))
+                self.expect("check of a quiet win where no block fouls", refused, 4, re.compile(r"refused [a-z-]+( \d+,\d+)+\n"))
 
     def over_parts(self, name, text, whole, accepted):
         """A table that is taken apart after its first move, a file for each answer, and joined again is accepted as it was."""

@@ -1,6 +1,6 @@
 //! The answer of the search, and its rounds.
 //!
-//! A root whose moves are all disproved is searched again, with more moves tried and the win after a pass searched harder, a few times.
+//! A root whose moves are all disproved is searched again, with more moves tried and threats searched harder, a few times.
 #![tactic(auto)]
 
 ghost use Rattle.std.specs.Prelude.{◌≤◌, ◌<◌, length, IfOk, IfSome, OnOk};
@@ -22,18 +22,20 @@ use strategy_compiler::{Compiler, SearchError};
 /// So many rounds are searched at most.
 const ROUNDS: u32 = 4;
 
-/// The first round's width, and how much more each round has than the one before.
-const FIRST_PASS: u64 = 200;
+/// The first round's width, and how much more each round has than the one before. Most positions are won in the first, or all moves
+/// are disproved in a few steps, since no win after a pass is found. Then a search at a leaf with less than some thousand positions
+/// seldom finds a win.
+const FIRST_BUDGET: u64 = 200;
 
 const FIRST_MOVES: u32 = 20;
 
-const MORE_PASS: u64 = 6;
+const MORE_BUDGET: u64 = 20;
 
 const MORE_MOVES: u32 = 2;
 
 /// Searches a win with quiet moves for the side to move, within about `depth` moves, 1 to `MAX_DEPTH`. Each round grows a tree of at most
 /// `nodes` nodes, 1 to `MAX_LISTED`, one for each position that it lists, and that of the last round is left. That its nodes stand for
-/// positions, no clause says.
+/// positions, no clause says. It ends soon after the searches for threats at these have listed eight times as many.
 ///
 /// A node that is told is one of the compiler, and nothing more is said of it: a table that is finished from it has to be checked.
 /// `None` says nothing of the position. `Full` says that the compiler has no room for a node, `Memory` that there is no memory.
@@ -92,12 +94,13 @@ impl<R: Rule> Finder<R> {
             depth,
             width: Width {
                 round: 1,
-                pass: FIRST_PASS,
+                budget: FIRST_BUDGET,
                 moves: FIRST_MOVES,
             },
             memory: Memory::new(alloc)?,
             zones: Zones::new(alloc, attacker, size)?,
             notes: Notes::new(alloc)?,
+            looked: 0,
         })
     }
 
@@ -130,7 +133,7 @@ impl<R: Rule> Finder<R> {
         self.notes.begin()?;
         self.width = Width {
             round: self.width.round.saturating_add(1),
-            pass: self.width.pass.saturating_mul(MORE_PASS),
+            budget: self.width.budget.saturating_mul(MORE_BUDGET),
             moves: self.width.moves.saturating_mul(MORE_MOVES),
         };
         Ok(())

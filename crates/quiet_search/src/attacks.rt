@@ -16,9 +16,6 @@ use std::alloc::AllocError;
 use stone_board::{Point, Points, Side};
 use strategy_compiler::{Compiler, SearchError};
 
-/// The budget of threats at a leaf of the attacker.
-const LEAF_BUDGET: u64 = 100;
-
 /// The proof number of the best move, and what each move after it has more, up to a most.
 const FIRST_PROOF: u32 = 4;
 
@@ -72,7 +69,7 @@ impl<R: Rule> Finder<R> {
         if self.serves(compiler, place.hint, view.board())? {
             return Ok(place.hint);
         }
-        self.force(view, LEAF_BUDGET, place.left, compiler)
+        self.force(view, self.width.budget, place.left, compiler)
     }
 
     /// A child for the hint's move and for each of the best moves.

@@ -140,7 +140,7 @@ impl<R: Rule> Finder<R> {
         }
     }
 
-    /// The node of a win by fours or threats after a reply, if one is found with the budget of a pass.
+    /// The node of a win by fours or threats after a reply, if one is found with the budget of the round.
     fn win_after(
         &mut self,
         view: &Position<R>,
@@ -150,7 +150,7 @@ impl<R: Rule> Finder<R> {
     ) -> Result<Option<u32>, SearchError> {
         match after_move::<R>(view, q)? {
             None => Ok(None),
-            Some(mut passed) => self.force(&mut passed, self.width.pass, left, compiler),
+            Some(mut passed) => self.force(&mut passed, self.width.budget, left, compiler),
         }
     }
 

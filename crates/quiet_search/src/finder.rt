@@ -1,6 +1,7 @@
 //! The finder: what the search keeps beside its tree, and the calls of the searches that it stands on.
 #![tactic(auto)]
 
+use crate::LOOKED_A_NODE;
 use crate::known::{Known, Memory};
 use crate::notes::Notes;
 use crate::zones::Zones;
@@ -25,11 +26,12 @@ const DENIAL_MOVES: u32 = 12;
 /// Within so many moves threats are looked for.
 const THREAT_MOVES: u32 = 15;
 
-/// How wide a round searches: its number from 1 on, how hard the win after a pass is searched, and how many moves are tried.
+/// How wide a round searches: its number from 1 on, the budget of threats at a leaf of the attacker and after a pass, and how many moves
+/// are tried.
 #[derive(Clone, Copy)]
 pub(crate) struct Width {
     pub(crate) round: u32,
-    pub(crate) pass: u64,
+    pub(crate) budget: u64,
     pub(crate) moves: u32,
 }
 
@@ -79,6 +81,8 @@ pub(crate) struct Finder<R: Rule> {
     pub(crate) memory: Memory,
     pub(crate) zones: Zones<R>,
     pub(crate) notes: Notes,
+    /// So many positions the searches for threats have listed.
+    pub(crate) looked: u64,
 }
 
 /// The nodes of the compiler.
@@ -213,7 +217,12 @@ impl<R: Rule> Finder<R> {
         if budget == 0 {
             return Ok(Forced::Open);
         }
-        find_threats_win::<R>(self.alloc, view, budget, left, compiler)
+        find_threats_win::<R>(self.alloc, view, budget, left, compiler, &mut self.looked)
+    }
+
+    /// Whether the searches for threats have listed as many positions as there are for so many nodes.
+    pub(crate) fn has_looked_enough(&self, nodes: u32) -> bool {
+        self.looked >= u64::from(nodes) * LOOKED_A_NODE
     }
 
     /// Whether the defender, to move, is seen to win by fours.
@@ -236,18 +245,20 @@ fn find_fours_win<R: Rule>(
     }
 }
 
-/// The node of a win by threats within the moves left, if one is found with the budget.
+/// The node of a win by threats within the moves left, if one is found with the budget. What was listed is counted.
 fn find_threats_win<R: Rule>(
     alloc: Global,
     view: &mut Position<R>,
     budget: u64,
     left: u32,
     compiler: &mut Compiler,
+    looked: &mut u64,
 ) -> Result<Forced, SearchError> {
     let depth = left.min(THREAT_MOVES).max(1);
     let positions = budget.min(1_000_000).max(1);
     let mut tree = ProofTree::new(alloc)?;
     let found = proof_number::<R, Position<R>>(alloc, view, depth, positions, &mut tree, compiler)?;
+    *looked = looked.saturating_add(u64::from(tree.len()));
     match found {
         ProofAnswer::Win(win) => Ok(Forced::Won(win.node)),
         ProofAnswer::None => Ok(Forced::Denied),

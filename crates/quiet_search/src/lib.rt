@@ -43,6 +43,9 @@ pub const MAX_LISTED: u32 = 4_000_000;
 /// The greatest number that a node begins with.
 const MOST_NUMBER: u32 = 1_000;
 
+/// The search ends once its searches for threats have listed so many positions for each node of the budget, in all rounds together.
+const LOOKED_A_NODE: u64 = 8;
+
 /// So many positions are remembered at most, and so many zones.
 const REMEMBERED: u32 = 65_536;
 

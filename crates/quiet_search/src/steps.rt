@@ -108,14 +108,23 @@ impl<R: Rule> Finder<R> {
         ensures small { OnOk result (IsSmall tree.new most) }
     {
         for _ in 0..most {
-            if let Step::Spent = self.step(tree, compiler, most)? {
-                return Ok(Ended::Spent);
-            }
+            let step = self.step(tree, compiler, most)?;
             if is_decided(tree) {
                 return Ok(self.decided(tree));
             }
+            if self.is_spent(step, most) {
+                return Ok(Ended::Spent);
+            }
         }
         Ok(Ended::Spent)
+    }
+
+    /// Whether the step, or what was looked at for so many nodes, leaves no room for more.
+    fn is_spent(&self, step: Step, most: u32) -> bool {
+        match step {
+            Step::Done => self.has_looked_enough(most),
+            Step::Spent => true,
+        }
     }
 
     /// What a settled root says.
