@@ -45,9 +45,7 @@ def lost(repository, text):
     """What the document names that no crate has. What has a blank, a dot or a slash is no name of one."""
     known = {*names_of(repository), "None"}
     spans = re.findall(r"`([^`]+)`", re.sub(r"^Caller: .*$", "", text, flags=re.M))
-    lists = [name for it in re.findall(r"`crates\.txt` lists `([^`]+)`", text) for name in it.split()]
     yield from (f"no crate has {it}" for it in dict.fromkeys(spans) if re.fullmatch(r"[\w:]+", it) and it not in known)
-    yield from (f"there is no crate {it}" for it in dict.fromkeys(lists) if it not in repository.crates)
 
 
 def main():

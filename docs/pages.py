@@ -11,7 +11,7 @@ LIST, FOLDER, CLAIMS = "docs/DEFINITIONS.md", "docs/definitions", "docs/claims.t
 # The part of docs/claims.txt that is about no claim.
 UNSAID = "what no clause says"
 # So many names of what a claim needs of a chapter, or doesn't, are listed.
-FEW = 6
+FEW = 2
 NO_COMMENT = "(it has no comment)"
 # What begins a line of a definition and matters to proofs alone, and how the first line of one begins on a page.
 FOR_PROOFS = re.compile(r"^( *)(?:(?:abbrev|unfoldable) )?(?:pub )?")
@@ -67,6 +67,11 @@ def limit(it):
     value = it.value.split("//")[0].strip()
     digits = value.replace("_", "")
     return f"- `{it.name}`, {f'{int(digits):,}' if digits.isdigit() else f'`{value}`'}: {sentence(it.doc)}"
+
+
+def title_of(header):
+    """What a module or a claim is about, without what is said of it after that."""
+    return re.split(r": |[.] |; |, (?=and )", header)[0].rstrip(".") + "."
 
 
 def in_full(word):
@@ -134,7 +139,7 @@ class Pages:
 
     def overview(self):
         """The list of claims and chapters, and how they are read."""
-        claims = [(listed(it), it.about, *counts(it.rests), str(len(of_words(it.found)))) for it in self.layout.claims]
+        claims = [(listed(it), title_of(it.about), *counts(it.rests), str(len(of_words(it.found)))) for it in self.layout.claims]
         last = [line for name in LAST for line in [f"**`{name}`**. {self.said[name]}", ""]]
         chapters = [(listed(it), it.about, *counts(it.found)) for it in self.layout.chapters]
         return [
@@ -196,7 +201,7 @@ class Pages:
         if types or limits:
             yield from [*(line for it in types for line in spelled(it)), *(limit(it) for it in limits), ""]
         for module, words in modules:
-            yield from [f"`specs/{module}.antt`. {'' if (crate.name, module) in known else crate.headers[module]}".rstrip(), ""]
+            yield from [f"`specs/{module}.antt`. {'' if (crate.name, module) in known else title_of(crate.headers[module])}".rstrip(), ""]
             yield from self.names(words, names) if shown is in_full else []
             yield from [line for it in words for line in shown(it)] + ([""] if shown is in_short else [])
 
@@ -267,7 +272,7 @@ To read a claim:
 2. Read these chapters from top to bottom, in their order. Each definition stands below its comment, after those that it uses; two that use each other stand together.
 3. Then read the page: what this claim adds to the chapters. No other claim's page is needed, but where a page names one.
 
-How definitions are written is in [toolchain.md](definitions/toolchain.md), with a line on each word of the toolchain that they have. Where a name is defined, ``grep -rnE '^( {{4}}(record |data )?|- `)NAME\\b' docs/definitions`` tells. Begin with `won`, of which the chapters are the ones that most claims need. `docs/definitions.py --text CLAUSE` prints all that a claim rests on as one text, as it stands in the sources; the pages leave out `pub`, `abbrev` and `unfoldable`, which matter to proofs alone. `--text crates` prints the definitions of which only a crate that is used alone speaks, `--text private` those of private contracts and of proofs.
+How definitions are written is in [toolchain.md](definitions/toolchain.md), with a line on each word of the toolchain that they have. Where a name is defined, ``grep -rnE '^( {{4}}(record |data )?|- `)NAME\\b' docs/definitions`` tells. `docs/definitions.py --text CLAUSE` prints all that a claim rests on as one text, as it stands in the sources; the pages leave out `pub`, `abbrev` and `unfoldable`, which matter to proofs alone. `--text crates` prints the definitions of which only a crate that is used alone speaks, `--text private` those of private contracts and of proofs.
 
 Contracts speak of plain values: a board is a width, a height and a list of cells; a table is a list of nodes; a text is a list of bytes; numbers are whole numbers without limit. Sources: the RIF Rules of Renju for fours, straight fours, threes, overlines and fouls; Allis, van den Herik and Huntjens, "Go-Moku and Threat-Space Search", for wins by fours and by threats. Which double-threes are allowed to stand is this program's own rule, and its definition (`is_three`) says so.
 
