@@ -91,6 +91,12 @@ def opened(ask, held, by, covered, begun):
     expect("openings.py: what command lines wrote", (len(lines), status, told, is_told), (len(left) + 1, 0, covered, True))
     expect("openings.py: what is left of it", sorted(folder.glob("*.answer")), sorted([spoilt, empty]))
     expect("openings.py: what was spent", f"{left[0]} quiet-3-2 5 0.0\n" in Path(folder.parent, "tried.txt").read_text(), True)
+    status, told, errors = ask("--deeper", "2", "--nodes", "1", "--most", "1", "deep", "2,3", "-", text=QUIET)
+    # White's 7,3 makes a four of its column that 7,4 blocks, and the other way round.
+    blocks = ["7,3 (h6) is taken apart by 7,4 (h5)", "7,4 (h5) is taken apart by 7,3 (h6)"]
+    table = Path(folder.parents[1], "deep", "table.txt").read_text()
+    expect("openings.py: replies that are taken apart in turn", (status, errors.splitlines()[1:3]), (0, blocks))
+    expect("openings.py: their table", asked(["check", "1000000"], table), re.compile(r"accepted in \d+ moves, .*\n"))
     words = [EXAMPLES / "openings.py", "i", "2,3", "few/position.txt"]
     stuck = subprocess.Popen(words, cwd=folder.parents[1], env=by("stuck"), stdout=subprocess.PIPE, stderr=subprocess.PIPE)
     expect("openings.py: a run that doesn't end", stuck.stderr.readline().decode(), begun(58))

@@ -2,7 +2,7 @@
 """Takes an opening apart: of a position and an attack it looks for a win after each reply, with all processors, keeps what is found in
 a folder, and has `renju join` make one table of them in the end, FOLDER/table.txt.
 
-    openings.py [--depth D] [--nodes N] [--most M] [--jobs J] [--memory MB] [--cover] FOLDER [X,Y FILE]
+    openings.py [--depth D] [--nodes N] [--most M] [--deeper L] [--jobs J] [--memory MB] [--cover] FOLDER [X,Y FILE]
     openings.py --lines [--depth D] [--nodes N] FOLDER [X,Y FILE]
 
 A folder begins with X,Y, the attack, and FILE, or - for standard input, a text that examples/position.py takes, or a table, whose
@@ -15,6 +15,9 @@ reply, are given to `renju check`, which costs less than a search, and where the
 `renju quiet D NODES` is asked, and its table is kept in FOLDER/tables. NODES begins with N, and the replies that are left are asked
 again with four times as many each time, up to M. Of replies that a symmetry of the board exchanges the first is asked. A run may take
 MB of memory, or all runs at once half of the machine's, and where it runs out the reply is left.
+
+With --deeper L a reply that is left then is taken apart in turn, in a folder of FOLDER/deeper, by the first moves of the tables that
+serve most replies, or where it makes a four by what blocks that; of its own replies those that are left too, down to L levels.
 
 --lines prints a command line of the shell for each reply that is left, for GNU parallel. What such a line writes stands beside the
 position in FOLDER/replies, and when the script goes on its table is taken in, if `renju check` accepts it.
@@ -38,7 +41,7 @@ from pathlib import Path
 
 sys.dont_write_bytecode = True
 
-from boards import ENDING, PROGRAM, Wrong, answered, asked, bytes_of, end_runs, numbers, read_file, saying, spelled, tell
+from boards import ENDING, PROGRAM, Wrong, answered, asked, bytes_of, end_runs, numbers, other, read_file, saying, spelled, tell
 from foul import an
 from outputs import replace
 from position import EXCHANGING, IMAGES, image, points, rule_of, size_of, understood
@@ -51,6 +54,8 @@ MOST_FILES, MOST_ARRIVALS = 1_000, 1_000_000_000_000
 # How many tables are tried at a reply each time, and with how many arrivals.
 TRIES, FEW_ARRIVALS = 8, 10_000_000_000
 TIMES = 4
+# By how many attacks a reply that is left is taken apart.
+ATTACKS = 2
 # The statuses of `quiet`, and of `check` of another's nodes, after which a script goes on.
 DONE, UNREAD, REFUSED, SPENT, MEMORY, FULL = 0, 3, 4, 5, 6, 12
 ANSWER = re.compile(r"(\d+,\d+)\.(\d+)\.(\d+)\.answer")
@@ -156,6 +161,24 @@ class Opening:
         with self.lock:
             found = sorted(self.found, key=lambda it: (-self.uses[it], apart(it, reply), it))
         return [it for it in found if not self.is_lost(reply, f"table-{spelled(it)}")][:TRIES]
+
+    def attacks(self, reply):
+        """By which attacks a reply is taken apart: what keeps the other side from a five, or the first moves of the tables that serve most."""
+        position = self.after.after(reply)
+        uses = Counter(position.fives(other(position.side())))
+        for it in [] if uses else self.found:
+            last = self.path("tables", it).read_text().rstrip("\n").rpartition("\n")[2]
+            uses[numbers(last.split(" ")[0])] += 1 + self.uses[it]
+        fit = [it for it in sorted(uses, key=lambda it: (-uses[it], it)) if it in position.empties() and not end_of(position, it)]
+        return fit[:ATTACKS]
+
+    def deeper(self, reply, attack):
+        """The opening of an attack after a reply."""
+        folder = self.folder / "deeper" / f"{spelled(reply)}-{spelled(attack)}"
+        folder.parent.mkdir(exist_ok=True)
+        if not is_opening(folder):
+            begun(folder, attack, self.after.after(reply))
+        return Opening(folder)
 
     def file(self, reply):
         """The file of a reply's table."""
@@ -288,6 +311,25 @@ class Work:
         self.opening.add(reply, what, status, seconds)
 
 
+def asked_deeper(opening, given, levels):
+    """Asks the replies that are left, and takes those that are left then apart in turn, down to some levels. It answers with how many
+    nodes they were asked at last.
+    """
+    work = Work(opening, given)
+    nodes = work.rounds(min(given.nodes, given.most), given.most)
+    for reply in opening.left() if levels else []:
+        if work.serve(reply):
+            continue
+        for attack in opening.attacks(reply):
+            tell(f"{both(reply, opening.after)} is taken apart by {both(attack, opening.after)}")
+            inner = opening.deeper(reply, attack)
+            asked_deeper(inner, given, levels - 1)
+            if not inner.left() and joined(inner)[1] == DONE:
+                opening.put("tables", reply, (inner.folder / "table.txt").read_text())
+                break
+    return nodes
+
+
 def lines(opening, depth, nodes):
     """Prints a command line for each reply that is left."""
     for reply in opening.left():
@@ -357,6 +399,7 @@ def main():
     words.add_argument("--depth", type=ranged(*DEPTHS, "DEPTH"), default=40, metavar="D", help="the most moves after a reply; 40")
     words.add_argument("--nodes", type=ranged(*NODES, "NODES"), default=1_000_000, metavar="N", help="NODES at first; 1,000,000")
     words.add_argument("--most", type=ranged(*NODES, "NODES"), default=4_000_000, metavar="M", help="the most of NODES; 4,000,000")
+    words.add_argument("--deeper", type=ranged(0, 10, "LEVELS"), default=0, metavar="L", help="levels below; 0")
     add_jobs(words)
     words.add_argument("--memory", type=ranged(64, 1_000_000, "MB"), metavar="MB", help="the most memory of a run")
     words.add_argument("--lines", action="store_true", help="print command lines, and run nothing")
@@ -375,7 +418,7 @@ def main():
     asked(["foul"], opening.position.text())
     tell(f"after {both(opening.attack, opening.position)} there are {len(opening.replies)} replies to ask, and {len(left)} are left")
     given.memory = memory_of(given)
-    nodes = Work(opening, given).rounds(min(given.nodes, given.most), given.most)
+    nodes = asked_deeper(opening, given, given.deeper)
     left = opening.left()
     if left:
         print(f"{len(left)} of {len(opening.replies)} replies are left with {nodes:,}: {all_of(left, opening.after)}")
