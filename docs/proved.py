@@ -90,12 +90,20 @@ class Bodies:
         return name
 
 
+def defined_by(folder, file, line):
+    """The definition that a line of a file of specs/ stands in, or None."""
+    text = (folder / file).read_text() if file.startswith("specs/") else ""
+    found = re.findall(r"^(?:(?:abbrev|unfoldable) )?pub (?:record |data )?(\w+)", text[: text.find(line)], re.M)
+    return found[-1] if found else None
+
+
 def refused(folder, section):
     """The line that names the must-fail edits of a crate, or nothing."""
     bodies, calls, told = Bodies(folder), list(dict.fromkeys(call for call, _ in PROMISED.findall(section))), {}
     for path in sorted(folder.glob("must-fail/*.edit")):
         said = dict(re.findall(r"^(file|old): (.*)$", path.read_text(), re.M)[:2])
-        name = bodies.function_of(said.get("file", ""), said.get("old", ""))
+        place = said.get("file", ""), said.get("old", "")
+        name = bodies.function_of(*place) or defined_by(folder, *place)
         told.setdefault(bodies.promised(name, calls) if name else "elsewhere", []).append(path.stem)
     order = sorted(told, key=lambda it: (calls.index(it) if it in calls else len(calls), it))
     return REFUSED + "; ".join(f"`{call}`: {', '.join(told[call])}" for call in order) + "." if told else ""
