@@ -4,17 +4,17 @@
 #![tactic(auto)]
 
 ghost use Rattle.std.specs.Prelude.{◌≤◌, ◌<◌, length, IfOk, IfSome, OnOk};
-ghost use Rattle.quiet_search.specs.declared.TheConstants.{MAX_DEPTH, MAX_LISTED};
-ghost use Rattle.quiet_search.specs.Trees.{IsSmall};
+ghost use Rattle.quiet_search.specs.declared.TheConstants.{MAX_DEPTH};
+ghost use Rattle.quiet_tree.specs.declared.TheConstants.{MAX_LISTED};
+ghost use Rattle.quiet_tree.specs.Trees.{IsSmall};
 
 use crate::finder::{Finder, Width};
 use crate::known::Memory;
-use crate::notes::Notes;
 use crate::steps::Ended;
-use crate::tree_growth::lone_leaf;
-use crate::zones::Zones;
 use foul_judge::{Position, Seen};
 use proof_tree::ProofTree;
+use quiet_tree::{Notes, lone_leaf};
+use quiet_zones::Zones;
 use row_shapes::Rule;
 use std::alloc::{AllocError, Global};
 use strategy_compiler::{Compiler, SearchError};
@@ -34,8 +34,8 @@ const MORE_BUDGET: u64 = 20;
 const MORE_MOVES: u32 = 2;
 
 /// Searches a win with quiet moves for the side to move, within about `depth` moves, 1 to `MAX_DEPTH`. Each round grows a tree of at most
-/// `nodes` nodes, 1 to `MAX_LISTED`, one for each position that it lists, and that of the last round is left. That its nodes stand for
-/// positions, no clause says. It ends soon after the searches for threats at these have listed eight times as many.
+/// `nodes` nodes, 1 to `MAX_LISTED` of `quiet_tree`, one for each position that it lists, and that of the last round is left. That its
+/// nodes stand for positions, no clause says. It ends soon after the searches for threats at these have listed eight times as many.
 ///
 /// A node that is told is one of the compiler, and nothing more is said of it: a table that is finished from it has to be checked.
 /// `None` says nothing of the position. `Full` says that the compiler has no room for a node, `Memory` that there is no memory.

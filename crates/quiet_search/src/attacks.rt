@@ -2,15 +2,14 @@
 #![tactic(auto)]
 
 ghost use Rattle.std.specs.Prelude.{OnOk};
-ghost use Rattle.quiet_search.specs.Trees.{IsSmall};
+ghost use Rattle.quiet_tree.specs.Trees.{IsSmall};
 
 use crate::candidates::best_moves;
 use crate::finder::{Finder, after_move, attack_of};
-use crate::notes::Note;
 use crate::steps::{Children, Place, Step};
-use crate::tree_growth::settle_leaf;
 use foul_judge::{Position, Seen};
 use proof_tree::{Numbers, ProofTree};
+use quiet_tree::{Note, settle_leaf};
 use row_shapes::{FivePoints, Rule};
 use std::alloc::AllocError;
 use stone_board::{Point, Points, Side};

@@ -3,13 +3,13 @@
 
 ghost use Rattle.std.specs.Prelude.{◌≡◌, nat_lt};
 ghost use Rattle.std.specs.List.{list_all};
-ghost use Rattle.quiet_search.specs.Trees.{IsSmall};
+ghost use Rattle.quiet_tree.specs.Trees.{IsSmall};
 
 use crate::finder::Finder;
 use crate::steps::{Place, Step};
-use crate::tree_growth::{link_of, numbers_of, settle_leaf};
 use foul_judge::Seen;
 use proof_tree::{Kind, Link, ProofTree};
+use quiet_tree::{link_of, numbers_of, settle_leaf};
 use row_shapes::Rule;
 use std::alloc::{AllocError, Global};
 use stone_board::{Board, Point};

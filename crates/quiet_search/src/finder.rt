@@ -3,12 +3,12 @@
 
 use crate::LOOKED_A_NODE;
 use crate::known::{Known, Memory};
-use crate::notes::Notes;
-use crate::zones::Zones;
 use foul_judge::{Outcome, Position, Seen};
 use four_search::{FourAnswer, finds_fours, four_search};
 use proof_number::{ProofAnswer, proof_number};
 use proof_tree::ProofTree;
+use quiet_tree::Notes;
+use quiet_zones::Zones;
 use row_shapes::Rule;
 use std::alloc::{AllocError, Global};
 use stone_board::{Board, Point, Side};

@@ -9,9 +9,8 @@
 //! The search is free: nothing is said of a node that it tells but that it is one of the compiler. Who calls it gives the table to
 //! the checker. So what it remembers is tested where it is used, and no bound of it is taken on trust.
 //!
-//! Beside the compiler's nodes, with a flag for each, it keeps at most `MAX_LISTED` nodes of the tree, each with a note, and
-//! `MOST_ANSWERS` answers to replies without a node; `REMEMBERED` positions, and as many zones of a node at a board; and `MOST_MARKS`
-//! marks of zones with those of one question more.
+//! Beside the compiler's nodes, with a flag for each, it keeps the tree and its notes (`quiet_tree`), `REMEMBERED` positions, and the
+//! zones that were asked for (`quiet_zones`).
 #![tactic(auto)]
 
 mod answer;
@@ -21,15 +20,9 @@ mod closing;
 mod defences;
 mod finder;
 mod known;
-mod marks;
-mod notes;
 mod replies;
 mod steps;
-mod tree_growth;
 mod values;
-mod zone_frames;
-mod zone_walk;
-mod zones;
 
 pub use answer::quiet_search;
 pub use strategy_compiler::SearchError;
@@ -37,20 +30,8 @@ pub use strategy_compiler::SearchError;
 /// The most moves within which a win with quiet moves is searched.
 pub const MAX_DEPTH: u32 = 60;
 
-/// The most nodes of a tree.
-pub const MAX_LISTED: u32 = 4_000_000;
-
-/// The greatest number that a node begins with.
-const MOST_NUMBER: u32 = 1_000;
-
 /// The search ends once its searches for threats have listed so many positions for each node of the budget, in all rounds together.
 const LOOKED_A_NODE: u64 = 8;
 
-/// So many positions are remembered at most, and so many zones.
+/// So many positions are remembered at most.
 const REMEMBERED: u32 = 65_536;
-
-/// So many answers to replies without a node are kept at most.
-const MOST_ANSWERS: usize = 16_777_216;
-
-/// So many marks of zones are kept at most before all are forgotten.
-const MOST_MARKS: usize = 16_777_216;

@@ -2,13 +2,13 @@
 #![tactic(auto)]
 
 ghost use Rattle.std.specs.Prelude.{OnOk};
-ghost use Rattle.quiet_search.specs.Trees.{IsSmall};
+ghost use Rattle.quiet_tree.specs.Trees.{IsSmall};
 
 use crate::finder::{Finder, after_move, answer_of};
-use crate::notes::Note;
 use crate::steps::{Children, Place, Step};
 use foul_judge::{Outcome, Position, Seen};
 use proof_tree::{Numbers, ProofTree};
+use quiet_tree::Note;
 use row_shapes::Rule;
 use std::alloc::{AllocError, Global};
 use stone_board::Point;

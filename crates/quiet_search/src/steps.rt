@@ -2,13 +2,12 @@
 #![tactic(auto)]
 
 ghost use Rattle.std.specs.Prelude.{◌≡◌, OnOk};
-ghost use Rattle.quiet_search.specs.Trees.{IsSmall};
+ghost use Rattle.quiet_tree.specs.Trees.{IsSmall};
 
 use crate::finder::{Finder, plays};
-use crate::notes::Note;
-use crate::tree_growth::{grow_leaf, is_decided, link_of, numbers_of, settle_leaf};
 use foul_judge::Position;
 use proof_tree::{Kind, Numbers, ProofTree};
+use quiet_tree::{Note, grow_leaf, is_decided, link_of, numbers_of, settle_leaf};
 use row_shapes::Rule;
 use std::alloc::{AllocError, Global};
 use stone_board::Point;

@@ -1,5 +1,5 @@
 -- The tree of each round is small.
-use Rattle.quiet_search.specs.Trees.{IsSmall}
+use Rattle.quiet_tree.specs.Trees.{IsSmall}
 use Rattle.quiet_search.proofs.finder.Finder.rounds.Given as goal
 
 abbrev pub invariant-loop : goal.invariant-loop

@@ -11,21 +11,21 @@ use strategy_graph::Reply;
 /// The move that leads to a node, and what was found there. The answers to replies that need no node stand in a list that all nodes
 /// share, `count` of them from `first` on.
 #[derive(Clone, Copy)]
-pub(crate) struct Note {
-    pub(crate) at: Point,
+pub struct Note {
+    pub at: Point,
     /// A node that won a like position.
-    pub(crate) hint: Option<u32>,
+    pub hint: Option<u32>,
     /// The node that answers the replies which do no harm, at a node of the defender with children.
-    pub(crate) rest: Option<u32>,
-    pub(crate) first: u32,
-    pub(crate) count: u32,
+    pub rest: Option<u32>,
+    pub first: u32,
+    pub count: u32,
     /// The node of the compiler that wins, once the node is proved.
-    pub(crate) win: Option<u32>,
+    pub win: Option<u32>,
 }
 
 impl Note {
     /// The note of a node that nothing is known of but the move that leads to it, and a hint.
-    pub(crate) fn open(at: Point, hint: Option<u32>) -> Note {
+    pub fn open(at: Point, hint: Option<u32>) -> Note {
         Note {
             at,
             hint,
@@ -37,7 +37,7 @@ impl Note {
     }
 
     /// The note with the rest of a node of the defender, and so many answers from a first one on.
-    pub(crate) fn with_rest(self, rest: u32, first: usize, count: usize) -> Note {
+    pub fn with_rest(self, rest: u32, first: usize, count: usize) -> Note {
         Note {
             rest: Some(rest),
             first: u32::try_from(first).unwrap_or(u32::MAX),
@@ -49,7 +49,7 @@ impl Note {
 
 /// What is kept of the nodes of the tree and of those of the compiler.
 #[derive(Drop)]
-pub(crate) struct Notes {
+pub struct Notes {
     alloc: Global,
     notes: Vec<Note>,
     /// The answers to replies that got no node, of all nodes of the tree.
@@ -60,7 +60,7 @@ pub(crate) struct Notes {
 
 impl Notes {
     /// The note of one leaf.
-    pub(crate) fn new(alloc: Global) -> Result<Notes, AllocError> {
+    pub fn new(alloc: Global) -> Result<Notes, AllocError> {
         let mut notes = Vec::new(alloc);
         notes.push(Note::open(Point { x: 0, y: 0 }, None))?;
         Ok(Notes {
@@ -72,7 +72,7 @@ impl Notes {
     }
 
     /// The notes of a tree are those of one leaf again.
-    pub(crate) fn begin(&mut self) -> Result<(), AllocError> {
+    pub fn begin(&mut self) -> Result<(), AllocError> {
         self.notes.truncate(0);
         self.notes.push(Note::open(Point { x: 0, y: 0 }, None))?;
         self.answers.truncate(0);
@@ -80,13 +80,13 @@ impl Notes {
     }
 
     /// Adds the notes of children.
-    pub(crate) fn add(&mut self, children: &[Note]) -> Result<(), AllocError> {
+    pub fn add(&mut self, children: &[Note]) -> Result<(), AllocError> {
         self.notes.extend_from_slice(children)?;
         Ok(())
     }
 
     /// The note of node `i` of the tree.
-    pub(crate) fn note(&self, i: u32) -> Note {
+    pub fn note(&self, i: u32) -> Note {
         let place = i as usize;
         if place < self.notes.len() {
             self.notes[place]
@@ -96,7 +96,7 @@ impl Notes {
     }
 
     /// Writes the note of node `i` of the tree.
-    pub(crate) fn write(&mut self, i: u32, note: Note) {
+    pub fn write(&mut self, i: u32, note: Note) {
         let place = i as usize;
         if place < self.notes.len() {
             self.notes[place] = note;
@@ -104,7 +104,7 @@ impl Notes {
     }
 
     /// Notes the node that wins at node `i` of the tree.
-    pub(crate) fn write_win(&mut self, i: u32, node: u32) {
+    pub fn write_win(&mut self, i: u32, node: u32) {
         let note = self.note(i);
         self.write(
             i,
@@ -116,13 +116,13 @@ impl Notes {
     }
 
     /// Whether a node of the compiler is known to play a quiet move.
-    pub(crate) fn is_quiet(&self, node: u32) -> bool {
+    pub fn is_quiet(&self, node: u32) -> bool {
         let place = node as usize;
         place < self.quiet.len() && self.quiet[place]
     }
 
     /// Marks a node of the compiler as one that plays a quiet move.
-    pub(crate) fn mark_quiet(&mut self, node: u32) -> Result<(), AllocError> {
+    pub fn mark_quiet(&mut self, node: u32) -> Result<(), AllocError> {
         let place = node as usize;
         if place >= self.quiet.len() {
             self.quiet.resize(place.saturating_add(1), false)?;
@@ -134,12 +134,12 @@ impl Notes {
     }
 
     /// Whether so many answers more are to be kept.
-    pub(crate) fn has_room(&self, more: usize) -> bool {
+    pub fn has_room(&self, more: usize) -> bool {
         self.answers.len().saturating_add(more) <= MOST_ANSWERS
     }
 
     /// Notes the rest at a node of the defender, and the answers to the replies that get no node.
-    pub(crate) fn write_rest(
+    pub fn write_rest(
         &mut self,
         leaf: u32,
         rest: u32,
@@ -154,7 +154,7 @@ impl Notes {
     }
 
     /// The win of the first proved child.
-    pub(crate) fn win_of_child(&self, tree: &ProofTree, link: Link) -> Option<u32> {
+    pub fn win_of_child(&self, tree: &ProofTree, link: Link) -> Option<u32> {
         for k in link.first..link.first.saturating_add(link.count) {
             if numbers_of(tree, k).proof == 0 {
                 return self.note(k).win;
@@ -164,7 +164,7 @@ impl Notes {
     }
 
     /// The answers that were found at once, and the wins of the children.
-    pub(crate) fn all_answers(&self, note: Note, link: Link) -> Result<Vec<Reply>, AllocError> {
+    pub fn all_answers(&self, note: Note, link: Link) -> Result<Vec<Reply>, AllocError> {
         let mut answers = Vec::new(self.alloc);
         for k in note.first..note.first.saturating_add(note.count) {
             let place = k as usize;

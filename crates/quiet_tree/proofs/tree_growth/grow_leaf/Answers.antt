@@ -1,7 +1,7 @@
 -- The children are few and small, so that the tree stays small.
 use Rattle.std.proofs.Common.{rules}
-use Rattle.quiet_search.proofs.Growth.{small-grown, small-numbers, sums-below}
-use Rattle.quiet_search.proofs.tree_growth.grow_leaf.Goals as goal
+use Rattle.quiet_tree.proofs.Growth.{small-grown, small-numbers, sums-below}
+use Rattle.quiet_tree.proofs.tree_growth.grow_leaf.Goals as goal
 
 pub expand-requires-clause-each : goal.expand-requires-clause-each
 expand-requires-clause-each c = small-numbers c.args.children.now (search rules)

@@ -11,8 +11,8 @@ use Rattle.proof_tree.specs.declared.TheConstants.{INFINITE}
 use Rattle.proof_tree.proofs.Common.{AreNumbers, IsTree, Tree, finite, finite_sum, grown_links, leaf_sum, link_at, most_proving, sought}
 use Rattle.proof_tree.proofs.Changed.{grown}
 use Rattle.proof_tree.proofs.SumLaws.{leaf_sum-grown}
-use Rattle.quiet_search.specs.Trees.{IsSmall, is_small}
-use Rattle.quiet_search.specs.declared.TheConstants.{MOST_NUMBER}
+use Rattle.quiet_tree.specs.Trees.{IsSmall, is_small}
+use Rattle.quiet_tree.specs.declared.TheConstants.{MOST_NUMBER}
 
 -- what the test of a number that a node begins with tells
 record AreSmall (n : Numbers) : Type 0 where

@@ -6,7 +6,7 @@
 //! first, so it holds of any list of nodes.
 #![tactic(auto)]
 
-use crate::zone_frames::Frame;
+use crate::frames::Frame;
 use crate::zones::Zones;
 use foul_judge::foul_at;
 use row_shapes::{Rule, is_five_point};
@@ -37,7 +37,7 @@ enum Next {
 
 impl<R: Rule> Zones<R> {
     /// The number of the zone of node `i` at the board. `None` says that it has none, or that it takes too many pairs.
-    pub(crate) fn zone_of(
+    pub fn zone_of(
         &mut self,
         nodes: &[Node],
         i: u32,
@@ -309,7 +309,7 @@ fn point_of(width: u8, place: usize) -> Point {
 }
 
 /// Takes the stone off the point, if it holds one.
-pub(crate) fn lift_if_held(board: &mut Board, p: Point) {
+fn lift_if_held(board: &mut Board, p: Point) {
     if board.on(p) && !board.is_empty(p) {
         board.lift(p);
     }

@@ -14,7 +14,7 @@ use stone_board::{Axis, Board, Point, Points, Side};
 
 /// The zones of the pairs that were looked at.
 #[derive(Drop)]
-pub(crate) struct Zones<R: Rule> {
+pub struct Zones<R: Rule> {
     pub(crate) alloc: Global,
     pub(crate) side: Side,
     /// How many points the board has: so many marks has each zone.
@@ -27,7 +27,7 @@ pub(crate) struct Zones<R: Rule> {
 
 impl<R: Rule> Zones<R> {
     /// No zone is known of this attacker on boards of so many points.
-    pub(crate) fn new(alloc: Global, side: Side, size: usize) -> Result<Zones<R>, AllocError> {
+    pub fn new(alloc: Global, side: Side, size: usize) -> Result<Zones<R>, AllocError> {
         Ok(Zones {
             alloc,
             side,
@@ -172,7 +172,7 @@ impl<R: Rule> Zones<R> {
     }
 
     /// The empty points on which a stone does harm to the zone, in reading order.
-    pub(crate) fn harmful(&self, board: &Board, zone: u32) -> Result<Points, AllocError> {
+    pub fn harmful(&self, board: &Board, zone: u32) -> Result<Points, AllocError> {
         let mut points = Points::new(self.alloc);
         for q in board.points() {
             if board.is_empty(q) && self.is_harmed(board, zone, q) {

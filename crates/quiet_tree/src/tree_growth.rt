@@ -5,8 +5,8 @@ ghost use Rattle.std.specs.Prelude.{◌≡◌, ◌≤◌, IfOk};
 ghost use Rattle.std.specs.List.{list_all};
 ghost use Rattle.proof_tree.specs.Combining.{is_settled};
 ghost use Rattle.proof_tree.specs.Trees.{numbers_at, IsTree};
-ghost use Rattle.quiet_search.specs.Trees.{IsSmall, is_small as is_small_lem};
-ghost use Rattle.quiet_search.specs.declared.TheConstants.{MAX_LISTED};
+ghost use Rattle.quiet_tree.specs.Trees.{IsSmall, is_small as is_small_lem};
+ghost use Rattle.quiet_tree.specs.declared.TheConstants.{MAX_LISTED};
 
 use crate::MOST_NUMBER;
 use proof_tree::{Kind, Link, Numbers, ProofTree};
@@ -22,7 +22,7 @@ const NO_NUMBERS: Numbers = Numbers {
 };
 
 /// A tree of one leaf.
-pub(crate) fn lone_leaf(alloc: Global, most: u32) -> Result<ProofTree, AllocError>
+pub fn lone_leaf(alloc: Global, most: u32) -> Result<ProofTree, AllocError>
     requires some { 1 ≤ most }
     requires fits { most ≤ MAX_LISTED }
     ensures small { IfOk result (λ t. IsSmall t most) }
@@ -31,7 +31,7 @@ pub(crate) fn lone_leaf(alloc: Global, most: u32) -> Result<ProofTree, AllocErro
 }
 
 /// The numbers of node `i`.
-pub(crate) fn numbers_of(tree: &ProofTree, i: u32) -> Numbers {
+pub fn numbers_of(tree: &ProofTree, i: u32) -> Numbers {
     if i < tree.len() {
         tree.numbers(i)
     } else {
@@ -40,7 +40,7 @@ pub(crate) fn numbers_of(tree: &ProofTree, i: u32) -> Numbers {
 }
 
 /// How node `i` is joined to the others.
-pub(crate) fn link_of(tree: &ProofTree, i: u32) -> Link {
+pub fn link_of(tree: &ProofTree, i: u32) -> Link {
     if i < tree.len() {
         tree.link(i)
     } else {
@@ -54,7 +54,7 @@ pub(crate) fn link_of(tree: &ProofTree, i: u32) -> Link {
 }
 
 /// Whether the root is settled.
-pub(crate) fn is_decided(tree: &ProofTree) -> bool
+pub fn is_decided(tree: &ProofTree) -> bool
     ensures decided { result ≡ is_settled (numbers_at tree.now.numbers 0) }
     ensures tree { IsTree tree.now }
 {
@@ -64,7 +64,7 @@ pub(crate) fn is_decided(tree: &ProofTree) -> bool
 }
 
 /// Settles the most-proving leaf, if the root is open.
-pub(crate) fn settle_leaf(tree: &mut ProofTree, proved: bool, most: u32)
+pub fn settle_leaf(tree: &mut ProofTree, proved: bool, most: u32)
     requires small { IsSmall tree.old most }
     ensures small { IsSmall tree.new most }
 {
@@ -91,11 +91,7 @@ fn are_small(children: &[Numbers]) -> bool
 }
 
 /// Gives the most-proving leaf these children, if there is room for them: `false` says that there is none.
-pub(crate) fn grow_leaf(
-    tree: &mut ProofTree,
-    children: &[Numbers],
-    most: u32,
-) -> Result<bool, AllocError>
+pub fn grow_leaf(tree: &mut ProofTree, children: &[Numbers], most: u32) -> Result<bool, AllocError>
     requires small { IsSmall tree.old most }
     ensures small { IsSmall tree.new most }
 {

@@ -3,7 +3,7 @@ use Rattle.std.specs.Prelude.{ℕ, ◌*◌, ◌≤◌, ◌&&◌, Bool, nat_le, l
 use Rattle.proof_tree.specs.Trees.{Tree, leaf_sum}
 use Rattle.proof_tree.specs.declared.Kind.{Kind}
 use Rattle.proof_tree.specs.declared.Numbers.{Numbers}
-use Rattle.quiet_search.specs.declared.TheConstants.{MAX_LISTED, MOST_NUMBER}
+use Rattle.quiet_tree.specs.declared.TheConstants.{MAX_LISTED, MOST_NUMBER}
 
 -- whether the numbers are those of an open node, and not large
 abbrev pub is_small : Numbers → Bool
