@@ -13,7 +13,7 @@ ghost use Rattle.open_windows.specs.Rows.{TellsRows, covered as covered_lem, sta
 use crate::added::set_in;
 use crate::point_set::{PointSet, SIDE};
 use crate::rows::{ROWS, open_rows, own_rows, stepped, stepped_back};
-use stone_board::{Axis, Board, Side};
+use stone_board::{Axis, Board, MAX_SIDE, Side};
 
 /// The empty points that lie in an open window of the side with so many of its stones or more, two to four.
 pub fn window_points(board: &Board, side: Side, least: u32) -> PointSet
@@ -21,14 +21,15 @@ pub fn window_points(board: &Board, side: Side, least: u32) -> PointSet
     requires few { least ≤ 4 }
     ensures points { TellsWindows board.now side least result }
 {
+    let height = board.height();
     let own = own_rows(board, side);
     let clear = open_rows(board, side);
-    let row = starts(&own, &clear, Axis::Row, least);
-    let column = starts(&own, &clear, Axis::Column, least);
-    let down = starts(&own, &clear, Axis::Down, least);
-    let up = starts(&own, &clear, Axis::Up, least);
+    let row = starts(&own, &clear, Axis::Row, least, height);
+    let column = starts(&own, &clear, Axis::Column, least, height);
+    let down = starts(&own, &clear, Axis::Down, least, height);
+    let up = starts(&own, &clear, Axis::Up, least, height);
     let mut rows = [0; SIDE];
-    for y in 0..SIDE {
+    for y in 0..height as usize {
         let i = y + 4;
         let inside = covered(&row, Axis::Row, i)
             | covered(&column, Axis::Column, i)
@@ -41,16 +42,18 @@ pub fn window_points(board: &Board, side: Side, least: u32) -> PointSet
     PointSet { rows }
 }
 
-/// The points from which such a window begins on the axis.
+/// The points from which such a window begins on the axis, on a board of this height.
 #[inline(always)]
-fn starts(own: &[u32; ROWS], clear: &[u32; ROWS], axis: Axis, least: u32) -> [u32; ROWS]
+fn starts(own: &[u32; ROWS], clear: &[u32; ROWS], axis: Axis, least: u32, height: u8) -> [u32; ROWS]
     requires some { 2 ≤ least }
     requires few { least ≤ 4 }
-    ensures starts { (b : Grid) (s : Side) → IsBoard b → TellsRows (stone_at b s) own.now → TellsRows (is_open_at b s) clear.now
-        → TellsRows (is_window b s least axis) result }
+    requires fits { height ≤ MAX_SIDE }
+    ensures starts { (b : Grid) (s : Side) → IsBoard b → b.height ≡ height → TellsRows (stone_at b s) own.now
+        → TellsRows (is_open_at b s) clear.now → TellsRows (is_window b s least axis) result }
 {
     let mut found = [0; ROWS];
-    for i in 4..36 {
+    let end = 4 + height as usize;
+    for i in 4..end {
         found[i] = start_at(own, clear, axis, i, least);
     }
     found

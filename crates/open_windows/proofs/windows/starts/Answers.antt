@@ -1,4 +1,4 @@
-use Rattle.std.proofs.Common.{◌+◌, ◌∙◌, refl, ap, arith}
+use Rattle.std.proofs.Common.{◌+◌, ◌∙◌, ◌<◌, refl, ap, arith}
 use Rattle.open_windows.specs.OpenWindows.{is_window}
 use Rattle.open_windows.proofs.BoardRows.{below}
 use Rattle.open_windows.proofs.RowBits.{at_row, tells-none, tells-more, tells-all}
@@ -11,7 +11,9 @@ loop-i-init c = λ b s mine others. tells-none (is_window b s c.args.least c.arg
 pub loop-i-preserved : goal.loop-i-preserved
 loop-i-preserved c = λ b s mine others.
     let low = c.loop-i.auto.i in
-    let high = c.loop-i-test.true in
+    let before = c.loop-i-test.true in
+    let fits = c.requires.fits in
+    let high : c.loop-i.i < 36 = omega (arith, before, fits) in
     tells-more (is_window b s c.args.least c.args.axis) (window-none b s c.args.least c.args.axis) c.loop-i.found c.loop-i.i
     (c.loop-i.i + 1)
     c.start_at.result refl (omega (arith, high)) (c.loop-i.invariant b s mine others) (λ x.
@@ -20,11 +22,10 @@ loop-i-preserved c = λ b s mine others.
 
 pub returns : goal.returns
 returns c = record {
-  starts = λ b s ok mine others.
+  starts = λ b s ok high mine others.
       tells-all (is_window b s c.args.least c.args.axis) (window-none b s c.args.least c.args.axis) c.loop-i.found c.loop-i.i
       (c.loop-i.invariant b s mine others) (λ i x past.
       let end = c.loop-i-test.false in
-      let fits = ok.height_fits in
       ap (is_window b s c.args.least c.args.axis) (at_row i x (omega (arith, past, end)))
-      ∙ window-on b s c.args.least c.args.axis _ (below b ok i x (omega (arith, past, end, fits))));
+      ∙ window-on b s c.args.least c.args.axis _ (below b ok i x (omega (arith, past, end, high))));
 }

@@ -1,4 +1,4 @@
-use Rattle.std.proofs.Common.{◌≡◌, ◌+◌, ◌-◌, ℕ, refl, arith, bit_or}
+use Rattle.std.proofs.Common.{◌≡◌, ◌+◌, ◌-◌, ◌<◌, ℕ, refl, sym, arith, bit_or}
 use Rattle.std.specs.Int.{bit_at}
 use Rattle.std.specs.List.{list_any, range_with_len}
 use Rattle.game_rules.specs.Grid.{Grid, along, axes}
@@ -21,7 +21,10 @@ loop-y-preserved c =
     let ok = c.own_rows-own.ensures.board in
     let mine = c.own_rows-own.ensures.rows in
     let others = c.open_rows-clear.ensures.rows in
-    let within = c.loop-y-test.true in
+    let test = c.loop-y-test.true in
+    let high = c.height-height.ensures.height in
+    let fits = ok.height_fits in
+    let within : y < 32 = omega (arith, test, high, fits) in
     points-more b s least c.loop-y.rows y _ ok within c.loop-y.invariant (λ x column.
     let near : bit_at (bit_or (bit_or (bit_or c.covered.result c.covered-in-loop-y.result) c.covered-in-loop-y-2.result)
     c.covered-in-loop-y-3.result) x ≡ one
@@ -34,9 +37,9 @@ loop-y-preserved c =
       c.covered-in-loop-y-3.ensures.covered,
     )
     (all-covered (is_window b s least) (window-none b s least) (y + 4) x (omega arith) (omega (arith, within)) column
-    c.starts-row.result c.starts-column.result c.starts-down.result c.starts-up.result (c.starts-row.ensures.starts b s ok mine others)
-    (c.starts-column.ensures.starts b s ok mine others) (c.starts-down.ensures.starts b s ok mine others)
-    (c.starts-up.ensures.starts b s ok mine others)) in
+    c.starts-row.result c.starts-column.result c.starts-down.result c.starts-up.result (c.starts-row.ensures.starts b s ok (sym high) mine others)
+    (c.starts-column.ensures.starts b s ok (sym high) mine others) (c.starts-down.ensures.starts b s ok (sym high) mine others)
+    (c.starts-up.ensures.starts b s ok (sym high) mine others)) in
     point-bit b s least (y + 4) x (omega arith) (omega (arith, within)) c.own_rows-own.result c.open_rows-clear.result mine others _ near)
 
 pub returns : goal.returns
@@ -44,9 +47,9 @@ returns c = record {
   points = record {
     board = c.own_rows-own.ensures.board;
     points = λ p on.
-        let high = on_y c.args.board.now p on in
-        let fits = c.own_rows-own.ensures.board.height_fits in
+        let low = on_y c.args.board.now p on in
+        let high = c.height-height.ensures.height in
         let end = c.loop-y-test.false in
-        c.loop-y.invariant.1 p (omega (arith, high, fits, end)) on;
+        c.loop-y.invariant.1 p (omega (arith, low, high, end)) on;
   };
 }
