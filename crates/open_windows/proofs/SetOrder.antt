@@ -1,5 +1,5 @@
 -- The points of a set row by row, and by the lowest bit of a row.
-use Rattle.std.proofs.Common.{rules, ◌≡◌, ◌≢◌, ◌&&◌, inl, inr, ℕ, zero, suc, ◌+◌, ◌-◌, ◌^◌, ◌≤◌, ◌<◌, Bool, true, false, nat_eq}
+use Rattle.std.proofs.Common.{rules, ◌≡◌, ◌≢◌, ◌&&◌, inl, inr, ℕ, zero, suc, ◌+◌, ◌-◌, ◌^◌, ◌≤◌, ◌<◌, min, Bool, true, false, nat_eq}
 use Rattle.std.proofs.Common.{refl, sym, ap, subst, ◌∙◌, arith, List, [], ◌∷◌, ◌++◌, bit_and}
 use Rattle.std.specs.Prelude.{slice_index_or, bit_xor}
 use Rattle.std.specs.Int.{bit_at, trailing_zeros, w32}
@@ -210,3 +210,36 @@ filter-windows b s least rows tells f inside =
 
       by_test : (r t : Bool) → (t ≡ true → r ≡ true) → (r && t) ≡ t
       by_test r t h = search rules
+
+-- ---- the points of two sets
+
+both_bits : (n m : ℕ) → n < 2 → m < 2 → nat_eq (min n m) 1 ≡ (nat_eq n 1 && nat_eq m 1)
+both_bits zero m low less = search rules
+both_bits (suc zero) zero low less = refl
+both_bits (suc zero) (suc zero) low less = refl
+both_bits (suc zero) (suc (suc m)) low less = absurd (omega (arith, less))
+both_bits (suc (suc n)) m low less = absurd (omega (arith, low))
+
+shared_bit : (n m x : ℕ) → nat_eq (bit_at (bit_and n m) x) 1 ≡ (nat_eq (bit_at n x) 1 && nat_eq (bit_at m x) 1)
+shared_bit n m x = ap (λ k. nat_eq k 1) (bit_at_and n m x) ∙ both_bits (bit_at n x) (bit_at m x) (bit_at-lt n x) (bit_at-lt m x)
+
+-- of the points left those of another set too are left, where the numbers of the rows have the bits of both
+pub points-kept : (rows set shared : List ℕ) (width height y bits : ℕ) → IsRowLeft width height y bits
+    → ((z : ℕ) → z < 32 → slice_index_or shared z 0 ≡ bit_and (slice_index_or rows z 0) (slice_index_or set z 0))
+    → set_points shared width height y (bit_and bits (slice_index_or set y 0)) ≡ filter (has_point set) (set_points rows width height y bits)
+unfolding set_points
+points-kept rows set shared width height y bits left both =
+    ap (λ (ps : List Point). ps ++ points_from shared width height (y + 1)) first
+    ∙ ap (λ (ps : List Point). filter (has_point set) (filter (is_set bits) (row_from y 0 width)) ++ ps) others
+    ∙ sym (filter-append (has_point set) (filter (is_set bits) (row_from y 0 width)) (points_from rows width height (y + 1))) where
+      first : filter (is_set (bit_and bits (slice_index_or set y 0))) (row_from y 0 width)
+          ≡ filter (has_point set) (filter (is_set bits) (row_from y 0 width))
+      first = row-same _ (λ p. is_set bits p && has_point set p) y 0 width (λ x low high. shared_bit bits (slice_index_or set y 0) x)
+          ∙ filter-both (is_set bits) (has_point set) (row_from y 0 width)
+
+      others : points_from shared width height (y + 1) ≡ filter (has_point set) (points_from rows width height (y + 1))
+      others = rows-same (has_point shared) (λ p. has_point rows p && has_point set p) width (y + 1) (height - (y + 1))
+          (λ p column row. let row_fits = left.row in let fits = left.height_fits in
+          ap (λ n. nat_eq (bit_at n p.x) 1) (both p.y (omega (arith, row, row_fits, fits)))
+          ∙ shared_bit (slice_index_or rows p.y 0) (slice_index_or set p.y 0) p.x)
+          ∙ filter-both (has_point rows) (has_point set) _

@@ -12,7 +12,7 @@ mod rows;
 mod set_points;
 mod windows;
 
-pub use fives::five_points;
+pub use fives::{five_points, fives_in_short, has_five};
 pub use point_set::PointSet;
 pub use set_points::SetPoints;
 pub use windows::window_points;

@@ -1,7 +1,7 @@
 //! A set of points of a board.
 #![tactic(auto)]
 
-ghost use Rattle.std.specs.Prelude.{◌≡◌, ◌<◌};
+ghost use Rattle.std.specs.Prelude.{◌≡◌, ◌<◌, ℕ, slice_index, bit_and};
 ghost use Rattle.open_windows.specs.PointSets.{has_point};
 
 use std::marker::Model;
@@ -11,7 +11,7 @@ use stone_board::{MAX_SIDE, Point};
 pub(crate) const SIDE: usize = 32;
 
 /// A set of points. Contracts see it as a number for each row, whose bit x tells of the point in column x.
-#[derive(Drop)]
+#[derive(Clone, Copy)]
 pub struct PointSet {
     pub(crate) rows: [u32; SIDE],
 }
@@ -22,6 +22,8 @@ impl Model for PointSet {
     ghost Value = { List ℕ };
 
     ghost view = { λ s. s.rows };
+
+    ghost inverse = { λ rows. record { rows = rows } };
 }
 
 impl PointSet {
@@ -35,4 +37,15 @@ impl PointSet {
         let y = p.y & (MAX_SIDE - 1);
         (self.rows[y as usize] >> x) & 1 == 1
     }
+}
+
+/// The rows with the bits that both have.
+pub(crate) fn shared(one: &[u32; SIDE], other: &[u32; SIDE]) -> [u32; SIDE]
+    ensures shared { (y : ℕ) → y < SIDE → slice_index result y ≡ bit_and (slice_index one.now y) (slice_index other.now y) }
+{
+    let mut rows = [0; SIDE];
+    for y in 0..SIDE {
+        rows[y] = one[y] & other[y];
+    }
+    rows
 }

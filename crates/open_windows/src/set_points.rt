@@ -9,7 +9,7 @@ ghost use Rattle.std.specs.Iterator.{YieldsFirst, item_count};
 ghost use Rattle.game_rules.specs.Grid.{IsBoard, points_of};
 ghost use Rattle.open_windows.specs.PointSets.{has_point, set_points, IsFirstRow, IsRowLeft};
 
-use crate::point_set::{PointSet, SIDE};
+use crate::point_set::{PointSet, SIDE, shared};
 use crate::rows::full_row;
 use std::marker::Model;
 use stone_board::{Board, Point, bit_of_place};
@@ -59,6 +59,16 @@ impl PointSet {
                 bits: self.rows[0] & full_row(width),
             },
         }
+    }
+}
+
+impl SetPoints {
+    /// Leaves, of the points left, those that are points of this set too.
+    pub fn keep(&mut self, set: &PointSet)
+        ensures kept { self.new ≡ filter (has_point set.now) self.old }
+    {
+        self.rows = shared(&self.rows, &set.rows);
+        self.row.bits &= set.rows[self.row.y as usize];
     }
 }
 
