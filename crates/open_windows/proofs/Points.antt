@@ -67,6 +67,28 @@ module _ (f : ℕ → Bool) where
   pub count_five : count_by f (range_with_len 0 5) ≡ one_at 0 + one_at 1 + one_at 2 + one_at 3 + one_at 4
   count_five = omega arith
 
+  -- all hold but three at most
+  pub two_of_five : (u v w : ℕ) → ((k : ℕ) → k < 5 → k ≢ u → k ≢ v → k ≢ w → f k ≡ true) → 2 ≤ count_by f (range_with_len 0 5)
+  two_of_five u v w h =
+      let c0 = enough 0 (omega arith) in let c1 = enough 1 (omega arith) in let c2 = enough 2 (omega arith) in
+      let c3 = enough 3 (omega arith) in let c4 = enough 4 (omega arith) in
+      let first = once u in let second = once v in let third = once w in let sum = count_five in
+      omega (arith, c0, c1, c2, c3, c4, first, second, third, sum) where
+        is_hit : (k t : ℕ) → k ≡ t → hit k t ≡ 1
+        is_hit k t same = grind (arith, nat_tests)
+
+        enough : (k : ℕ) → k < 5 → 1 ≤ one_at k + hit k u + hit k v + hit k w
+        enough k near = elim (cases_eq k u) [
+          | inl same ↦ let e = is_hit k u same in omega (arith, e)
+          | inr off_u ↦ elim (cases_eq k v) [
+            | inl same ↦ let e = is_hit k v same in omega (arith, e)
+            | inr off_v ↦ elim (cases_eq k w) [
+              | inl same ↦ let e = is_hit k w same in omega (arith, e)
+              | inr off_w ↦ let e : one_at k ≡ 1 = ap (λ r. cond r 1 0) (h k near off_u off_v off_w) in omega (arith, e)
+            ]
+          ]
+        ]
+
   -- all hold but two at most
   pub three_of_five : (u w : ℕ) → ((k : ℕ) → k < 5 → k ≢ u → k ≢ w → f k ≡ true) → 3 ≤ count_by f (range_with_len 0 5)
   three_of_five u w h =

@@ -19,7 +19,7 @@ use Rattle.open_windows.specs.Rows.{TellsRows, TellsTo, point_at, stepped, stepp
 abbrev pub one : Bool → ℕ
 one r = cond r 1 0
 
-zeros : (n i : ℕ) → ◌≡◌ {A = ℕ} (slice_index_or (replicate n 0) i 0) 0
+pub zeros : (n i : ℕ) → ◌≡◌ {A = ℕ} (slice_index_or (replicate n 0) i 0) 0
 zeros n i = elim (cases_lt i n) [
   | inl less ↦ get_or-replicate n i 0 0 less
   | inr past ↦ get_or_past (replicate n 0) i 0 (let m = length-replicate {A = ℕ} n 0 in omega (arith, m, past))

@@ -198,16 +198,20 @@ rows-same f g width y (suc n) h =
     filter-append f (row_from y 0 width) more ∙ ap (λ (ps : List Point). ps ++ filter f more) first
     ∙ ap (λ (ps : List Point). filter g (row_from y 0 width) ++ ps) rest ∙ sym (filter-append g (row_from y 0 width) more)
 
+-- two tests that are the same on the points of a board pass the same of them
+pub filter-on : (b : Grid) (f g : Point → Bool) → ((p : Point) → is_on b p ≡ true → f p ≡ g p)
+    → filter f (points_of b) ≡ filter g (points_of b)
+filter-on b f g same = rows-same f g b.width 0 b.height (λ p column row. same p (on p column (omega (arith, row)))) where
+  on : (p : Point) → p.x < b.width → p.y < b.height → is_on b p ≡ true
+  on p column row = grind (arith, nat_tests)
+
 -- what is found in windows alone is found among the points of the set
 pub filter-windows : (b : Grid) (s : Side) (least : ℕ) (rows : List ℕ) → TellsWindows b s least rows → (f : Point → Bool)
     → ((p : Point) → f p ≡ true → in_window b s least p ≡ true) → filter f (filter (has_point rows) (points_of b)) ≡ filter f (points_of b)
 filter-windows b s least rows tells f inside =
     sym (filter-both (has_point rows) f (points_of b))
-    ∙ rows-same (λ p. has_point rows p && f p) f b.width 0 b.height (λ p column row. by_test (has_point rows p) (f p)
-    (λ h. tells.points p (on p column (omega (arith, row))) ∙ inside p h)) where
-      on : (p : Point) → p.x < b.width → p.y < b.height → is_on b p ≡ true
-      on p column row = grind (arith, nat_tests)
-
+    ∙ filter-on b (λ p. has_point rows p && f p) f (λ p there. by_test (has_point rows p) (f p)
+    (λ h. tells.points p there ∙ inside p h)) where
       by_test : (r t : Bool) → (t ≡ true → r ≡ true) → (r && t) ≡ t
       by_test r t h = search rules
 

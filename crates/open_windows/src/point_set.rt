@@ -1,11 +1,13 @@
 //! A set of points of a board.
 #![tactic(auto)]
 
-ghost use Rattle.std.specs.Prelude.{◌≡◌, ◌<◌, ℕ, slice_index, bit_and};
+ghost use Rattle.std.specs.Prelude.{◌≡◌, ◌<◌, ◌||◌, ℕ, true, false, slice_index, bit_and};
+ghost use Rattle.game_rules.specs.Shapes.{is_same_point};
+ghost use Rattle.game_rules.specs.declared.Point.{Point};
 ghost use Rattle.open_windows.specs.PointSets.{has_point};
 
 use std::marker::Model;
-use stone_board::{MAX_SIDE, Point};
+use stone_board::{MAX_SIDE, Point, bit_of_place};
 
 /// How many rows the greatest board has.
 pub(crate) const SIDE: usize = 32;
@@ -27,6 +29,31 @@ impl Model for PointSet {
 }
 
 impl PointSet {
+    /// The set without points.
+    pub fn empty() -> PointSet
+        ensures none { (p : Point) → has_point result p ≡ false }
+    {
+        PointSet { rows: [0; SIDE] }
+    }
+
+    /// The set of all points of the greatest board.
+    pub fn all() -> PointSet
+        ensures all { (p : Point) → p.x < MAX_SIDE → p.y < MAX_SIDE → has_point result p ≡ true }
+    {
+        PointSet {
+            rows: [u32::MAX; SIDE],
+        }
+    }
+
+    /// Adds a point of the greatest board.
+    pub fn add(&mut self, p: Point)
+        requires column { p.x < MAX_SIDE }
+        requires row { p.y < MAX_SIDE }
+        ensures more { (q : Point) → has_point self.new q ≡ (is_same_point q p || has_point self.old q) }
+    {
+        self.rows[p.y as usize] |= bit_of_place(p.x);
+    }
+
     /// Whether the set has the point, if it is on a board.
     #[inline(always)]
     pub fn has(&self, p: Point) -> bool

@@ -103,10 +103,10 @@ module _ (rule : RuleKind) (b : Grid) (s : Side) (p w : Point) (d : Axis) (ok : 
     three_there =
         let on = is_empty-on b p free in
         at_least (λ k. stone_at b s (go v d p k 0)) (λ k. stone_at b s (go v d p 0 k)) (stones_towards v b s d p)
-        (stones_towards (opposite v) b s d p) (stones_towards v b s d w) (many rule b s p w d ok free before made v here)
+        (stones_towards (opposite v) b s d p) (stones_towards v b s d w) (many rule b s p w d ok free made v here)
         (leads b s d p on v).holds (leads_back b s d p on v).holds
         (λ j low high. ap (stone_at b s) (sym (go-then v d p w (1 + stones_towards v b s d p) 0 j 0 here))
-        ∙ (leads b s d w (win_on rule b s p w d ok free before made) v).holds j low high)
+        ∙ (leads b s d w (win_on rule b s p w d ok free made) v).holds j low high)
 
 -- stones on both sides of a point, whichever way is first
 around : (b : Grid) (s : Side) (d : Axis) (p : Point) (v : Way) (n : ℕ)
