@@ -1,7 +1,9 @@
 -- The codes of lines.
 use Rattle.std.proofs.Common.{◌≡◌, ℕ, zero, suc, ◌+◌, ◌-◌, ◌*◌, ◌^◌, ◌≤◌, ◌<◌, Bool, true, false, cond}
-use Rattle.std.proofs.Common.{refl, sym, ap, ◌∙◌, arith, nat_lt, drop, ◌⊎◌, inl, inr, [], ◌∷◌, ◌≢◌, ◌&&◌}
-use Rattle.std.proofs.Common.{Option, Some, None, map}
+use Rattle.std.proofs.Common.{refl, sym, ap, ◌∙◌, arith, nat_lt, drop, ◌⊎◌, inl, inr, ◌&&◌}
+use Rattle.std.proofs.Common.{Option, Some, None, map, bit_and, min}
+use Rattle.std.specs.Int.{bit_at}
+use Rattle.std.proofs.lemmas.Nat.Bits.{bit_at_and, bit_at-lt, bit_at_ones}
 use Rattle.game_rules.proofs.Common.{Grid, is_on, along, IsBoard, is_empty, put, has_fouls, row_wins, run_of, wins_on}
 use Rattle.game_rules.specs.declared.Side.{Side}
 use Rattle.game_rules.specs.declared.Point.{Point}
@@ -144,3 +146,10 @@ pub told_five : (rule : RuleKind) (b : Grid) (s : Side) (d : Axis) (p : Point) �
 unfolding shape_at
 told_five rule b s d p ok empty = (told_shape rule b s d p ok empty).five
     ∙ sym (ap (λ r. r && row_wins rule s (run_of (put b s p) s d p)) empty)
+
+-- ---- the first bits of a number
+
+pub first_bit : (n r i : ℕ) → i < r → bit_at (bit_and n (2 ^ r - 1)) i ≡ bit_at n i
+first_bit n r i low =
+    let bit = bit_at-lt n i in
+    bit_at_and n (2 ^ r - 1) i ∙ ap (min (bit_at n i)) (bit_at_ones r i low) ∙ omega (arith, bit)

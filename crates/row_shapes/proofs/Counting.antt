@@ -1,6 +1,6 @@
 -- Fours counted by gaps: each four by the first of its five places and by the one that is left out.
 use Rattle.std.proofs.Common.{◌≡◌, ℕ, ◌+◌, ◌<◌, Bool, true, false, cond, ◌&&◌, ◌||◌, refl, arith}
-use Rattle.std.proofs.Common.{◌≤◌, ◌≢◌, ◌-◌, not, ◌∙◌, nat_eq, map, count_by, sum_by}
+use Rattle.std.proofs.Common.{◌-◌, not, nat_eq, map, count_by, sum_by}
 use Rattle.std.specs.List.{range_with_len}
 use Rattle.std.proofs.lemmas.Bool.{false_from_ne_true}
 use Rattle.game_rules.proofs.Common.{count_fours, Grid, fours_of, place_stone, place_wins}

@@ -6,12 +6,13 @@ use Rattle.std.proofs.lemmas.List.{get_or_push, get_or_append_left}
 use Rattle.std.proofs.lemmas.Option.{slice_get-get_or}
 use Rattle.std.proofs.Math.Nat.{mul-le-mul_left}
 use Rattle.game_rules.proofs.Common.{Grid, put}
+use Rattle.game_rules.specs.declared.Cell.{Cell}
 use Rattle.game_rules.specs.declared.Point.{Point}
 use Rattle.game_rules.specs.declared.Way.{Way}
 use Rattle.game_rules.specs.declared.Axis.TheVariants.{Row}
 use Rattle.game_rules.specs.declared.Side.TheVariants.{Black}
 use Rattle.game_rules.specs.declared.Way.TheVariants.{Ahead, Behind}
-use Rattle.row_shapes.proofs.Common.{TellsHalves, half_cells, rule_by, SeesLine, line_board, middle, shape_of, shape_at, stone_shape}
+use Rattle.row_shapes.proofs.Common.{TellsHalves, seen, half_cells, rule_by, SeesLine, line_board, middle, shape_of, shape_at, stone_shape}
 use Rattle.row_shapes.specs.declared.halves.Half.{Half}
 use Rattle.row_shapes.specs.declared.shapes.Shape.{Shape}
 use Rattle.row_shapes.proofs.HalfCodes.{code_line}
@@ -36,7 +37,7 @@ some_is : {X : Type 0} (x y : X) → Some x ≡ Some y → x ≡ y
 some_is x y h = cc
 
 pub halves_push : (way : Way) (reach count : ℕ) (halves : List Half) (half : Half) → TellsHalves way reach count halves
-    → half.cells ≡ half_cells way reach count → TellsHalves way reach (count + 1) (halves ++ half ∷ [])
+    → seen half ≡ half_cells way reach count → TellsHalves way reach (count + 1) (halves ++ half ∷ [])
 halves_push way reach count halves half h e = record {
   all = let more = length-append halves (half ∷ []) in let all = h.all in omega (arith, more, all);
   told = λ digits low other f. elim (cases_lt digits count) [
@@ -44,7 +45,7 @@ halves_push way reach count halves half h e = record {
     | inr new ↦
         let same : count ≡ digits = omega arith in
         let last : half ≡ other = some_is half other (sym (slice_last halves half digits (h.all ∙ same)) ∙ f) in
-        ap (λ (x : Half). x.cells) (sym last) ∙ e ∙ ap (half_cells way reach) same
+        ap seen (sym last) ∙ e ∙ ap (half_cells way reach) same
   ];
 }
 
@@ -68,14 +69,20 @@ quotient_low code power some low = elim (cases_lt (code / power) power) [
 ]
 
 -- the shape that a line makes is that of the code of its halves
-pub code_shape : (reach code power : ℕ) (ahead behind : Half) (shape : Shape) → (reach ≡ 4) ⊎ (reach ≡ 5) → power ≡ 3 ^ reach → 0 < power →
-    ahead.cells ≡ half_cells Ahead reach (code / power) → behind.cells ≡ half_cells Behind reach (code % power) →
-    ((b : Grid) (p : Point) → SeesLine ahead.cells behind.cells b p → shape ≡ stone_shape (rule_by (nat_eq reach 4)) b Black Row p) →
-    shape ≡ shape_of reach code
+pub halves_shape : (reach low high : ℕ) (ahead behind : List Cell) (shape : Shape) → (reach ≡ 4) ⊎ (reach ≡ 5) → low < 3 ^ reach
+    → ahead ≡ half_cells Ahead reach high → behind ≡ half_cells Behind reach low
+    → ((b : Grid) (p : Point) → SeesLine ahead behind b p → shape ≡ stone_shape (rule_by (nat_eq reach 4)) b Black Row p)
+    → shape ≡ shape_of reach (low + 3 ^ reach * high)
 unfolding shape_of shape_at
+halves_shape reach low high ahead behind shape four h f g tells =
+    tells (put (line_board reach (low + 3 ^ reach * high)) Black (middle reach)) (middle reach)
+    (rw (f, g) (code_line reach low high four h))
+
+pub code_shape : (reach code power : ℕ) (ahead behind : Half) (shape : Shape) → (reach ≡ 4) ⊎ (reach ≡ 5) → power ≡ 3 ^ reach → 0 < power →
+    seen ahead ≡ half_cells Ahead reach (code / power) → seen behind ≡ half_cells Behind reach (code % power) →
+    ((b : Grid) (p : Point) → SeesLine (seen ahead) (seen behind) b p → shape ≡ stone_shape (rule_by (nat_eq reach 4)) b Black Row p) →
+    shape ≡ shape_of reach code
 code_shape reach code power ahead behind shape four e some f g tells =
     let all : code % power + 3 ^ reach * (code / power) ≡ code = ap (λ n. code % power + n * (code / power)) (sym e) ∙ omega arith in
-    let line : SeesLine (half_cells Ahead reach (code / power)) (half_cells Behind reach (code % power))
-    (put (line_board reach code) Black (middle reach)) (middle reach) =
-    rw all at (code_line reach (code % power) (code / power) four (omega (arith, e, some))) in
-    tells (put (line_board reach code) Black (middle reach)) (middle reach) (rw (f, g) line)
+    halves_shape reach (code % power) (code / power) (seen ahead) (seen behind) shape four (omega (arith, e, some)) f g tells
+    ∙ ap (shape_of reach) all

@@ -22,10 +22,12 @@ pub mod CodeDigits
 mod ThreeBits
 -- lines seen as two halves; the halves of a code
 mod HalfLines
+mod HalfBits
 mod HalfFours
 mod HalfShapes
 mod HalfCodes
 mod HalfTables
+mod HalfPlaces
 -- windows of lines
 mod RowBits
 mod WindowLaws

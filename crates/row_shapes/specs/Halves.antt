@@ -4,11 +4,12 @@
 use Rattle.std.specs.Prelude.{◌≡◌, ℕ, ◌+◌, ◌-◌, ◌≤◌, Bool, false, true, ◌&&◌, ◌||◌, not, nat_le, nat_lt, ◌==◌, if◌then◌else◌, List, [], ◌∷◌}
 use Rattle.std.specs.Prelude.{◌++◌, map, length, drop, replicate, reverse, slice_index_or, Option, Some, None}
 use Rattle.std.specs.List.{count_by, prefix_len, range_with_len}
+use Rattle.std.specs.Int.{bit_at}
 use Rattle.game_rules.specs.Grid.{Grid, IsBoard, is_empty, is_empty_cell, is_stone_of, holds}
 use Rattle.game_rules.specs.Shapes.{stone_at}
 use Rattle.game_rules.specs.Ways.{towards}
 use Rattle.game_rules.specs.declared.Cell.{Cell}
-use Rattle.game_rules.specs.declared.Cell.TheVariants.{White as WhiteStone}
+use Rattle.game_rules.specs.declared.Cell.TheVariants.{Empty, Black as BlackStone, White as WhiteStone}
 use Rattle.game_rules.specs.declared.RuleKind.{RuleKind}
 use Rattle.game_rules.specs.declared.RuleKind.TheVariants.{Freestyle, Exact}
 use Rattle.game_rules.specs.declared.Side.TheVariants.{Black}
@@ -20,6 +21,14 @@ use Rattle.row_shapes.specs.Gaps.{listed, are_stones}
 use Rattle.row_shapes.specs.LineCodes.{first_digits}
 use Rattle.row_shapes.specs.LineShapes.{cell_of_digit}
 use Rattle.row_shapes.specs.Threes.{place_towards}
+
+-- what stands on a place, by two bits: a stone of Black where the first is set, nothing where the second is, and else a stone of White
+abbrev pub cell_of_bits : ℕ → ℕ → Cell
+cell_of_bits own free = if own == 1 then BlackStone else if free == 1 then Empty else WhiteStone
+
+-- the cells that the five lowest bits of two numbers tell, the nearest first
+unfoldable pub cells_of : ℕ → ℕ → List Cell
+cells_of own free = map (λ k. cell_of_bits (bit_at own k) (bit_at free k)) (range_with_len 0 5)
 
 -- what stands so many steps from the stone
 abbrev pub cell_off : List Cell → ℕ → Cell

@@ -1,45 +1,101 @@
 //! One half of a line: what stands in one way from a stone.
 //!
-//! What a stone makes is told by the two halves of its line. There are few halves, so what each of them says alone is told
-//! once: how many stones stand next to the middle, and how many past the first place that holds none. A half is seen by
-//! Black, and what is past its reach counts as taken by White.
+//! What a stone makes is told by the two halves of its line. Each is kept as the bits of two numbers, with what it says alone:
+//! how many stones stand next to the middle, and how many past the first place that holds none. A half is seen by Black, and
+//! what is past its reach counts as taken by White.
 #![tactic(auto)]
 
-ghost use Rattle.std.specs.Prelude.{◌≡◌, ◌≤◌, ◌+◌, ◌⊎◌};
+ghost use Rattle.std.specs.Prelude.{◌≡◌, ◌≤◌, ◌<◌, ◌+◌, ◌⊎◌, ◌==◌, ◌∷◌, [], if◌then◌else◌};
+ghost use Rattle.std.specs.Int.{bit_at};
+ghost use Rattle.game_rules.specs.Grid.{is_stone_of, is_empty_cell};
+ghost use Rattle.game_rules.specs.declared.Side.{Side};
 ghost use Rattle.row_shapes.specs.LineShapes.{cell_of_digit};
-ghost use Rattle.row_shapes.specs.Halves.{owns as owns_lem, is_free as is_free_lem, row_past as row_past_lem, row_beyond, wins_off, half_cells as half_cells_lem};
+ghost use Rattle.row_shapes.specs.Halves.{owns as owns_lem, is_free as is_free_lem, row_past as row_past_lem, row_beyond, wins_off, half_cells, cells_of};
 
 use stone_board::{Cell, Way};
 
 /// One half of a line, and what it says alone.
 #[derive(Drop)]
 pub(crate) struct Half {
-    /// What stands on its places, the nearest first.
-    cells: [Cell; 5],
+    /// Bit k is set where a stone of Black stands on the place k + 1 steps from the middle.
+    own: u32,
+    /// Bit k is set where that place is empty.
+    free: u32,
     /// How many stones of Black stand in an unbroken row next to the middle.
     pub(crate) near: usize,
     /// How many stand past the first place that holds none, if that is empty.
     pub(crate) beyond: usize,
-    ghost near_told: { near ≡ row_past_lem cells 0 },
-    ghost beyond_told: { beyond ≡ row_beyond cells },
+    ghost near_told: { near ≡ row_past_lem (cells_of own free) 0 },
+    ghost beyond_told: { beyond ≡ row_beyond (cells_of own free) },
     ghost few: { near + beyond ≤ 5 },
 }
 
 impl Half {
-    /// The half with these cells.
-    pub(crate) fn of(cells: [Cell; 5]) -> Half
-        ensures cells { result.cells ≡ cells }
+    ghost use Rattle.row_shapes.specs.HalfTables.{seen};
+
+    /// The half of these bits.
+    #[inline(always)]
+    pub(crate) fn new(own: u32, free: u32) -> Half
+        requires own { own < 32 }
+        requires free { free < 32 }
+        ensures seen { seen result ≡ cells_of own free }
     {
-        let near = row_past(&cells, 0);
-        let beyond = if near < 5 && matches!(cells[near], Cell::Empty) {
-            row_past(&cells, 1 + near)
+        let near = own.trailing_ones() as usize;
+        let beyond = if is_set(free, near) {
+            (own >> (1 + near)).trailing_ones() as usize
         } else {
             0
         };
         Half {
-            cells,
+            own,
+            free,
             near,
             beyond,
+        }
+    }
+
+    /// The half with these cells, the nearest first.
+    pub(crate) fn of(first: Cell, second: Cell, third: Cell, fourth: Cell, fifth: Cell) -> Half
+        ensures cells { seen result ≡ first ∷ second ∷ third ∷ fourth ∷ fifth ∷ [] }
+    {
+        let own = black(first)
+            + 2 * black(second)
+            + 4 * black(third)
+            + 8 * black(fourth)
+            + 16 * black(fifth);
+        let free = empty(first)
+            + 2 * empty(second)
+            + 4 * empty(third)
+            + 8 * empty(fourth)
+            + 16 * empty(fifth);
+        Half::new(own, free)
+    }
+
+    /// The half in that way of the line that has these digits there, the least first in reading order.
+    pub(crate) fn of_digits(way: Way, reach: usize, digits: u32) -> Half
+        requires reach { (reach ≡ 4) ⊎ (reach ≡ 5) }
+        ensures cells { seen result ≡ half_cells way reach digits }
+    {
+        let first = cell_of(digits % 3);
+        let second = cell_of(digits / 3 % 3);
+        let third = cell_of(digits / 3 / 3 % 3);
+        let fourth = cell_of(digits / 3 / 3 / 3 % 3);
+        let fifth = cell_of(digits / 3 / 3 / 3 / 3 % 3);
+        match way {
+            Way::Ahead => {
+                if reach == 4 {
+                    Half::of(first, second, third, fourth, Cell::White)
+                } else {
+                    Half::of(first, second, third, fourth, fifth)
+                }
+            }
+            Way::Behind => {
+                if reach == 4 {
+                    Half::of(fourth, third, second, first, Cell::White)
+                } else {
+                    Half::of(fifth, fourth, third, second, first)
+                }
+            }
         }
     }
 
@@ -48,9 +104,9 @@ impl Half {
     pub(crate) fn owns(&self, k: usize) -> bool
         requires near { 1 ≤ k }
         requires far { k ≤ 5 }
-        ensures owns { result ≡ owns_lem self.now.cells k }
+        ensures owns { result ≡ owns_lem (seen self.now) k }
     {
-        matches!(self.cells[k - 1], Cell::Black)
+        is_set(self.own, k - 1)
     }
 
     /// Whether the place so many steps from the middle is empty.
@@ -58,63 +114,46 @@ impl Half {
     pub(crate) fn is_free(&self, k: usize) -> bool
         requires near { 1 ≤ k }
         requires far { k ≤ 5 }
-        ensures free { result ≡ is_free_lem self.now.cells k }
+        ensures free { result ≡ is_free_lem (seen self.now) k }
     {
-        matches!(self.cells[k - 1], Cell::Empty)
+        !is_set(self.own, k - 1) && is_set(self.free, k - 1)
     }
 
     /// Whether the place so many steps from the middle is empty, and wins where it has four stones next to it on the side
     /// of the middle. Where not `any` run of five or more wins, none may stand next to it on the other side.
     #[inline(always)]
-    pub(crate) fn wins(&self, any: bool, k: usize) -> bool
+    pub(crate) fn is_winning(&self, any: bool, k: usize) -> bool
         requires near { 1 ≤ k }
         requires far { k ≤ 4 }
-        ensures wins { result ≡ wins_off any self.now.cells k }
+        ensures wins { result ≡ wins_off any (seen self.now) k }
     {
         self.is_free(k) && (any || !self.owns(1 + k))
     }
 }
 
-/// How many stones of Black stand in an unbroken row past the place so many steps from the middle.
-fn row_past(cells: &[Cell; 5], steps: usize) -> usize
-    requires steps { steps ≤ 5 }
-    ensures row { result ≡ row_past_lem cells.now steps }
-    ensures few { steps + result ≤ 5 }
+/// Whether a bit is set.
+#[inline(always)]
+fn is_set(bits: u32, k: usize) -> bool
+    requires bit { k < 32 }
+    ensures set { result ≡ (bit_at bits k == 1) }
 {
-    for j in steps..5 {
-        if !matches!(cells[j], Cell::Black) {
-            return j - steps;
-        }
-    }
-    5 - steps
+    bits >> k & 1 == 1
 }
 
-/// The cells of the half in that way of the line that has these digits there, the least first in reading order.
-pub(crate) fn half_cells(way: Way, reach: usize, digits: u32) -> [Cell; 5]
-    requires reach { (reach ≡ 4) ⊎ (reach ≡ 5) }
-    ensures cells { result ≡ half_cells_lem way reach digits }
+/// 1 where a cell holds a stone of Black, and else 0.
+fn black(cell: Cell) -> u32
+    ensures black { result ≡ (if is_stone_of Side.Black cell then 1 else 0) }
+    ensures bound { result < 2 }
 {
-    let first = cell_of(digits % 3);
-    let second = cell_of(digits / 3 % 3);
-    let third = cell_of(digits / 3 / 3 % 3);
-    let fourth = cell_of(digits / 3 / 3 / 3 % 3);
-    let fifth = cell_of(digits / 3 / 3 / 3 / 3 % 3);
-    match way {
-        Way::Ahead => {
-            if reach == 4 {
-                [first, second, third, fourth, Cell::White]
-            } else {
-                [first, second, third, fourth, fifth]
-            }
-        }
-        Way::Behind => {
-            if reach == 4 {
-                [fourth, third, second, first, Cell::White]
-            } else {
-                [fifth, fourth, third, second, first]
-            }
-        }
-    }
+    u32::from(matches!(cell, Cell::Black))
+}
+
+/// 1 where a cell is empty, and else 0.
+fn empty(cell: Cell) -> u32
+    ensures empty { result ≡ (if is_empty_cell cell then 1 else 0) }
+    ensures bound { result < 2 }
+{
+    u32::from(matches!(cell, Cell::Empty))
 }
 
 /// What a digit of a code stands for, as Black sees it.

@@ -13,6 +13,7 @@ ghost use Rattle.game_rules.specs.Grid.{Grid};
 ghost use Rattle.game_rules.specs.Shapes.{fours_of};
 ghost use Rattle.row_shapes.specs.LineShapes.{stone_shape};
 ghost use Rattle.row_shapes.specs.Halves.{SeesLine, rule_by, is_open, three_off, nine_places as nine_places_lem, free_place as free_place_lem, wins_window as wins_window_lem, is_four_off, fours_off};
+ghost use Rattle.row_shapes.specs.HalfTables.{seen};
 
 use crate::Shape;
 use crate::fours::are_stones;
@@ -22,12 +23,12 @@ use stone_board::Way;
 
 /// The shape of the stone in the middle of a line with these halves.
 pub(crate) fn shape_of_line(any: bool, ahead: &Half, behind: &Half) -> Shape
-    ensures shape { (b : Grid) (p : Point) → SeesLine ahead.now.cells behind.now.cells b p →
+    ensures shape { (b : Grid) (p : Point) → SeesLine (seen ahead.now) (seen behind.now) b p →
         result ≡ stone_shape (rule_by any) b Side.Black Axis.Row p }
 {
     let run = 1 + ahead.near + behind.near;
     Shape {
-        five: wins(any, run),
+        five: is_win(any, run),
         over: run >= 6,
         fours: fours(any, ahead, behind),
         straight: is_open_four(any, ahead, behind, ahead.near, behind.near),
@@ -38,7 +39,7 @@ pub(crate) fn shape_of_line(any: bool, ahead: &Half, behind: &Half) -> Shape
 
 /// Whether a run of this length wins.
 #[inline(always)]
-fn wins(any: bool, length: usize) -> bool
+fn is_win(any: bool, length: usize) -> bool
     ensures wins { result ≡ (if any then nat_le 5 length else length == 5) }
 {
     if any { length >= 5 } else { length == 5 }
@@ -49,16 +50,16 @@ fn wins(any: bool, length: usize) -> bool
 fn is_open_four(any: bool, half: &Half, other: &Half, fore: usize, back: usize) -> bool
     requires fore { fore ≤ 6 }
     requires back { back ≤ 5 }
-    ensures open { result ≡ is_open any half.now.cells other.now.cells fore back }
+    ensures open { result ≡ is_open any (seen half.now) (seen other.now) fore back }
 {
-    fore + back == 3 && half.wins(any, 1 + fore) && other.wins(any, 1 + back)
+    fore + back == 3 && half.is_winning(any, 1 + fore) && other.is_winning(any, 1 + back)
 }
 
 /// The place of the three point in that way, if there is one: the first that holds no stone of Black. `half` is the one in
 /// that way, and the stone is on place 5.
 #[inline(always)]
 fn three_place(any: bool, way: Way, half: &Half, other: &Half) -> Option<u8>
-    ensures place { result ≡ three_off any way half.now.cells other.now.cells }
+    ensures place { result ≡ three_off any way (seen half.now) (seen other.now) }
     ensures bound { ForSome result (λ i. i < 11) }
 {
     if half.near + other.near <= 2
@@ -75,7 +76,7 @@ fn three_place(any: bool, way: Way, half: &Half, other: &Half) -> Option<u8>
 /// past one empty place.
 #[inline(always)]
 fn fours(any: bool, ahead: &Half, behind: &Half) -> u8
-    ensures fours { (b : Grid) (p : Point) → SeesLine ahead.now.cells behind.now.cells b p →
+    ensures fours { (b : Grid) (p : Point) → SeesLine (seen ahead.now) (seen behind.now) b p →
         result ≡ fours_of (rule_by any) b Side.Black Axis.Row p }
 {
     if ahead.near + behind.near + ahead.beyond.max(behind.beyond) < 3 {
@@ -92,7 +93,7 @@ fn fours(any: bool, ahead: &Half, behind: &Half) -> u8
 /// Which of the nine places around the middle hold stones of Black. Place 4 is the middle.
 #[inline(always)]
 fn nine_places(ahead: &Half, behind: &Half) -> [bool; 9]
-    ensures stones { result ≡ nine_places_lem ahead.now.cells behind.now.cells }
+    ensures stones { result ≡ nine_places_lem (seen ahead.now) (seen behind.now) }
 {
     [
         behind.owns(4),
@@ -111,7 +112,7 @@ fn nine_places(ahead: &Half, behind: &Half) -> [bool; 9]
 /// them.
 fn fours_from(any: bool, ahead: &Half, behind: &Half, stones: &[bool; 9], first: u8) -> u8
     requires first { first < 5 }
-    ensures fours { result ≡ fours_off any ahead.now.cells behind.now.cells stones.now first }
+    ensures fours { result ≡ fours_off any (seen ahead.now) (seen behind.now) stones.now first }
     ensures bound { result ≤ 4 }
 {
     u8::from(is_four(any, ahead, behind, stones, first, 1))
@@ -125,7 +126,7 @@ fn fours_from(any: bool, ahead: &Half, behind: &Half, stones: &[bool; 9], first:
 fn is_four(any: bool, ahead: &Half, behind: &Half, stones: &[bool; 9], first: u8, gap: u8) -> bool
     requires first { first < 5 }
     requires gap { gap < 5 }
-    ensures four { result ≡ is_four_off any ahead.now.cells behind.now.cells stones.now first gap }
+    ensures four { result ≡ is_four_off any (seen ahead.now) (seen behind.now) stones.now first gap }
 {
     first != gap
         && are_stones(stones, first, gap)
@@ -145,7 +146,7 @@ fn wins_window(any: bool, ahead: &Half, behind: &Half, start: usize, place: usiz
     requires start { start ≤ 4 }
     requires place { place < 9 }
     requires apart { place ≢ 4 }
-    ensures wins { result ≡ wins_window_lem any ahead.now.cells behind.now.cells start place }
+    ensures wins { result ≡ wins_window_lem any (seen ahead.now) (seen behind.now) start place }
 {
     free_place(ahead, behind, place) && (any || !behind.owns(5 - start) && !ahead.owns(start + 1))
 }
@@ -155,7 +156,7 @@ fn wins_window(any: bool, ahead: &Half, behind: &Half, start: usize, place: usiz
 fn free_place(ahead: &Half, behind: &Half, place: usize) -> bool
     requires place { place < 9 }
     requires apart { place ≢ 4 }
-    ensures free { result ≡ free_place_lem ahead.now.cells behind.now.cells place }
+    ensures free { result ≡ free_place_lem (seen ahead.now) (seen behind.now) place }
 {
     if place > 4 {
         ahead.is_free(place - 4)

@@ -9,7 +9,7 @@ ghost use Rattle.row_shapes.specs.LineShapes.{TellsShapes};
 ghost use Rattle.row_shapes.specs.HalfTables.{TellsHalves};
 
 use crate::Shape;
-use crate::halves::{Half, half_cells};
+use crate::halves::Half;
 use crate::line_shape::shape_of_line;
 use std::alloc::{AllocError, Global};
 use stone_board::Way;
@@ -66,7 +66,7 @@ fn halves_of(alloc: Global, way: Way, reach: usize, count: usize) -> Result<Vec<
 {
     let mut halves = Vec::with_capacity(alloc, count)?;
     for digits in 0..count {
-        halves.push(Half::of(half_cells(way, reach, digits as u32)))?;
+        halves.push(Half::of_digits(way, reach, digits as u32))?;
     }
     Ok(halves)
 }

@@ -1,10 +1,11 @@
 use Rattle.std.proofs.Common.{sym, arith}
+use Rattle.row_shapes.proofs.Common.{seen}
 use Rattle.row_shapes.proofs.HalfShapes.{no_fours, all_fours}
 use Rattle.row_shapes.proofs.line_shape.fours.Goals as goal
 
 pub returns-then-ahead-behind-lt3 : goal.returns-then-ahead-behind-lt3
 returns-then-ahead-behind-lt3 c =
-    record { fours = λ b p sees. sym (no_fours c.args.ahead.now.cells c.args.behind.now.cells b p sees c.args.any (omega arith)) }
+    record { fours = λ b p sees. sym (no_fours (seen c.args.ahead.now) (seen c.args.behind.now) b p sees c.args.any (omega arith)) }
 
 pub returns : goal.returns
 returns c = record {
@@ -17,5 +18,5 @@ returns c = record {
         c.fours_from-5.ensures.fours,
         c.nine_places-stones.ensures.stones,
       )
-      (sym (all_fours c.args.ahead.now.cells c.args.behind.now.cells b p sees c.args.any));
+      (sym (all_fours (seen c.args.ahead.now) (seen c.args.behind.now) b p sees c.args.any));
 }
