@@ -43,11 +43,15 @@ stands-closed : (first judged : Judged) → stands_for first judged ≡ true →
 stands-closed first judged h e = search rules
 
 -- how many nodes answer the replies to the double point that is met plays no part
-pub stands-double : (first : Judged) (d : DoublePoint) (n m : ℕ) → stands_for first (DoubleWins d n) ≡ stands_for first (DoubleWins d m)
+stands-double : (first : Judged) (d : DoublePoint) (n m : ℕ) → stands_for first (DoubleWins d n) ≡ stands_for first (DoubleWins d m)
 stands-double (Five w) d n m = refl
 stands-double (DoubleWins e k) d n m = refl
 stands-double (Last p) d n m = refl
 stands-double Open d n m = refl
+
+pub met-double : (first : Option Child) (d : DoublePoint) (n m : ℕ) → is_met first (DoubleWins d n) ≡ is_met first (DoubleWins d m)
+met-double None d n m = refl
+met-double (Some child) d n m = stands-double child.judged d n m
 
 -- ---- sums over what is kept
 

@@ -187,6 +187,12 @@ pub record IsMetAt (rule : RuleKind) (c : Grid) (first : Option Child) (q : Poin
   pub is : IsJudged rule (after c q) judged
   pub met : is_met first judged ≡ true
 
+-- The win after this first reply stands by the double point: what is judged of each reply beside it that goes on and leaves neither side a
+-- five point may be that the double point wins, and then it is met.
+pub record StandsBy (rule : RuleKind) (c : Grid) (first : Option Child) (d : DoublePoint) : Type 0 where
+  pub met : (q : Point) → outcome rule c q ≡ GoesOn → IsBeside d q → has_five rule (after c q) (mover (after c q)) ≡ false
+      → has_five rule (after c q) (mover c) ≡ false → IsMetAt rule c first q
+
 -- the child before the others, if there is one
 abbrev pub put_first : Option Child → List Child → List Child
 put_first None children = children

@@ -20,7 +20,7 @@ ghost use Rattle.strategy_graph.specs.declared.TheConstants.{MAX_NODES};
 ghost use Rattle.strategy_compiler.specs.Growth.{GrowsBy};
 ghost use Rattle.threat_game.specs.FreeMoves.{EachGoesOn};
 ghost use Rattle.threat_game.specs.Attacks.{has_reply, is_last_move, IsKept, IsStillKept};
-ghost use Rattle.threat_game.specs.Replies.{AreKept, AreReplies, AreStopped, AreJudgedInPart, HasEscape, IfEscape, IsChild, IsJudged, IsJudgement, IsBeside, is_beside as is_beside_lem, moves_for, is_open as is_open_lem, is_standing as is_standing_lem, is_same_double as is_same_double_lem, stands_for as stands_for_lem, is_met as is_met_lem, IsMetAt, first_with as first_with_lem, put_first, kept_children, counted_for, nodes_for};
+ghost use Rattle.threat_game.specs.Replies.{AreKept, AreReplies, AreStopped, AreJudgedInPart, HasEscape, IfEscape, IsChild, IsJudged, IsJudgement, IsBeside, is_beside as is_beside_lem, moves_for, is_open as is_open_lem, is_standing as is_standing_lem, is_same_double as is_same_double_lem, stands_for as stands_for_lem, is_met as is_met_lem, IsMetAt, StandsBy, first_with as first_with_lem, put_first, kept_children, counted_for, nodes_for};
 ghost use Rattle.threat_game.specs.Wins.{IsThreatWin};
 
 use crate::attacks::{each_goes_on, fives_by, goes_on_where, is_some_point};
@@ -259,6 +259,7 @@ fn each_reply<R: Rule, V: Seen<R>>(
 {
     let mut part = Vec::new(alloc);
     let mut first = None;
+    let mut standing = None;
     let windows = window_points(view.board(), view.side(), 3);
     let known = BeforeReplies {
         free: each_goes_on::<R, V>(view),
@@ -267,7 +268,7 @@ fn each_reply<R: Rule, V: Seen<R>>(
         windows: &windows,
     };
     for q in view.board().points() {
-        if !is_met_at::<R, V>(view, known, first, q) {
+        if !is_met_at::<R, V>(view, known, first, standing, q) {
             match judge::<R, V>(alloc, view, board, known, q, moves)? {
                 Judgement::NoReply => {}
                 Judgement::Escape => return Ok(None),
@@ -275,6 +276,7 @@ fn each_reply<R: Rule, V: Seen<R>>(
                     let child = Child { at: q, judged };
                     part.push(child)?;
                     first = first_with(first, child);
+                    standing = standing_double::<R, V>(view, doubles, first);
                 }
             }
         }
@@ -292,67 +294,61 @@ fn first_with(first: Option<Child>, child: Child) -> Option<Child>
     first
 }
 
-/// Whether the point is no reply, or the win after this first reply is known to win after it too.
+/// Whether the point is no reply, or the win after this first reply is known to win after it too. Where it stands by a double point, this
+/// is it.
 fn is_met_at<R: Rule, V: Seen<R>>(
     view: &V,
     known: BeforeReplies,
     first: Option<Child>,
+    standing: Option<DoublePoint>,
     q: Point,
 ) -> bool
     requires lawful { IsPosition R.KIND (V.position view.now) }
     requires no_five { has_five_lem R.KIND (V.position view.now) (mover (V.position view.now)) ≡ false }
     requires fives { known.fives.now ≡ five_points_lem R.KIND (V.position view.now) (other (mover (V.position view.now))) }
-    requires doubles { AreKept R.KIND (V.position view.now) (other (mover (V.position view.now))) known.doubles.now }
     requires windows { TellsWindows (V.position view.now) (mover (V.position view.now)) 3 known.windows.now }
+    requires stands { IfSome standing (StandsBy R.KIND (V.position view.now) first) }
     ensures met { IsTrue result → outcome_lem R.KIND (V.position view.now) q ≡ Outcome.GoesOn
         → IsMetAt R.KIND (V.position view.now) first q }
 {
     if !view.board().is_empty(q) {
         return true;
     }
-    let Some(child) = first else {
-        return false;
-    };
     match five_beside(known.fives, q) {
-        Some(five) => stands_for(child.judged, Judged::Five(five)),
-        None => is_met_by_double::<R, V>(view, known, child, q),
+        Some(five) => is_met(first, Judged::Five(five)),
+        None => {
+            let Some(double) = standing else {
+                return false;
+            };
+            is_beside(double, q) && !makes_five::<R, V>(view, known.windows, q)
+        }
     }
 }
 
-/// Whether the first of the double points is known to win after the reply `q` on an empty point, which leaves the attacker no five
-/// point, and the win after this first reply is by it.
-fn is_met_by_double<R: Rule, V: Seen<R>>(
+/// The double point by which the win after this first reply is known to stand, if there is one: the first of these, where it stays no
+/// foul. It wins after each reply beside it that leaves neither side a five point.
+fn standing_double<R: Rule, V: Seen<R>>(
     view: &V,
-    known: BeforeReplies,
-    first: Child,
-    q: Point,
-) -> bool
+    doubles: &[Kept],
+    first: Option<Child>,
+) -> Option<DoublePoint>
     requires lawful { IsPosition R.KIND (V.position view.now) }
-    requires empty { IsTrue (is_empty (V.position view.now) q) }
-    requires no_five { has_five_lem R.KIND (V.position view.now) (mover (V.position view.now)) ≡ false }
-    requires none { outcome_lem R.KIND (V.position view.now) q ≡ Outcome.GoesOn
-        → has_five_lem R.KIND (after (V.position view.now) q) (mover (after (V.position view.now) q)) ≡ false }
-    requires doubles { All (IsKept R.KIND (V.position view.now) (other (mover (V.position view.now)))) known.doubles.now }
-    requires windows { TellsWindows (V.position view.now) (mover (V.position view.now)) 3 known.windows.now }
-    ensures met { IsTrue result → outcome_lem R.KIND (V.position view.now) q ≡ Outcome.GoesOn
-        → IsMetAt R.KIND (V.position view.now) (Some first) q }
+    requires doubles { All (IsKept R.KIND (V.position view.now) (other (mover (V.position view.now)))) doubles.now }
+    ensures stands { IfSome result (StandsBy R.KIND (V.position view.now) first) }
 {
-    let [kept, ..] = known.doubles else {
-        return false;
+    let [kept, ..] = doubles else {
+        return None;
     };
     if !kept.sure {
-        return false;
+        return None;
     }
     if view.board().empties() < 3 {
-        return false;
+        return None;
     }
-    if !is_beside(kept.double, q) {
-        return false;
+    if !is_met(first, Judged::DoublePoint(kept.double, 2)) {
+        return None;
     }
-    if !stands_for(first.judged, Judged::DoublePoint(kept.double, 2)) {
-        return false;
-    }
-    !makes_five::<R, V>(view, known.windows, q)
+    Some(kept.double)
 }
 
 /// How many positions of the attacker are counted for one that is judged so.

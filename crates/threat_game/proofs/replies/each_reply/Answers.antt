@@ -1,9 +1,9 @@
-use Rattle.std.proofs.Common.{rules, ◌≡◌, refl, sym, ap, subst, ◌∙◌, arith, find, List, [], ◌∷◌, Option}
+use Rattle.std.proofs.Common.{rules, ◌≡◌, refl, sym, ap, subst, ◌∙◌, arith, find, List, [], ◌∷◌, Option, IfSome, All}
 use Rattle.std.proofs.lemmas.Grind.{common_steps}
 use Rattle.game_rules.proofs.Common.{Grid, IsPosition, points_of, five_points, has_five, mover, other}
 use Rattle.open_windows.specs.PointSets.{TellsWindows}
 use Rattle.threat_game.specs.declared.replies.Child.{Child}
-use Rattle.threat_game.proofs.Common.{AreKept, EachGoesOn, EscapesBy, IsJudgement, IsMetAt, first_with}
+use Rattle.threat_game.proofs.Common.{AreKept, EachGoesOn, EscapesBy, IsJudgement, IsKept, IsMetAt, StandsBy, first_with}
 use Rattle.threat_game.proofs.Kept.{first-more, stands}
 use Rattle.threat_game.proofs.ReplyLaws.{PartSoFar, all-in_part, part-met, part-more, part-none, part-pass}
 use Rattle.open_windows.proofs.Points.{windows-of}
@@ -14,6 +14,7 @@ loop-q-init g c = record {
   same = refl;
   same_board = refl;
   first = ap (find stands) (sym c.new-part.ensures.items);
+  standing = tt;
   so_far = subst (λ (part : List Child). PartSoFar g.R.Rule.KIND c.args.moves (g.V.Seen.position c.args.view.now) part
       c.into_iter-q-iterator.result) (sym c.new-part.ensures.items)
       (part-none g.R.Rule.KIND c.args.moves (g.V.Seen.position c.args.view.now) c.into_iter-q-iterator.result
@@ -31,9 +32,18 @@ pub is_met_at-requires-clause-fives : goal.is_met_at-requires-clause-fives
 is_met_at-requires-clause-fives g c =
     c.requires.fives ∙ ap (λ (b : Grid). five_points g.R.Rule.KIND b (other (mover b))) (sym c.loop-q.invariant.same)
 
-pub is_met_at-requires-clause-doubles : goal.is_met_at-requires-clause-doubles
-is_met_at-requires-clause-doubles g c =
-    subst (λ (b : Grid). AreKept g.R.Rule.KIND b (other (mover b)) c.args.doubles.now) (sym c.loop-q.invariant.same) c.requires.doubles
+pub is_met_at-requires-clause-stands : goal.is_met_at-requires-clause-stands
+is_met_at-requires-clause-stands g c = subst (λ (b : Grid). IfSome c.loop-q.standing (StandsBy g.R.Rule.KIND b c.loop-q.first))
+    (sym c.loop-q.invariant.same) c.loop-q.invariant.standing
+
+pub standing_double-standing-requires-clause-lawful : goal.standing_double-standing-requires-clause-lawful
+standing_double-standing-requires-clause-lawful g c = subst (λ (b : Grid). IsPosition g.R.Rule.KIND b)
+    (sym (c.judge.ensures.same ∙ c.loop-q.invariant.same)) c.requires.lawful
+
+pub standing_double-standing-requires-clause-doubles : goal.standing_double-standing-requires-clause-doubles
+standing_double-standing-requires-clause-doubles g c =
+    subst (λ (b : Grid). All (IsKept g.R.Rule.KIND b (other (mover b))) c.args.doubles.now)
+    (sym (c.judge.ensures.same ∙ c.loop-q.invariant.same)) c.requires.doubles.each
 
 pub loop-q-preserved : goal.loop-q-preserved
 loop-q-preserved g c =
@@ -41,6 +51,7 @@ loop-q-preserved g c =
       same = c.loop-q.invariant.same;
       same_board = c.loop-q.invariant.same_board;
       first = c.loop-q.invariant.first;
+      standing = c.loop-q.invariant.standing;
       so_far = part-met g.R.Rule.KIND c.args.moves (g.V.Seen.position c.args.view.now) c.loop-q.part.items c.in-Some.q c.next.new.self
           c.loop-q.q-iterator next c.loop-q.invariant.so_far (g.V.Seen.position c.loop-q.view) c.loop-q.invariant.same
           (λ on. subst (λ (o : Option Child). IsMetAt g.R.Rule.KIND (g.V.Seen.position c.loop-q.view) o c.in-Some.q)
@@ -53,6 +64,7 @@ loop-q-preserved-in-NoReply g c =
       same = c.judge.ensures.same ∙ c.loop-q.invariant.same;
       same_board = c.judge.ensures.same_board ∙ c.loop-q.invariant.same_board;
       first = c.loop-q.invariant.first;
+      standing = c.loop-q.invariant.standing;
       so_far = part-pass g.R.Rule.KIND c.args.moves (g.V.Seen.position c.args.view.now) c.loop-q.part.items c.in-Some.q c.next.new.self
           c.loop-q.q-iterator next c.loop-q.invariant.so_far (g.V.Seen.position c.loop-q.view) c.loop-q.invariant.same
           (subst (IsJudgement g.R.Rule.KIND c.args.moves (g.V.Seen.position c.loop-q.view) c.in-Some.q) c.in-NoReply.is
@@ -68,6 +80,8 @@ loop-q-preserved-in-Known g c =
           ∙ ap (λ (o : Option Child). first_with o (record { at = c.in-Some.q; judged = c.in-Known.judged })) c.loop-q.invariant.first
           ∙ sym (first-more c.loop-q.part.items (record { at = c.in-Some.q; judged = c.in-Known.judged }))
           ∙ ap (find stands) (sym c.in_ok-push-in-Known.ensures.items);
+      standing = subst (λ (b : Grid). IfSome c.standing_double-standing.result (StandsBy g.R.Rule.KIND b c.first_with-first.result))
+          (c.judge.ensures.same ∙ c.loop-q.invariant.same) c.standing_double-standing.ensures.stands;
       so_far = part-more g.R.Rule.KIND c.args.moves (g.V.Seen.position c.args.view.now) c.loop-q.part.items c.in-Some.q c.next.new.self
           c.loop-q.q-iterator next c.loop-q.invariant.so_far (g.V.Seen.position c.loop-q.view) c.loop-q.invariant.same c.in-Known.judged
           (subst (IsJudgement g.R.Rule.KIND c.args.moves (g.V.Seen.position c.loop-q.view) c.in-Some.q) c.in-Known.is
