@@ -262,17 +262,11 @@ class Book:
 
     def of(self, numbers):
         """The book of some entries, counted from 1, with the nodes that their roots reach."""
-        entries, reached, left = [self.entry(number) for number in numbers], set(), []
+        entries, roots = [self.entry(number) for number in numbers], []
         for _, _, root in entries:
-            left += root.named() if isinstance(root, Node) else [root]
-        while left:
-            place = left.pop()
-            if place not in reached:
-                reached.add(place)
-                left += self.nodes[place].named()
-        new = {place: number for number, place in enumerate(sorted(reached))}
+            roots += root.named() if isinstance(root, Node) else [root]
+        nodes, new = reached(self.nodes, roots)
         moved = lambda root: root.renumbered(new) if isinstance(root, Node) else new[root]
-        nodes = [self.nodes[place].renumbered(new) for place in sorted(reached)]
         return Book(nodes, [(position, moves, moved(root)) for position, moves, root in entries])
 
     def table(self, number):
@@ -295,6 +289,18 @@ class Book:
 
     def tables(self):
         return [self.table(number) for number in range(1, len(self.entries) + 1)]
+
+
+def reached(nodes, roots):
+    """The nodes that some of them reach, in their order, with new numbers, and by the old number the new one."""
+    found, left = set(), [*roots]
+    while left:
+        place = left.pop()
+        if place not in found:
+            found.add(place)
+            left += nodes[place].named()
+    new = {place: number for number, place in enumerate(sorted(found))}
+    return [nodes[place].renumbered(new) for place in sorted(found)], new
 
 
 def other(side):

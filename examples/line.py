@@ -24,7 +24,7 @@ from dataclasses import dataclass
 
 sys.dont_write_bytecode = True
 
-from boards import Node, Table, Wrong, answered, bytes_of, counted, named, other, saying, spelled
+from boards import Node, Table, Wrong, answered, bytes_of, counted, named, other, reached, saying, spelled
 from foul import an
 from outputs import claim, write
 from position import points, rule_of, size_of, understood
@@ -69,14 +69,7 @@ class Nodes:
 
     def table(self, position, root):
         """The table of a root, with the nodes that it reaches."""
-        reached, left = set(), [root]
-        while left:
-            place = left.pop()
-            if place not in reached:
-                reached.add(place)
-                left += self.nodes[place].named()
-        new = {place: number for number, place in enumerate(sorted(reached))}
-        return Table(position, self.depths[root], [self.nodes[place].renumbered(new) for place in sorted(reached)])
+        return Table(position, self.depths[root], reached(self.nodes, [root])[0])
 
 
 @dataclass
