@@ -7,9 +7,9 @@ import tempfile
 from pathlib import Path
 
 # It names the program that is tried, and so comes before what asks it.
-from trying import EXAMPLES, PROGRAM, SECONDS, asked, expect, fails, path_with, run
+from trying import EXAMPLES, PROGRAM, SECONDS, TABLE, TEXT, asked, expect, fails, path_with, run
 
-from cases import CORNERS, FOUR_OF_BLACK, ONE_LEFT, TWO_LEFT, position
+from cases import CORNERS, FOUR_AND_REPLY, FOUR_OF_BLACK, ONE_LEFT, TWO_LEFT, position
 
 # Black's quiet move 2,3 (c6) makes neither a four nor a three, and wins.
 QUIET = (EXAMPLES / "openings" / "quiet-move.txt").read_text()
@@ -19,9 +19,12 @@ EVEN = position("freestyle", 8, "0,0 7,0 0,7 7,7", "2,4 3,4 5,4")
 FOULING = position("renju", 11, "6,1 5,2 7,2 6,3 10,10", "0,0 2,9 3,9 4,9")
 WON = position("freestyle", 15, "4,7 5,7 6,7 7,7", CORNERS)
 FOUL = position("renju", 15, "7,6 6,7 8,7 7,8", CORNERS)
-# Programs that neither search nor check, tell the memory that they have, and don't end.
+# Programs that neither search nor check, don't search, search only with more than twelve stones of Black, tell the memory that they have,
+# and don't end.
 PROGRAMS = {
     "idle": f"case $1 in quiet | check) exit 1 ;; esac\nexec '{PROGRAM}' \"$@\"",
+    "spent": f"[ $1 != quiet ] || {{ echo spent; exit 5; }}\nexec '{PROGRAM}' \"$@\"",
+    "late": f"cat >text\n[ $1 != quiet ] || [ $(grep black text | wc -w) -gt 13 ] || {{ echo spent; exit 5; }}\nexec '{PROGRAM}' \"$@\" <text",
     "limited": f"[ $1 = cover ] || ulimit -v >>limits\nexec '{PROGRAM}' \"$@\"",
     "stuck": f"[ $1 != quiet ] || exec sleep 60\nexec '{PROGRAM}' \"$@\"",
 }
@@ -58,6 +61,7 @@ def openings():
         for words in (["o"], ["--cover", "o"]):
             told = ask(*words)[:2]
             expect(f"openings.py: a table that isn't accepted, {words}", told, (4, f"o/{wrong.parent.name}/{wrong.name} refused not-won 0,0\n"))
+        liked(ask, held, by, table)
         opened(ask, held, by, covered, begun)
         told = ask("--cover", "e", "e4", "-", text=EVEN)[:2]
         expect("openings.py: two sides that are alike", told, (0, "covered in 2 moves, 56 replies by 28 tables\n"))
@@ -69,6 +73,59 @@ def openings():
         ask("--cover", "--jobs", "1", "--memory", "100", "m", "4,4", "-", text=EVEN, env=by("limited"))
         limits = Path(folder, "limits").read_text().split()
         expect("openings.py: the memory of a run", (limits[0], {*limits[1:]}), ("unlimited", {"102400"}))
+
+
+def liked(ask, held, by, table):
+    """The parts of a like opening's table are tried at replies, and their first moves where they are refused."""
+    folder = held("o/replies")["5,0"].parents[2]
+    tried = lambda name: Path(folder, name, "tried.txt").read_text()
+    # White's 7,2 stands in the corner 8,8 instead, and no reply there or at 7,2 is won by a table of its own.
+    corner = QUIET.replace("7,2 5,3", "5,3").replace("5,7\n", "5,7 8,8\n")
+    Path(folder, "like.txt").write_text(table)
+    status, told, _ = ask("--jobs", "1", "--like", "like.txt", "corner", "2,3", "-", text=corner, env=by("spent"))
+    expect("openings.py: a like opening", (status, told.partition(":")[0]), (0, "corner/table.txt"))
+    accepted = asked(["check", "1000000"], Path(folder, "corner/table.txt").read_text())
+    expect("openings.py: its table from a like one", accepted, re.compile(r"accepted in \d+ moves, .*\n"))
+    expect("openings.py: the part of its stone's point", "7,2 like-1-8,8 0 " in tried("corner"), True)
+    expect("openings.py: nothing is searched", "quiet" in tried("corner"), False)
+    # White's 5,0 is answered by 3,4, which no reply may then be refused by another move than 3,3.
+    from boards import Node, named, read, spelled
+
+    like = read(table.encode())
+    place = like.root().answer((5, 0))
+    node = like.nodes[place]
+    like.nodes[place] = Node(node.attack, False, node.rest, [])
+    Path(folder, "bare.txt").write_text(like.text())
+    words = ["--jobs", "1", "--deeper", "1", "--most", "100000", "--like", "bare.txt"]
+    status, _, errors = ask(*words, "bare", "2,3", "-", text=QUIET, env=by("late"))
+    is_told = f"5,0 (f9) is taken apart by {spelled(node.attack)} ({named(node.attack, 9)})\n" in errors
+    expect("openings.py: a part that is refused", (status, "5,0 like-1-5,0 4 " in tried("bare"), is_told), (0, True, True))
+    # Black's 8,0 wins nowhere, and is given up once three replies are left.
+    like.nodes[place] = Node((8, 0), False, node.rest, [])
+    Path(folder, "bad.txt").write_text(like.text())
+    status, _, errors = ask(*words[:-1], "bad.txt", "bad", "2,3", "-", text=QUIET, env=by("spent"))
+    expect("openings.py: a first move that is none", (status, "5,0 (f9) is taken apart by 8,0 (i9)\n" in errors), (5, True))
+    expect("openings.py: it is given up", tried("bad/deeper/5,0-8,0").count("quiet-40-100000 5"), 3)
+    Path(folder, "start.txt").write_text(FOUR_AND_REPLY)
+    Path(folder, "two.txt").write_text(TABLE)
+    for name, words, said in [
+        ("a start", ["start.txt"], "start.txt is no table in which the side to move wins"),
+        ("a position", ["o/position.txt"], "o/position.txt is no table in which the side to move wins"),
+        ("another first move", ["two.txt", "o"], "the first move of two.txt is not 2,3 (c6), or it wins at once"),
+    ]:
+        status, told, errors = ask("--like", *words, *([] if words[1:] else ["q", "2,3", "-"]), text=QUIET)
+        expect(f"openings.py: {name} as a like table", (status, told, errors), (1, "", f"openings.py: {said}\n"))
+
+
+def parts():
+    """The part of a table after replies."""
+    # After 4,7 Black has four in a row: White's 3,7 is answered by 8,7, and any other reply by 3,7.
+    head = "renju-table 1\nrule freestyle\nsize 15\nblack 4,7 5,7 6,7 7,7\nwhite {}\nmoves 1\nnodes 1\n{} wins\n".format
+    expect("parts.py: a listed reply", run("parts.py", ["-", "3,7"], TABLE), (0, head("0,0 2,0 4,0 3,7", "8,7"), ""))
+    expect("parts.py: another reply", run("parts.py", ["-", "a1"], TABLE), (0, head("0,0 2,0 4,0 0,14", "3,7"), ""))
+    fails("parts.py: a win", "parts.py", ["-", "0,14", "1,14"], TABLE, r"with 1,14 \(b1\) the game is over")
+    fails("parts.py: a position", "parts.py", ["-", "3,7"], TEXT, "the text is a position, and no table")
+    fails("parts.py: a stone", "parts.py", ["-", "4,7"], TABLE, r"a stone stands on 4,7 \(e8\) already")
 
 
 def opened(ask, held, by, covered, begun):
@@ -83,7 +140,7 @@ def opened(ask, held, by, covered, begun):
     folder = held("few/replies")[left[0]].parent
     subprocess.run(["sh", "-c", "\n".join(lines)], cwd=folder.parents[1], timeout=SECONDS)
     # The first attack of a table falls on a stone, and one line didn't come to its end.
-    spoilt, empty = folder / f"{left[0]}.12.1000000.answer", folder / f"{left[1]}.1.1.answer"
+    spoilt, empty = folder / f"{left[0]}.12.100000.answer", folder / f"{left[1]}.1.1.answer"
     spoilt.write_text(re.sub(r"\n\d+,\d+( .*\n)$", r"\n2,3\1", spoilt.read_text()))
     empty.write_text("")
     status, told, errors = ask("--cover", "few")
@@ -129,4 +186,4 @@ def unopened():
         expect("openings.py: what was there", (sorted(os.listdir(folder)), os.listdir(f"{folder}/mine")), (["mine", "o"], ["opening.txt"]))
 
 
-GROUPS = (openings, unopened)
+GROUPS = (openings, unopened, parts)

@@ -2,7 +2,7 @@
 """Takes an opening apart: of a position and an attack it looks for a win after each reply, with all processors, keeps what is found in
 a folder, and has `renju join` make one table of them in the end, FOLDER/table.txt.
 
-    openings.py [--depth D] [--nodes N] [--most M] [--deeper L] [--jobs J] [--memory MB] [--cover] FOLDER [X,Y FILE]
+    openings.py [--depth D] [--nodes N] [--most M] [--deeper L] [--like FILE] [--jobs J] [--memory MB] [--cover] FOLDER [X,Y FILE]
     openings.py --lines [--depth D] [--nodes N] FOLDER [X,Y FILE]
 
 A folder begins with X,Y, the attack, and FILE, or - for standard input, a text that examples/position.py takes, or a table, whose
@@ -13,11 +13,17 @@ reply, what was tried there, the status and the seconds.
 Replies far from all stones come first. At each reply the tables found so far are tried: the nodes of one, under the position of the
 reply, are given to `renju check`, which costs less than a search, and where they are accepted the text is kept in FOLDER/served. Else
 `renju quiet D NODES` is asked, and its table is kept in FOLDER/tables. NODES begins with N, and the replies that are left are asked
-again with four times as many each time, up to M. Of replies that a symmetry of the board exchanges the first is asked. A run may take
+again with ten times as many each time, up to M. Of replies that a symmetry of the board exchanges the first is asked. A run may take
 MB of memory, or all runs at once half of the machine's, and where it runs out the reply is left.
 
-With --deeper L a reply that is left then is taken apart in turn, in a folder of FOLDER/deeper, by the first moves of the tables that
-serve most replies, or where it makes a four by what blocks that; of its own replies those that are left too, down to L levels.
+Each --like FILE is a table of a like position, whose first move is the attack too: one with a stone elsewhere, which was won before.
+It is kept in FOLDER/like, and what it answers to a reply, its part, is tried there before all others; at a reply beside the stone that
+stands elsewhere also what it answers to the stone that stands here.
+
+With --deeper L a reply that is left is taken apart in turn, in a folder of FOLDER/deeper, and of its own replies those that are left
+too, down to L levels: before more NODES by the first moves of like tables' parts, and in the end by the first moves of tables found at
+other replies, or where the reply makes a four by what blocks that. An attack is given up where many of the first replies to it are
+left, and the tables that begin with it are its like tables.
 
 --lines prints a command line of the shell for each reply that is left, for GNU parallel. What such a line writes stands beside the
 position in FOLDER/replies, and when the script goes on its table is taken in, if `renju check` accepts it.
@@ -41,9 +47,10 @@ from pathlib import Path
 
 sys.dont_write_bytecode = True
 
-from boards import ENDING, PROGRAM, Wrong, answered, asked, bytes_of, end_runs, numbers, other, read_file, saying, spelled, tell
+from boards import ENDING, PROGRAM, Table, Wrong, answered, asked, bytes_of, end_runs, numbers, other, read_file, saying, spelled, tell
 from foul import an
 from outputs import replace
+from parts import answer
 from position import EXCHANGING, IMAGES, image, points, rule_of, size_of, understood
 from solutions import all_of, both
 from solving import DEPTHS, NODES, SECONDS_OF_SILENCE, Clock, add_jobs, ranged
@@ -53,9 +60,13 @@ HEAD = re.compile(r"renju-opening 1\nattack (\d+,\d+)\n")
 MOST_FILES, MOST_ARRIVALS = 1_000, 1_000_000_000_000
 # How many tables are tried at a reply each time, and with how many arrivals.
 TRIES, FEW_ARRIVALS = 8, 10_000_000_000
-TIMES = 4
-# By how many attacks a reply that is left is taken apart.
-ATTACKS = 2
+TIMES = 10
+# How many attacks are tried at a reply that is left, and by how many of them it is taken apart in turn.
+ATTACKS, DEEPER = 8, 2
+# An attack is given up once more replies are left than these few and one of so many that were asked.
+FEW, ONE_OF = 2, 16
+# How many like tables an attack has of the tables that begin with it.
+LIKES = 3
 # The statuses of `quiet`, and of `check` of another's nodes, after which a script goes on.
 DONE, UNREAD, REFUSED, SPENT, MEMORY, FULL = 0, 3, 4, 5, 6, 12
 ANSWER = re.compile(r"(\d+,\d+)\.(\d+)\.(\d+)\.answer")
@@ -93,6 +104,21 @@ def apart(p, q):
     return max(abs(p[0] - q[0]), abs(p[1] - q[1]))
 
 
+def meant(reply, here, there):
+    """The replies of a like position that answer to one here: the same point, and for a point beside a stone that stands elsewhere here
+    the point where it stands.
+    """
+    elsewhere = [it for it in there.stones() if it not in here.stones()]
+    moved = [it for it in getattr(here, here.side()) if it not in there.stones()]
+    same = [reply] if reply not in there.stones() else []
+    return [*same, *(it for it in moved if any(apart(reply, stone) <= 1 for stone in elsewhere))]
+
+
+def first_move(path):
+    """The first move of the table in a file."""
+    return numbers(path.read_text().rstrip("\n").rpartition("\n")[2].split(" ")[0])
+
+
 class Opening:
     """A folder: a position and an attack, the replies, the tables found or served at them, and what was tried."""
 
@@ -109,7 +135,7 @@ class Opening:
                 replace(self.path("replies", reply), self.after.after(reply).text())
         self.found, self.served = ({it for it in self.replies if self.path(kind, it).exists()} for kind in ("tables", "served"))
         self.log = self.folder / "tried.txt"
-        self.tried, self.uses, self.answers = {}, Counter(), {}
+        self.tried, self.uses, self.answers, self.like, self.apart = {}, Counter(), {}, {}, set()
         self.begin()
 
     def begin(self):
@@ -123,6 +149,25 @@ class Opening:
             found = ANSWER.fullmatch(path.name)
             if found:
                 self.answers.setdefault(numbers(found.group(1)), []).append((path, f"quiet-{found.group(2)}-{found.group(3)}"))
+        self.add_like([read_file(path) for path in sorted((self.folder / "like").glob("*.txt"), key=lambda path: int(path.stem))])
+
+    def add_like(self, tables):
+        """Keeps like tables, those that it hasn't."""
+        for table in tables:
+            if table not in self.like.values():
+                number = len(self.like) + 1
+                self.like[number] = table
+                (self.folder / "like").mkdir(exist_ok=True)
+                replace(self.folder / "like" / f"{number}.txt", table.text())
+
+    def alike(self, reply):
+        """The parts of like tables for a reply, each with what is told of it in tried.txt."""
+        after = self.after.after(reply)
+        for number, table in self.like.items():
+            for it in meant(reply, self.after, table.position.after(self.attack)):
+                part = answer(table, it, after)
+                if part:
+                    yield f"like-{number}-{spelled(it)}", part
 
     def path(self, kind, reply):
         return self.folder / kind / f"{spelled(reply)}.txt"
@@ -162,23 +207,46 @@ class Opening:
             found = sorted(self.found, key=lambda it: (-self.uses[it], apart(it, reply), it))
         return [it for it in found if not self.is_lost(reply, f"table-{spelled(it)}")][:TRIES]
 
-    def attacks(self, reply):
-        """By which attacks a reply is taken apart: what keeps the other side from a five, or the first moves of the tables that serve most."""
+    def fit(self, reply, attacks):
+        """The attacks that leave something to take apart after a reply, each once."""
         position = self.after.after(reply)
-        uses = Counter(position.fives(other(position.side())))
-        for it in [] if uses else self.found:
-            last = self.path("tables", it).read_text().rstrip("\n").rpartition("\n")[2]
-            uses[numbers(last.split(" ")[0])] += 1 + self.uses[it]
-        fit = [it for it in sorted(uses, key=lambda it: (-uses[it], it)) if it in position.empties() and not end_of(position, it)]
-        return fit[:ATTACKS]
+        empties = {*position.empties()}
+        return [it for it in dict.fromkeys(attacks) if it in empties and not end_of(position, it)]
+
+    def hints(self, reply):
+        """The first moves of the parts of like tables for a reply."""
+        return self.fit(reply, [part.root().attack for _, part in self.alike(reply)])
+
+    def attacks(self, reply):
+        """By which attacks a reply may be taken apart: what keeps the other side from a five, or else the first moves of tables, those
+        that serve most first, and of the parts of like tables for all replies.
+        """
+        position = self.after.after(reply)
+        fives = position.fives(other(position.side()))
+        if fives:
+            return self.fit(reply, fives)
+        uses, likes = Counter(), Counter()
+        for it in self.found:
+            uses[first_move(self.path("tables", it))] += 1 + self.uses[it]
+        for table in self.like.values():
+            likes.update(table.nodes[place].attack for place in table.root().named())
+        ordered = [it for uses in (uses, likes) for it in sorted(uses, key=lambda it: (-uses[it], it))]
+        return self.fit(reply, ordered)[:ATTACKS]
 
     def deeper(self, reply, attack):
-        """The opening of an attack after a reply."""
+        """The opening of an attack after a reply. Its like tables are the parts for the reply, and the tables of others, that begin
+        with the attack.
+        """
         folder = self.folder / "deeper" / f"{spelled(reply)}-{spelled(attack)}"
         folder.parent.mkdir(exist_ok=True)
         if not is_opening(folder):
             begun(folder, attack, self.after.after(reply))
-        return Opening(folder)
+        found = Opening(folder)
+        others = sorted(self.found, key=lambda it: (-self.uses[it], apart(it, reply), it))
+        others = [self.path("tables", it) for it in others if first_move(self.path("tables", it)) == attack][:LIKES]
+        parts = [part for _, part in self.alike(reply) if part.root().attack == attack]
+        found.add_like([*parts, *map(read_file, others)])
+        return found
 
     def file(self, reply):
         """The file of a reply's table."""
@@ -218,6 +286,8 @@ class Work:
     def __init__(self, opening, given):
         self.opening, self.depth, self.jobs, self.memory = opening, given.depth, given.jobs, given.memory
         self.clock = Clock()
+        # Whether the attack may be given up, and is, and how many replies a round has asked in vain.
+        self.may_give_up, self.is_given_up, self.lost = False, False, 0
 
     def rounds(self, nodes, most):
         """Asks the replies that are left with more each time. It answers with how many they were asked at last."""
@@ -228,7 +298,7 @@ class Work:
             nodes = min(TIMES * nodes, most)
 
     def round(self, nodes):
-        left = self.opening.left()
+        left, self.lost = self.opening.left(), 0
         began, pool = time.monotonic(), ThreadPoolExecutor(self.jobs)
         runs = [pool.submit(self.settle, reply, nodes) for reply in left]
         try:
@@ -255,8 +325,11 @@ class Work:
 
     def settle(self, reply, nodes):
         """Looks for a table at a reply: in what stands beside its position, among those found so far, and by a search."""
-        if not (self.take_in(reply) or self.serve(reply)):
-            self.search(reply, nodes)
+        if self.is_given_up or self.take_in(reply) or self.serve(reply) or self.search(reply, nodes):
+            return
+        self.lost += 1
+        asked = len(self.opening.found) + len(self.opening.served) + self.lost
+        self.is_given_up = self.may_give_up and self.lost > FEW + asked // ONE_OF
 
     def run(self, words, text):
         """What the program says, its status, and its seconds."""
@@ -290,44 +363,80 @@ class Work:
         return reply in self.opening.found
 
     def serve(self, reply):
-        """Tries the tables found so far at a reply. It says whether one is accepted there."""
-        for source in self.opening.sources(reply):
-            text = self.opening.under(reply, self.opening.path("tables", source).read_text())
-            _, status, seconds = self.run(["check", FEW_ARRIVALS], text)
-            if status == DONE:
-                self.opening.put("served", reply, text)
-            self.opening.add(reply, f"table-{spelled(source)}", status, seconds)
-            if status == DONE:
+        """Tries the parts of like tables at a reply, and the tables found so far. It says whether one is accepted there."""
+        opening = self.opening
+        for what, part in opening.alike(reply):
+            if not opening.is_lost(reply, what) and self.is_accepted(reply, what, "tables", part.text()):
+                return True
+        for source in opening.sources(reply):
+            text = opening.under(reply, opening.path("tables", source).read_text())
+            if self.is_accepted(reply, f"table-{spelled(source)}", "served", text):
                 return True
         return False
 
+    def is_accepted(self, reply, what, kind, text):
+        """Whether a table is accepted at a reply, which then keeps it."""
+        _, status, seconds = self.run(["check", FEW_ARRIVALS], text)
+        if status == DONE:
+            self.opening.put(kind, reply, text)
+        self.opening.add(reply, what, status, seconds)
+        return status == DONE
+
     def search(self, reply, nodes):
+        """Searches a table at a reply, where it wasn't done before. It says whether there is one."""
         what = f"quiet-{self.depth}-{nodes}"
         if self.opening.is_lost(reply, what):
-            return
+            return False
         text, status, seconds = self.run(["quiet", self.depth, nodes], self.opening.after.after(reply).text())
         if status == DONE:
             self.opening.put("tables", reply, text)
         self.opening.add(reply, what, status, seconds)
+        return status == DONE
 
 
-def asked_deeper(opening, given, levels):
-    """Asks the replies that are left, and takes those that are left then apart in turn, down to some levels. It answers with how many
-    nodes they were asked at last.
+def asked_deeper(opening, given, levels, whole=True):
+    """Asks the replies that are left, and takes those that are left then apart in turn, down to some levels; where not the whole is
+    wanted it ends with a reply that stays left. It answers with how many nodes they were asked at last.
     """
-    work = Work(opening, given)
-    nodes = work.rounds(min(given.nodes, given.most), given.most)
+    work, nodes = Work(opening, given), min(given.nodes, given.most)
+    work.round(nodes)
     for reply in opening.left() if levels else []:
-        if work.serve(reply):
-            continue
-        for attack in opening.attacks(reply):
-            tell(f"{both(reply, opening.after)} is taken apart by {both(attack, opening.after)}")
-            inner = opening.deeper(reply, attack)
-            asked_deeper(inner, given, levels - 1)
-            if not inner.left() and joined(inner)[1] == DONE:
-                opening.put("tables", reply, (inner.folder / "table.txt").read_text())
-                break
+        taken_apart(work, given, levels, reply, opening.hints)
+    nodes = work.rounds(nodes, given.most)
+    for reply in opening.left() if levels else []:
+        if not taken_apart(work, given, levels, reply, opening.attacks) and not whole:
+            break
     return nodes
+
+
+def taken_apart(work, given, levels, reply, attacks):
+    """Takes a reply apart by attacks that weren't tried there. It says whether the reply has a table now."""
+    opening, hopes = work.opening, []
+    if work.serve(reply):
+        return True
+    for attack in [it for it in attacks(reply) if (reply, it) not in opening.apart]:
+        tell(f"{both(reply, opening.after)} is taken apart by {both(attack, opening.after)}")
+        opening.apart.add((reply, attack))
+        inner = Work(opening.deeper(reply, attack), given)
+        inner.may_give_up = True
+        inner.round(min(given.nodes, given.most))
+        if is_joined(opening, reply, inner.opening):
+            return True
+        if not inner.is_given_up:
+            hopes.append(inner.opening)
+    for inner in sorted(hopes, key=lambda inner: len(inner.left()))[:DEEPER]:
+        asked_deeper(inner, given, levels - 1, False)
+        if is_joined(opening, reply, inner):
+            return True
+    return False
+
+
+def is_joined(opening, reply, inner):
+    """Whether the tables of an attack's replies are joined into one, which then is the table of the reply before the attack."""
+    if inner.left() or joined(inner)[1] != DONE:
+        return False
+    opening.put("tables", reply, (inner.folder / "table.txt").read_text())
+    return True
 
 
 def lines(opening, depth, nodes):
@@ -370,7 +479,7 @@ def is_opening(folder):
 
 def opening_of(given):
     """The opening of the folder, which begins where an attack and a position are given and it isn't there."""
-    folder = Path(given.folder)
+    folder, likes = Path(given.folder), [(file, like_table(file)) for file in given.like]
     has_begun = is_opening(folder)
     if given.attack:
         position = understood(bytes_of(given.file), given.rule and rule_of(given.rule), given.size and size_of(given.size))
@@ -384,7 +493,18 @@ def opening_of(given):
     opening = Opening(folder)
     if given.attack and (opening.attack, opening.position.text()) != (attack, position.text()):
         raise Wrong(f"{folder} is of another opening; name another folder")
+    for file, table in likes:
+        if table.root().attack != opening.attack or table.root().wins:
+            raise Wrong(f"the first move of {file} is not {both(opening.attack, opening.position)}, or it wins at once")
+    opening.add_like([table for _, table in likes])
     return opening
+
+
+def like_table(file):
+    table = read_file(file)
+    if not isinstance(table, Table) or table.start:
+        raise Wrong(f"{file} is no table in which the side to move wins")
+    return table
 
 
 def memory_of(given):
@@ -397,8 +517,9 @@ def memory_of(given):
 def main():
     words = argparse.ArgumentParser(description=__doc__, formatter_class=argparse.RawDescriptionHelpFormatter)
     words.add_argument("--depth", type=ranged(*DEPTHS, "DEPTH"), default=40, metavar="D", help="the most moves after a reply; 40")
-    words.add_argument("--nodes", type=ranged(*NODES, "NODES"), default=1_000_000, metavar="N", help="NODES at first; 1,000,000")
-    words.add_argument("--most", type=ranged(*NODES, "NODES"), default=4_000_000, metavar="M", help="the most of NODES; 4,000,000")
+    words.add_argument("--nodes", type=ranged(*NODES, "NODES"), default=100_000, metavar="N", help="NODES at first; 100,000")
+    words.add_argument("--most", type=ranged(*NODES, "NODES"), default=1_000_000, metavar="M", help="the most of NODES; 1,000,000")
+    words.add_argument("--like", action="append", default=[], metavar="FILE", help="a table of a like opening")
     words.add_argument("--deeper", type=ranged(0, 10, "LEVELS"), default=0, metavar="L", help="levels below; 0")
     add_jobs(words)
     words.add_argument("--memory", type=ranged(64, 1_000_000, "MB"), metavar="MB", help="the most memory of a run")
