@@ -10,6 +10,7 @@ unfoldable pub use Rattle.threat_game.specs.NearDoubles.{makes_on}
 pub use Rattle.threat_game.specs.QuietPoints.{HasTwoQuiet, IsQuiet}
 pub use Rattle.threat_game.specs.Replies.{AreChildren, AreJudged, AreKept, AreReplies, AreStopped, EscapesBy, HasEscape, IsBeside, IsChild}
 pub use Rattle.threat_game.specs.Replies.{AreJudgedInPart, IsJudged, IsJudgedDouble, IsJudgement, IsKeptAt, IsMetAt, StandsBy, StopsDoubles}
+pub use Rattle.threat_game.specs.Replies.{TellsUnmet}
 pub use Rattle.threat_game.specs.Replies.{answer_nodes}
 pub use Rattle.threat_game.specs.Replies.{counted_for, first_with, has_reply_at, has_reply_beside, is_met, is_open, is_same_double}
 pub use Rattle.threat_game.specs.Replies.{is_standing}

@@ -8,6 +8,8 @@ pub mod ReplyLaws
 pub mod TreeLaws
 -- one reply that stands for others
 pub mod Kept
+-- replies after which the win of the first one wins too, and those that have to be asked
+mod MetLaws
 -- wins by a double point, their nodes, and new double points
 pub mod DoubleLaws
 -- the node of a double point that answers all replies

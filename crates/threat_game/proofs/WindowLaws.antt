@@ -1,5 +1,5 @@
 -- What a stone outside the open windows of its side does not make.
-use Rattle.std.proofs.Common.{◌≡◌, ◌∙◌, ℕ, List, refl, subst, Bool, true, false, [], arith, ap, sym}
+use Rattle.std.proofs.Common.{◌≡◌, ◌∙◌, refl, Bool, true, false, [], arith, ap, sym}
 use Rattle.std.proofs.lemmas.Bool.{false_from_ne_true, both_ways}
 use Rattle.game_rules.proofs.Common.{Grid, IsBoard, is_empty, put, has_five, has_threat, is_double_point}
 use Rattle.game_rules.proofs.Boards.{and_left, and_right}
@@ -9,7 +9,6 @@ use Rattle.game_rules.specs.declared.Point.{Point}
 use Rattle.row_shapes.specs.FivePoints.{is_several}
 use Rattle.row_shapes.proofs.FiveLaws.{none-short}
 use Rattle.open_windows.specs.OpenWindows.{in_window}
-use Rattle.open_windows.specs.PointSets.{TellsWindows}
 use Rattle.open_windows.proofs.Fewer.{in-fewer}
 use Rattle.open_windows.proofs.NewFives.{five-in}
 use Rattle.threat_moves.proofs.GainLaws.{double-empty, threat-by_double}

@@ -2,7 +2,7 @@
 use Rattle.std.specs.Prelude.{◌≡◌, ℕ, ◌+◌, ◌<◌, ◌≤◌, nat_eq, Bool, false, true, ◌&&◌, not, if◌then◌else◌, List, [], ◌∷◌, map, length, All}
 use Rattle.std.specs.Prelude.{Option, Some, None, Contains, take}
 use Rattle.std.specs.List.{list_any, filter, find, sum_by}
-use Rattle.game_rules.specs.Grid.{Grid, points_of, put}
+use Rattle.game_rules.specs.Grid.{Grid, points_of, is_on, put}
 use Rattle.game_rules.specs.Shapes.{five, is_same_point}
 use Rattle.game_rules.specs.Play.{outcome, mover, after, goes_on, other}
 use Rattle.game_rules.specs.Games.{WinsByThreats, has_five, five_points, is_double_point, behind_replies}
@@ -10,6 +10,7 @@ use Rattle.game_rules.specs.declared.RuleKind.{RuleKind}
 use Rattle.game_rules.specs.declared.Side.{Side}
 use Rattle.game_rules.specs.declared.Outcome.TheVariants.{GoesOn}
 use Rattle.game_rules.specs.declared.Point.{Point}
+use Rattle.open_windows.specs.PointSets.{has_point}
 use Rattle.strategy_graph.specs.declared.Node.{Node}
 use Rattle.strategy_graph.specs.declared.Rest.TheVariants.{To}
 use Rattle.threat_game.specs.declared.doubles.DoublePoint.{DoublePoint}
@@ -187,11 +188,18 @@ pub record IsMetAt (rule : RuleKind) (c : Grid) (first : Option Child) (q : Poin
   pub is : IsJudged rule (after c q) judged
   pub met : is_met first judged ≡ true
 
--- The win after this first reply stands by the double point: what is judged of each reply beside it that goes on and leaves neither side a
--- five point may be that the double point wins, and then it is met.
+-- The win after this first reply stands by the double point, whose points are on the board: after each reply beside it that goes on and
+-- leaves neither side a five point, the win after the first wins.
 pub record StandsBy (rule : RuleKind) (c : Grid) (first : Option Child) (d : DoublePoint) : Type 0 where
+  pub at_on : is_on c d.at ≡ true
+  pub first_on : is_on c d.first ≡ true
+  pub second_on : is_on c d.second ≡ true
   pub met : (q : Point) → outcome rule c q ≡ GoesOn → IsBeside d q → has_five rule (after c q) (mover (after c q)) ≡ false
       → has_five rule (after c q) (mover c) ≡ false → IsMetAt rule c first q
+
+-- the win after this first reply wins after each other reply that goes on and is not of the set
+pub record TellsUnmet (rule : RuleKind) (c : Grid) (first : Option Child) (set : List ℕ) : Type 0 where
+  pub met : (q : Point) → outcome rule c q ≡ GoesOn → has_point set q ≡ false → IsMetAt rule c first q
 
 -- the child before the others, if there is one
 abbrev pub put_first : Option Child → List Child → List Child

@@ -6,14 +6,14 @@
 //! no point makes two five points yet, one that leaves a double point lies in a window with two. No other is looked at.
 #![tactic(auto)]
 
-ghost use Rattle.std.specs.Prelude.{◌≡◌, ◌&&◌, not, true, false, All, IfOk, IfSome, IfNone, IsTrue};
+ghost use Rattle.std.specs.Prelude.{◌≡◌, ◌<◌, ◌&&◌, not, true, false, All, IfOk, IfSome, IfNone, IsTrue};
 ghost use Rattle.std.specs.List.{list_any};
 ghost use Rattle.game_rules.specs.Grid.{Grid, is_empty};
 ghost use Rattle.game_rules.specs.Shapes.{is_same_point};
 ghost use Rattle.game_rules.specs.Play.{IsPosition, outcome as outcome_lem, mover, other, after, goes_on as goes_on_lem};
 ghost use Rattle.game_rules.specs.Games.{has_five as has_five_lem, five_points as five_points_lem, has_threat};
 ghost use Rattle.row_shapes.specs.FivePoints.{in_short};
-ghost use Rattle.open_windows.specs.PointSets.{TellsWindows};
+ghost use Rattle.open_windows.specs.PointSets.{has_point, TellsWindows};
 ghost use Rattle.threat_game.specs.ThreatGame.{is_threat_move as is_threat_move_lem};
 ghost use Rattle.threat_game.specs.FreeMoves.{EachGoesOn};
 ghost use Rattle.threat_game.specs.NearDoubles.{is_some_point as is_some_point_lem, makes_two as makes_two_lem};
@@ -29,7 +29,7 @@ use foul_judge::{Outcome, Seen};
 use open_windows::{PointSet, window_points};
 use row_shapes::{FivePoints, Rule, takes};
 use std::alloc::{AllocError, Global};
-use stone_board::{Board, Point, Points};
+use stone_board::{Board, MAX_SIDE, Point, Points};
 use threat_moves::{is_four_move, is_three_move};
 
 /// What the moves of the attacker come to, where it has no five point and two moves or more.
@@ -165,6 +165,17 @@ pub(crate) fn is_some_point(fives: FivePoints) -> bool
     ensures some { result ≡ is_some_point_lem fives }
 {
     !matches!(fives, FivePoints::None)
+}
+
+/// The set of this point alone.
+pub(crate) fn the_point(p: Point) -> PointSet
+    requires column { p.x < MAX_SIDE }
+    requires row { p.y < MAX_SIDE }
+    ensures point { (q : Point) → has_point result q ≡ is_same_point q p }
+{
+    let mut points = PointSet::empty();
+    points.add(p);
+    points
 }
 
 /// The open windows of a side.

@@ -5,11 +5,11 @@
 //! the attacker has one or two moves left it is seen at once whether a reply escapes.
 //!
 //! A win after one reply mostly wins after others too, since it plays on the same points. So one reply stands for all of them,
-//! and only the others beside it are children. Where it is seen without a stone that the win stands after a reply, nothing else is
-//! asked of this reply.
+//! and only the others beside it are children. From it on only the points are asked at which another reply may not be met by its win: by a
+//! five point, this point alone; by a double point, its points, and those of the windows in which the defender may make a five point.
 #![tactic(auto)]
 
-ghost use Rattle.std.specs.Prelude.{◌≡◌, ◌<◌, ◌≤◌, ◌+◌, ℕ, true, false, All, length, IfOk, IfSome, IfNone, IsTrue, is_none, IsErrOf, OnOk, [], ◌∷◌, ◌++◌, not};
+ghost use Rattle.std.specs.Prelude.{◌≡◌, ◌<◌, ◌≤◌, ◌+◌, ℕ, true, false, All, length, IfOk, IfSome, IfNone, IsTrue, is_none, IsErrOf, OnOk, Some, slice_get, [], ◌∷◌, ◌++◌, not};
 ghost use Rattle.std.specs.List.{find, sum_by};
 ghost use Rattle.game_rules.specs.Grid.{Grid, is_empty};
 ghost use Rattle.game_rules.specs.Shapes.{is_same_point};
@@ -20,10 +20,10 @@ ghost use Rattle.strategy_graph.specs.declared.TheConstants.{MAX_NODES};
 ghost use Rattle.strategy_compiler.specs.Growth.{GrowsBy};
 ghost use Rattle.threat_game.specs.FreeMoves.{EachGoesOn};
 ghost use Rattle.threat_game.specs.Attacks.{has_reply, is_last_move, IsKept, IsStillKept};
-ghost use Rattle.threat_game.specs.Replies.{AreKept, AreReplies, AreStopped, AreJudgedInPart, HasEscape, IfEscape, IsChild, IsJudged, IsJudgement, IsBeside, is_beside as is_beside_lem, moves_for, is_open as is_open_lem, is_standing as is_standing_lem, is_same_double as is_same_double_lem, stands_for as stands_for_lem, is_met as is_met_lem, IsMetAt, StandsBy, first_with as first_with_lem, put_first, kept_children, counted_for, nodes_for};
+ghost use Rattle.threat_game.specs.Replies.{AreKept, AreReplies, AreStopped, AreJudgedInPart, HasEscape, IfEscape, IsChild, IsJudged, IsJudgement, IsBeside, is_beside as is_beside_lem, moves_for, is_open as is_open_lem, is_standing as is_standing_lem, is_same_double as is_same_double_lem, stands_for as stands_for_lem, is_met as is_met_lem, IsMetAt, StandsBy, TellsUnmet, first_with as first_with_lem, put_first, kept_children, counted_for, nodes_for};
 ghost use Rattle.threat_game.specs.Wins.{IsThreatWin};
 
-use crate::attacks::{each_goes_on, fives_by, goes_on_where, is_some_point};
+use crate::attacks::{each_goes_on, fives_by, goes_on_where, is_some_point, the_point};
 use crate::doubles::{
     DoublePoint, Kept, answers_to_win, compile_double, compile_standing, first_doubles,
 };
@@ -257,9 +257,6 @@ fn each_reply<R: Rule, V: Seen<R>>(
     ensures same { V.position view.new ≡ V.position view.old }
     ensures same_board { board.new ≡ board.old }
 {
-    let mut part = Vec::new(alloc);
-    let mut first = None;
-    let mut standing = None;
     let windows = window_points(view.board(), view.side(), 3);
     let known = BeforeReplies {
         free: each_goes_on::<R, V>(view),
@@ -267,7 +264,11 @@ fn each_reply<R: Rule, V: Seen<R>>(
         doubles,
         windows: &windows,
     };
-    for q in view.board().points() {
+    let mut part = Vec::new(alloc);
+    let mut first = None;
+    let mut standing = None;
+    let mut points = PointSet::all().points(view.board());
+    while let Some(q) = points.next() {
         if !is_met_at::<R, V>(view, known, first, standing, q) {
             match judge::<R, V>(alloc, view, board, known, q, moves)? {
                 Judgement::NoReply => {}
@@ -277,6 +278,7 @@ fn each_reply<R: Rule, V: Seen<R>>(
                     part.push(child)?;
                     first = first_with(first, child);
                     standing = standing_double::<R, V>(view, doubles, first);
+                    points.keep(&unmet_points::<R, V>(view, known, first, standing));
                 }
             }
         }
@@ -349,6 +351,63 @@ fn standing_double<R: Rule, V: Seen<R>>(
         return None;
     }
     Some(kept.double)
+}
+
+/// The points at which the win after this first reply is not known to win after another reply: where it is by the first of the five points,
+/// that alone, and where it stands by this double point, the windows of the defender and the double point's own.
+fn unmet_points<R: Rule, V: Seen<R>>(
+    view: &V,
+    known: BeforeReplies,
+    first: Option<Child>,
+    standing: Option<DoublePoint>,
+) -> PointSet
+    requires lawful { IsPosition R.KIND (V.position view.now) }
+    requires no_five { has_five_lem R.KIND (V.position view.now) (mover (V.position view.now)) ≡ false }
+    requires fives { known.fives.now ≡ five_points_lem R.KIND (V.position view.now) (other (mover (V.position view.now))) }
+    requires windows { TellsWindows (V.position view.now) (mover (V.position view.now)) 3 known.windows.now }
+    requires stands { IfSome standing (StandsBy R.KIND (V.position view.now) first) }
+    ensures unmet { TellsUnmet R.KIND (V.position view.now) first result }
+{
+    match known.fives.as_slice() {
+        [five, ..] => unmet_by_five::<R, V>(view, first, *five),
+        [] => match standing {
+            Some(double) => unmet_by_double::<R, V>(view, known.windows, first, double),
+            None => PointSet::all(),
+        },
+    }
+}
+
+/// The same where this is the first five point of the attacker.
+fn unmet_by_five<R: Rule, V: Seen<R>>(view: &V, first: Option<Child>, five: Point) -> PointSet
+    requires lawful { IsPosition R.KIND (V.position view.now) }
+    requires five { slice_get (five_points_lem R.KIND (V.position view.now) (other (mover (V.position view.now)))) 0 ≡ Some five }
+    ensures unmet { TellsUnmet R.KIND (V.position view.now) first result }
+{
+    if !is_met(first, Judged::Five(five)) {
+        return PointSet::all();
+    }
+    the_point(five)
+}
+
+/// The same where the attacker has no five point, and the win stands by this double point.
+fn unmet_by_double<R: Rule, V: Seen<R>>(
+    view: &V,
+    windows: &PointSet,
+    first: Option<Child>,
+    double: DoublePoint,
+) -> PointSet
+    requires lawful { IsPosition R.KIND (V.position view.now) }
+    requires no_five { has_five_lem R.KIND (V.position view.now) (mover (V.position view.now)) ≡ false }
+    requires safe { has_five_lem R.KIND (V.position view.now) (other (mover (V.position view.now))) ≡ false }
+    requires windows { TellsWindows (V.position view.now) (mover (V.position view.now)) 3 windows.now }
+    requires stands { StandsBy R.KIND (V.position view.now) first double }
+    ensures unmet { TellsUnmet R.KIND (V.position view.now) first result }
+{
+    let mut points = *windows;
+    points.add(double.at);
+    points.add(double.first);
+    points.add(double.second);
+    points
 }
 
 /// How many positions of the attacker are counted for one that is judged so.

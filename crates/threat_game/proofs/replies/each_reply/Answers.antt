@@ -1,25 +1,29 @@
-use Rattle.std.proofs.Common.{rules, ◌≡◌, refl, sym, ap, subst, ◌∙◌, arith, find, List, [], ◌∷◌, Option, IfSome, All}
+use Rattle.std.proofs.Common.{rules, ◌≡◌, refl, sym, ap, subst, ◌∙◌, arith, find, List, [], ◌∷◌, Option, None, IfSome, All, filter, length}
+use Rattle.std.proofs.Common.{not}
 use Rattle.std.proofs.lemmas.Grind.{common_steps}
+use Rattle.std.proofs.lemmas.List.Filters.{length-filter_both}
 use Rattle.game_rules.proofs.Common.{Grid, IsPosition, points_of, five_points, has_five, mover, other}
-use Rattle.open_windows.specs.PointSets.{TellsWindows}
+use Rattle.open_windows.specs.PointSets.{has_point, TellsWindows}
 use Rattle.threat_game.specs.declared.replies.Child.{Child}
-use Rattle.threat_game.proofs.Common.{AreKept, EachGoesOn, EscapesBy, IsJudgement, IsKept, IsMetAt, StandsBy, first_with}
+use Rattle.threat_game.proofs.Common.{AreKept, EachGoesOn, EscapesBy, IsJudgement, IsKept, IsMetAt, StandsBy, TellsUnmet, first_with}
 use Rattle.threat_game.proofs.Kept.{first-more, stands}
-use Rattle.threat_game.proofs.ReplyLaws.{PartSoFar, all-in_part, part-met, part-more, part-none, part-pass}
+use Rattle.threat_game.proofs.MetLaws.{PartLeft, left-all, left-met, left-more, left-none, left-pass, passes-none}
 use Rattle.open_windows.proofs.Points.{windows-of}
 use Rattle.threat_game.proofs.replies.each_reply.Goals as goal
 
 pub loop-q-init : goal.loop-q-init
-loop-q-init g c = record {
-  same = refl;
-  same_board = refl;
-  first = ap (find stands) (sym c.new-part.ensures.items);
-  standing = tt;
-  so_far = subst (λ (part : List Child). PartSoFar g.R.Rule.KIND c.args.moves (g.V.Seen.position c.args.view.now) part
-      c.into_iter-q-iterator.result) (sym c.new-part.ensures.items)
-      (part-none g.R.Rule.KIND c.args.moves (g.V.Seen.position c.args.view.now) c.into_iter-q-iterator.result
-      (c.into_iter-q-iterator.ensures.into_iter_gives ∙ c.points-q-items.ensures.points ∙ ap points_of c.board-2.ensures.board));
-}
+loop-q-init g c =
+    let b : Grid = g.V.Seen.position c.args.view.now in record {
+      same = refl;
+      same_board = refl;
+      first = ap (find stands) (sym c.new-part.ensures.items);
+      standing = tt;
+      so_far = subst (λ (part : List Child). PartLeft g.R.Rule.KIND c.args.moves b part c.points-points.result)
+          (sym c.new-part.ensures.items)
+          (left-all g.R.Rule.KIND c.args.moves b c.points-points.result (has_point c.all.result)
+          (c.points-points.ensures.points ∙ ap (λ (w : Grid). filter (has_point c.all.result) (points_of w)) c.board-2.ensures.board)
+          (passes-none g.R.Rule.KIND b c.requires.lawful None c.all.result c.all.ensures.all));
+    }
 
 pub is_met_at-requires-clause-lawful : goal.is_met_at-requires-clause-lawful
 is_met_at-requires-clause-lawful g c = subst (λ (b : Grid). IsPosition g.R.Rule.KIND b) (sym c.loop-q.invariant.same) c.requires.lawful
@@ -47,52 +51,61 @@ standing_double-standing-requires-clause-doubles g c =
 
 pub loop-q-preserved : goal.loop-q-preserved
 loop-q-preserved g c =
-    let next : c.loop-q.q-iterator ≡ c.in-Some.q ∷ c.next.new.self = first_of (search rules, grind (arith, common_steps)) in record {
+    let next : c.loop-q.points ≡ c.in-Some.q ∷ c.next.new.self = first_of (search rules, grind (arith, common_steps)) in record {
       same = c.loop-q.invariant.same;
       same_board = c.loop-q.invariant.same_board;
       first = c.loop-q.invariant.first;
       standing = c.loop-q.invariant.standing;
-      so_far = part-met g.R.Rule.KIND c.args.moves (g.V.Seen.position c.args.view.now) c.loop-q.part.items c.in-Some.q c.next.new.self
-          c.loop-q.q-iterator next c.loop-q.invariant.so_far (g.V.Seen.position c.loop-q.view) c.loop-q.invariant.same
+      so_far = left-met g.R.Rule.KIND c.args.moves (g.V.Seen.position c.args.view.now) c.loop-q.part.items c.loop-q.points
+          c.loop-q.invariant.so_far c.in-Some.q c.next.new.self next (g.V.Seen.position c.loop-q.view)
+          c.loop-q.invariant.same
           (λ on. subst (λ (o : Option Child). IsMetAt g.R.Rule.KIND (g.V.Seen.position c.loop-q.view) o c.in-Some.q)
           c.loop-q.invariant.first (c.is_met_at.ensures.met c.if-not-is_met_at.false on));
     }
 
 pub loop-q-preserved-in-NoReply : goal.loop-q-preserved-in-NoReply
 loop-q-preserved-in-NoReply g c =
-    let next : c.loop-q.q-iterator ≡ c.in-Some.q ∷ c.next.new.self = first_of (search rules, grind (arith, common_steps)) in record {
+    let next : c.loop-q.points ≡ c.in-Some.q ∷ c.next.new.self = first_of (search rules, grind (arith, common_steps)) in record {
       same = c.judge.ensures.same ∙ c.loop-q.invariant.same;
       same_board = c.judge.ensures.same_board ∙ c.loop-q.invariant.same_board;
       first = c.loop-q.invariant.first;
       standing = c.loop-q.invariant.standing;
-      so_far = part-pass g.R.Rule.KIND c.args.moves (g.V.Seen.position c.args.view.now) c.loop-q.part.items c.in-Some.q c.next.new.self
-          c.loop-q.q-iterator next c.loop-q.invariant.so_far (g.V.Seen.position c.loop-q.view) c.loop-q.invariant.same
+      so_far = left-pass g.R.Rule.KIND c.args.moves (g.V.Seen.position c.args.view.now) c.loop-q.part.items c.loop-q.points
+          c.loop-q.invariant.so_far c.in-Some.q c.next.new.self next (g.V.Seen.position c.loop-q.view)
+          c.loop-q.invariant.same
           (subst (IsJudgement g.R.Rule.KIND c.args.moves (g.V.Seen.position c.loop-q.view) c.in-Some.q) c.in-NoReply.is
           c.in_ok-judge.ensures.judgement);
     }
 
 pub loop-q-preserved-in-Known : goal.loop-q-preserved-in-Known
 loop-q-preserved-in-Known g c =
-    let next : c.loop-q.q-iterator ≡ c.in-Some.q ∷ c.next.new.self = first_of (search rules, grind (arith, common_steps)) in record {
-      same = c.judge.ensures.same ∙ c.loop-q.invariant.same;
+    let b : Grid = g.V.Seen.position c.args.view.now in
+    let next : c.loop-q.points ≡ c.in-Some.q ∷ c.next.new.self = first_of (search rules, grind (arith, common_steps)) in
+    let same = c.judge.ensures.same ∙ c.loop-q.invariant.same in
+    let first = c.first_with-first.ensures.first
+    ∙ ap (λ (o : Option Child). first_with o (record { at = c.in-Some.q; judged = c.in-Known.judged })) c.loop-q.invariant.first
+    ∙ sym (first-more c.loop-q.part.items (record { at = c.in-Some.q; judged = c.in-Known.judged }))
+    ∙ ap (find stands) (sym c.in_ok-push-in-Known.ensures.items) in record {
+      same = same;
       same_board = c.judge.ensures.same_board ∙ c.loop-q.invariant.same_board;
-      first = c.first_with-first.ensures.first
-          ∙ ap (λ (o : Option Child). first_with o (record { at = c.in-Some.q; judged = c.in-Known.judged })) c.loop-q.invariant.first
-          ∙ sym (first-more c.loop-q.part.items (record { at = c.in-Some.q; judged = c.in-Known.judged }))
-          ∙ ap (find stands) (sym c.in_ok-push-in-Known.ensures.items);
-      standing = subst (λ (b : Grid). IfSome c.standing_double-standing.result (StandsBy g.R.Rule.KIND b c.first_with-first.result))
-          (c.judge.ensures.same ∙ c.loop-q.invariant.same) c.standing_double-standing.ensures.stands;
-      so_far = part-more g.R.Rule.KIND c.args.moves (g.V.Seen.position c.args.view.now) c.loop-q.part.items c.in-Some.q c.next.new.self
-          c.loop-q.q-iterator next c.loop-q.invariant.so_far (g.V.Seen.position c.loop-q.view) c.loop-q.invariant.same c.in-Known.judged
+      first = first;
+      standing = subst (λ (w : Grid). IfSome c.standing_double-standing.result (StandsBy g.R.Rule.KIND w c.first_with-first.result)) same
+          c.standing_double-standing.ensures.stands;
+      so_far = left-more g.R.Rule.KIND c.args.moves b c.loop-q.part.items c.loop-q.points c.loop-q.invariant.so_far
+          c.in-Some.q c.next.new.self next (g.V.Seen.position c.loop-q.view) c.loop-q.invariant.same c.in-Known.judged
           (subst (IsJudgement g.R.Rule.KIND c.args.moves (g.V.Seen.position c.loop-q.view) c.in-Some.q) c.in-Known.is
-          c.in_ok-judge.ensures.judgement) c.push.new.self.items c.in_ok-push-in-Known.ensures.items;
+          c.in_ok-judge.ensures.judgement) c.push.new.self.items c.in_ok-push-in-Known.ensures.items c.unmet_points.result
+          (subst (λ (w : Grid). TellsUnmet g.R.Rule.KIND w (find stands c.push.new.self.items) c.unmet_points.result) same
+          (subst (λ (o : Option Child). TellsUnmet g.R.Rule.KIND (g.V.Seen.position c.judge.new.view) o c.unmet_points.result) first
+          c.unmet_points.ensures.unmet))
+          c.keep.new.self c.keep.ensures.kept;
     }
 
 pub returns-clause-judged : goal.returns-clause-judged
 returns-clause-judged g c =
-    let done : c.loop-q.q-iterator ≡ [] = first_of (search rules, grind (arith, common_steps)) in
-    all-in_part g.R.Rule.KIND c.args.moves (g.V.Seen.position c.args.view.now) c.loop-q.part.items c.loop-q.q-iterator done
-    c.loop-q.invariant.so_far
+    let done : c.loop-q.points ≡ [] = first_of (search rules, grind (arith, common_steps)) in
+    left-none g.R.Rule.KIND c.args.moves (g.V.Seen.position c.args.view.now) c.loop-q.part.items c.loop-q.points
+    c.loop-q.invariant.so_far done
 
 pub judge-requires-clause-lawful : goal.judge-requires-clause-lawful
 judge-requires-clause-lawful g c = subst (λ (b : Grid). IsPosition g.R.Rule.KIND b) (sym c.loop-q.invariant.same) c.requires.lawful
@@ -135,3 +148,30 @@ judge-requires-clause-windows g c =
     let b : Grid = g.V.Seen.position c.args.view.now in
     subst (λ (w : Grid). TellsWindows w (mover w) 3 c.window_points-windows.result) (sym c.loop-q.invariant.same)
     (windows-of _ b _ (mover b) 3 _ c.board.ensures.board c.side.ensures.side c.window_points-windows.ensures.points)
+
+pub unmet_points-requires-clause-lawful : goal.unmet_points-requires-clause-lawful
+unmet_points-requires-clause-lawful g c = subst (λ (b : Grid). IsPosition g.R.Rule.KIND b)
+    (sym (c.judge.ensures.same ∙ c.loop-q.invariant.same)) c.requires.lawful
+
+pub unmet_points-requires-clause-no_five : goal.unmet_points-requires-clause-no_five
+unmet_points-requires-clause-no_five g c =
+    ap (λ (b : Grid). has_five g.R.Rule.KIND b (mover b)) (c.judge.ensures.same ∙ c.loop-q.invariant.same) ∙ c.requires.no_five
+
+pub unmet_points-requires-clause-fives : goal.unmet_points-requires-clause-fives
+unmet_points-requires-clause-fives g c = c.requires.fives
+    ∙ ap (λ (b : Grid). five_points g.R.Rule.KIND b (other (mover b))) (sym (c.judge.ensures.same ∙ c.loop-q.invariant.same))
+
+pub unmet_points-requires-clause-windows : goal.unmet_points-requires-clause-windows
+unmet_points-requires-clause-windows g c =
+    let b : Grid = g.V.Seen.position c.args.view.now in
+    subst (λ (w : Grid). TellsWindows w (mover w) 3 c.window_points-windows.result) (sym (c.judge.ensures.same ∙ c.loop-q.invariant.same))
+    (windows-of _ b _ (mover b) 3 _ c.board.ensures.board c.side.ensures.side c.window_points-windows.ensures.points)
+
+pub loop-q-smaller-in-Known : goal.loop-q-smaller-in-Known
+loop-q-smaller-in-Known g c =
+    let next : c.loop-q.points ≡ c.in-Some.q ∷ c.next.new.self = first_of (search rules, grind (arith, common_steps)) in
+    let all = ap length next in
+    let kept = ap length c.keep.ensures.kept in
+    let fewer = length-filter_both (has_point c.unmet_points.result) (λ p. not (has_point c.unmet_points.result p)) (λ p. refl)
+    c.next.new.self in
+    omega (arith, all, kept, fewer)

@@ -1,7 +1,7 @@
-use Rattle.std.proofs.Common.{◌≡◌, find, IfSome}
+use Rattle.std.proofs.Common.{◌≡◌, find, length, IfSome}
 use Rattle.threat_game.proofs.Common.{StandsBy}
 use Rattle.threat_game.proofs.Kept.{stands}
-use Rattle.threat_game.proofs.ReplyLaws.{PartSoFar}
+use Rattle.threat_game.proofs.MetLaws.{PartLeft}
 use Rattle.threat_game.proofs.replies.each_reply.Given as goal
 
 -- the view is as before, and the board; what is judged is of the replies before the points left, in part, this is its first, and its win
@@ -12,5 +12,8 @@ invariant-loop-q g l = record {
   same_board : l.board ≡ l.fn.board;
   first : l.first ≡ find stands l.part.items;
   standing : IfSome l.standing (StandsBy g.R.Rule.KIND (g.V.Seen.position l.fn.view) l.first);
-  so_far : PartSoFar g.R.Rule.KIND l.moves (g.V.Seen.position l.fn.view) l.part.items l.q-iterator;
+  so_far : PartLeft g.R.Rule.KIND l.moves (g.V.Seen.position l.fn.view) l.part.items l.points;
 }
+
+abbrev pub decreases-loop-q : goal.decreases-loop-q
+decreases-loop-q g l = length l.points
