@@ -1,5 +1,5 @@
 -- The words of the game of threats, all in one place for the files of laws.
-pub use Rattle.threat_game.specs.Attacks.{AreAttacks, AreWindows, IsAttempt, IsDoubleWin, IsKept, IsStillKept, LeavesBoth, OthersFail}
+pub use Rattle.threat_game.specs.Attacks.{AreAttacks, AreCandidates, IsAttempt, IsDoubleWin, IsKept, IsStillKept, LeavesBoth, OthersFail}
 pub use Rattle.threat_game.specs.Attacks.{has_reply}
 pub use Rattle.threat_game.specs.Attacks.{has_saving, is_fouled, tried_moves}
 unfoldable pub use Rattle.threat_game.specs.Attacks.{best_reply, is_last_move, is_settled_move, is_tried}

@@ -23,6 +23,8 @@ mod NearDoubles
 mod AroundBits
 -- stones outside open windows
 mod WindowLaws
+-- moves outside a set of points, which need not be tried
+mod CandidateLaws
 -- points where Black neither wins nor fouls, also after a stone of White
 mod QuietLaws
 -- double points that are kept to settle replies by, and that they are the first ones

@@ -1,5 +1,5 @@
 -- The moves of the attacker: wins that need no search, and the moves that a search has to try.
-use Rattle.std.specs.Prelude.{◌≡◌, Bool, true, false, ◌&&◌, ◌||◌, not, if◌then◌else◌, List, None}
+use Rattle.std.specs.Prelude.{◌≡◌, ℕ, Bool, true, false, ◌&&◌, ◌||◌, not, if◌then◌else◌, List, None}
 use Rattle.std.specs.List.{list_any, filter}
 use Rattle.game_rules.specs.Grid.{Grid, points_of, is_empty, put}
 use Rattle.game_rules.specs.Shapes.{five, is_same_point}
@@ -9,24 +9,18 @@ use Rattle.game_rules.specs.declared.RuleKind.{RuleKind}
 use Rattle.game_rules.specs.declared.Side.{Side}
 use Rattle.game_rules.specs.declared.Outcome.TheVariants.{GoesOn}
 use Rattle.game_rules.specs.declared.Point.{Point}
-use Rattle.open_windows.specs.PointSets.{TellsWindows}
+use Rattle.open_windows.specs.PointSets.{has_point}
 use Rattle.threat_moves.specs.OneBlock.{all_foul}
 use Rattle.threat_game.specs.declared.attacks.Attacks.{Attacks}
 use Rattle.threat_game.specs.declared.attacks.Attacks.TheVariants.{DoublePoint as DoubleWins, NoReply, Moves}
 use Rattle.threat_game.specs.declared.attacks.Attempt.{Attempt}
 use Rattle.threat_game.specs.declared.attacks.Attempt.TheVariants.{Tried, EachReplyFouls, Passed}
-use Rattle.threat_game.specs.declared.attacks.Windows.{Windows}
 use Rattle.threat_game.specs.declared.attacks.BestReply.{BestReply}
 use Rattle.threat_game.specs.declared.attacks.BestReply.TheVariants.{GoesOn as SomeGoesOn, Saves, Fouls as EachFouls}
 use Rattle.threat_game.specs.declared.doubles.DoublePoint.{DoublePoint}
 use Rattle.threat_game.specs.declared.doubles.Kept.{Kept}
 use Rattle.threat_game.specs.ThreatGame.{is_threat_move, is_safe_threat}
 use Rattle.threat_game.specs.NearDoubles.{points_of_two}
-
--- the open windows of the side with two stones or more, and with three
-pub record AreWindows (b : Grid) (s : Side) (windows : Windows) : Type 0 where
-  pub two : TellsWindows b s 2 windows.two
-  pub three : TellsWindows b s 3 windows.three
 
 -- whether some move of the side to move goes on
 abbrev pub has_reply : RuleKind → Grid → Bool
@@ -63,6 +57,10 @@ abbrev pub IsAttempt : RuleKind → Grid → Point → Attempt → Type 0
 IsAttempt rule b p Tried = (is_tried rule b p ≡ true) × (is_settled_move rule b p ≡ true)
 IsAttempt rule b p EachReplyFouls = is_last_move rule b p ≡ true
 IsAttempt rule b p Passed = (is_tried rule b p ≡ false) × (is_settled_move rule b p ≡ true)
+
+-- each move outside the set need not be tried
+pub record AreCandidates (rule : RuleKind) (b : Grid) (set : List ℕ) : Type 0 where
+  pub passed : (p : Point) → has_point set p ≡ false → IsAttempt rule b p Passed
 
 -- the moves that have to be tried, in reading order
 abbrev pub tried_moves : RuleKind → Grid → List Point

@@ -2,8 +2,9 @@
 //!
 //! A move of the game of threats goes on and leaves its side a five point or a double point. A double point that stands already
 //! wins at once where the other side has no five point. Else each move of the game is tried; where the other side has a five
-//! point, the one move that may help is to take it. A move that leaves a five point lies in an open window with three stones; where
-//! no point makes two five points yet, one that leaves a double point lies in a window with two. No other is looked at.
+//! point, the one move that may help is to take it, and no other is looked at. A move that leaves a five point lies in an open window
+//! with three stones; where no point makes two five points yet, one that leaves a double point lies in a window with two, and only the
+//! points of such windows are looked at.
 #![tactic(auto)]
 
 ghost use Rattle.std.specs.Prelude.{◌≡◌, ◌<◌, ◌&&◌, not, true, false, All, IfOk, IfSome, IfNone, IsTrue};
@@ -18,7 +19,7 @@ ghost use Rattle.threat_game.specs.ThreatGame.{is_threat_move as is_threat_move_
 ghost use Rattle.threat_game.specs.FreeMoves.{EachGoesOn};
 ghost use Rattle.threat_game.specs.NearDoubles.{is_some_point as is_some_point_lem, makes_two as makes_two_lem};
 ghost use Rattle.threat_game.specs.NearDoubles.{points_of_two};
-ghost use Rattle.threat_game.specs.Attacks.{AreAttacks, AreWindows, IsAttempt, IsDoubleTold, IsDoubleWin, has_standing_double};
+ghost use Rattle.threat_game.specs.Attacks.{AreAttacks, AreCandidates, IsAttempt, IsDoubleTold, IsDoubleWin, has_standing_double};
 ghost use Rattle.threat_game.specs.Attacks.{best_reply as best_reply_lem};
 
 use crate::doubles::{DoublePoint, double_at};
@@ -178,15 +179,6 @@ pub(crate) fn the_point(p: Point) -> PointSet
     points
 }
 
-/// The open windows of a side.
-#[derive(Drop)]
-struct Windows {
-    /// Those with two stones or more.
-    two: PointSet,
-    /// Those with three or more.
-    three: PointSet,
-}
-
 /// The moves to be tried, or one to which each reply fouls. The other side has these five points.
 fn find_moves<R: Rule, V: Seen<R>>(
     alloc: Global,
@@ -204,12 +196,10 @@ fn find_moves<R: Rule, V: Seen<R>>(
     ensures same { V.position view.new ≡ V.position view.old }
     ensures same_board { board.new ≡ board.old }
 {
-    let windows = Windows {
-        two: window_points(view.board(), view.side(), 2),
-        three: window_points(view.board(), view.side(), 3),
-    };
+    let windows = window_points(view.board(), view.side(), 3);
+    let candidates = candidate_points::<R, V>(view, threat, twos);
     let mut moves = Points::new(alloc);
-    for p in view.board().points() {
+    for p in candidates.points(view.board()) {
         match judge_move::<R, V>(view, board, threat, twos, &windows, p) {
             Attempt::Tried => moves.push(p)?,
             Attempt::EachReplyFouls => return Ok(Attacks::NoReply(p)),
@@ -219,17 +209,39 @@ fn find_moves<R: Rule, V: Seen<R>>(
     Ok(Attacks::Moves(moves))
 }
 
+/// Points among which each move is that has to be tried, and each to which each reply fouls: one that takes the five points of the other
+/// side; where there is none and no point makes two five points, one in an open window with two stones; else any.
+fn candidate_points<R: Rule, V: Seen<R>>(view: &V, threat: FivePoints, twos: &[Point]) -> PointSet
+    requires twos { twos.now ≡ points_of_two R.KIND (V.position view.now) (mover (V.position view.now)) }
+    requires none { has_five_lem R.KIND (V.position view.now) (mover (V.position view.now)) ≡ false }
+    requires lawful { IsPosition R.KIND (V.position view.now) }
+    requires told { threat ≡ in_short (five_points_lem R.KIND (V.position view.now) (other (mover (V.position view.now)))) }
+    ensures others { AreCandidates R.KIND (V.position view.now) result }
+{
+    match threat {
+        FivePoints::Several => PointSet::empty(),
+        FivePoints::One(only) => the_point(only),
+        FivePoints::None => {
+            if twos.is_empty() {
+                window_points(view.board(), view.side(), 2)
+            } else {
+                PointSet::all()
+            }
+        }
+    }
+}
+
 /// What is to be done with the move.
 fn judge_move<R: Rule, V: Seen<R>>(
     view: &mut V,
     board: &mut Board,
     threat: FivePoints,
     twos: &[Point],
-    windows: &Windows,
+    windows: &PointSet,
     p: Point,
 ) -> Attempt
     requires twos { twos.now ≡ points_of_two R.KIND (V.position view.old) (mover (V.position view.old)) }
-    requires windows { AreWindows (V.position view.old) (mover (V.position view.old)) windows.now }
+    requires windows { TellsWindows (V.position view.old) (mover (V.position view.old)) 3 windows.now }
     requires none { has_five_lem R.KIND (V.position view.old) (mover (V.position view.old)) ≡ false }
     requires lawful { IsPosition R.KIND (V.position view.old) }
     requires copy { board.old ≡ V.position view.old }
@@ -310,16 +322,16 @@ pub fn is_threat_move<R: Rule, V: Seen<R>>(view: &mut V, board: &mut Board, p: P
     is_three_move::<R, V>(view, board, p)
 }
 
-/// The same where the side has no five point, these points make two, and these are its open windows.
+/// The same where the side has no five point, these points make two, and these are its open windows with three stones.
 fn is_new_threat<R: Rule, V: Seen<R>>(
     view: &mut V,
     board: &mut Board,
     twos: &[Point],
-    windows: &Windows,
+    windows: &PointSet,
     p: Point,
 ) -> bool
     requires twos { twos.now ≡ points_of_two R.KIND (V.position view.old) (mover (V.position view.old)) }
-    requires windows { AreWindows (V.position view.old) (mover (V.position view.old)) windows.now }
+    requires windows { TellsWindows (V.position view.old) (mover (V.position view.old)) 3 windows.now }
     requires none { has_five_lem R.KIND (V.position view.old) (mover (V.position view.old)) ≡ false }
     requires copy { board.old ≡ V.position view.old }
     ensures threat { result ≡ is_threat_move_lem R.KIND (V.position view.old) p }
@@ -340,21 +352,18 @@ fn leaves_threat<R: Rule, V: Seen<R>>(
     view: &V,
     board: &mut Board,
     twos: &[Point],
-    windows: &Windows,
+    windows: &PointSet,
     p: Point,
 ) -> bool
     requires empty { IsTrue (is_empty (V.position view.now) p) }
     requires twos { twos.now ≡ points_of_two R.KIND (V.position view.now) (mover (V.position view.now)) }
-    requires windows { AreWindows (V.position view.now) (mover (V.position view.now)) windows.now }
+    requires windows { TellsWindows (V.position view.now) (mover (V.position view.now)) 3 windows.now }
     requires none { has_five_lem R.KIND (V.position view.now) (mover (V.position view.now)) ≡ false }
     requires copy { board.old ≡ V.position view.now }
     ensures threat { result ≡ has_threat R.KIND (after (V.position view.now) p) (mover (V.position view.now)) }
     ensures same_board { board.new ≡ board.old }
 {
-    if twos.is_empty() && !windows.two.has(p) {
-        return false;
-    }
-    if is_some_point(fives_by::<R, V>(view, &windows.three, p)) {
+    if is_some_point(fives_by::<R, V>(view, windows, p)) {
         return true;
     }
     let side = view.side();

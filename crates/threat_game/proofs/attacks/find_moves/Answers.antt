@@ -1,12 +1,33 @@
-use Rattle.std.proofs.Common.{rules, ◌≡◌, true, arith, subst, sym}
+use Rattle.std.proofs.Common.{rules, ◌≡◌, true, ap, ◌∙◌, subst, sym, refl, arith, ◌++◌, List}
 use Rattle.std.proofs.lemmas.Grind.{common_steps}
-use Rattle.std.specs.List.{list_all}
+use Rattle.std.specs.List.{filter, list_all}
 use Rattle.game_rules.specs.Grid.{Grid, points_of}
 use Rattle.game_rules.specs.Play.{mover}
-use Rattle.threat_game.specs.Attacks.{AreWindows, tried_moves, is_settled_move}
+use Rattle.game_rules.specs.declared.Point.{Point}
+use Rattle.open_windows.specs.PointSets.{has_point, TellsWindows}
+use Rattle.threat_game.specs.Attacks.{tried_moves, is_settled_move, is_tried}
 use Rattle.threat_game.proofs.AttackLaws.{others-fail}
+use Rattle.threat_game.proofs.CandidateLaws.{filter-in, all-in}
 use Rattle.open_windows.proofs.Points.{windows-of}
 use Rattle.threat_game.proofs.attacks.find_moves.Goals as goal
+
+pub loop-p-init : goal.loop-p-init
+loop-p-init g c =
+    let b : Grid = g.V.Seen.position c.args.view.now in
+    let set : List Point = c.into_iter-p-iterator.result in
+    let points : set ≡ filter (has_point c.candidate_points-candidates.result) (points_of b) =
+    c.into_iter-p-iterator.ensures.into_iter_gives ∙ c.points-p-items.ensures.points
+    ∙ ap (λ (w : Grid). filter (has_point c.candidate_points-candidates.result) (points_of w)) c.board-2.ensures.board in
+    let passed = c.candidate_points-candidates.ensures.others.passed in (
+      refl,
+      refl,
+      ap (λ (ps : List Point). ps ++ filter (is_tried g.R.Rule.KIND b) set) c.new-moves.ensures.empty
+          ∙ ap (filter (is_tried g.R.Rule.KIND b)) points
+          ∙ filter-in (has_point c.candidate_points-candidates.result) (is_tried g.R.Rule.KIND b) (λ p out. (passed p out).0) (points_of b),
+      ap (list_all (is_settled_move g.R.Rule.KIND b)) points
+          ∙ all-in (has_point c.candidate_points-candidates.result) (is_settled_move g.R.Rule.KIND b) (λ p out. (passed p out).1)
+          (points_of b),
+    )
 
 pub returns-clause-attacks : goal.returns-clause-attacks
 returns-clause-attacks g c =
@@ -18,8 +39,5 @@ returns-clause-attacks g c =
 pub judge_move-requires-clause-windows : goal.judge_move-requires-clause-windows
 judge_move-requires-clause-windows g c =
     let b : Grid = g.V.Seen.position c.args.view.now in
-    subst (λ (w : Grid). AreWindows w (mover w) (record { two = c.window_points.result; three = c.window_points-2.result }))
-    (sym c.loop-p.invariant.0) (record {
-      two = windows-of _ b _ (mover b) 2 _ c.board.ensures.board c.side.ensures.side c.window_points.ensures.points;
-      three = windows-of _ b _ (mover b) 3 _ c.board-2.ensures.board c.side-2.ensures.side c.window_points-2.ensures.points;
-    })
+    subst (λ (w : Grid). TellsWindows w (mover w) 3 c.window_points-windows.result) (sym c.loop-p.invariant.0)
+    (windows-of _ b _ (mover b) 3 _ c.board.ensures.board c.side.ensures.side c.window_points-windows.ensures.points)

@@ -1,26 +1,11 @@
-use Rattle.std.proofs.Common.{◌≡◌, true, false, refl, ap, sym, ◌∙◌, arith, nat_eq, length, List, [], ◌∷◌}
-use Rattle.std.proofs.lemmas.Bool.Decides.{nat_tests}
+use Rattle.std.proofs.Common.{◌≡◌, false, ap, sym, ◌∙◌}
 use Rattle.game_rules.proofs.Common.{Grid, is_empty, put, mover, after, has_five}
 use Rattle.game_rules.specs.declared.Side.{Side}
-use Rattle.game_rules.specs.declared.Point.{Point}
 use Rattle.threat_moves.specs.ThreeMoves.{has_double_point}
 use Rattle.threat_moves.proofs.GainLaws.{threat-by_five, threat-by_double}
-use Rattle.open_windows.proofs.Points.{told-outside}
 use Rattle.threat_game.specs.NearDoubles.{is_some_point, points_of_two}
 use Rattle.threat_game.proofs.DoubleLaws.{some-five}
-use Rattle.threat_game.proofs.WindowLaws.{outside-no_threat}
 use Rattle.threat_game.proofs.attacks.leaves_threat.Goals as goal
-
-nil-by : (ps : List Point) → nat_eq (length ps) 0 ≡ true → ps ≡ []
-nil-by [] h = refl
-nil-by (p ∷ ps) h = absurd (grind (arith, nat_tests))
-
-pub returns-then-not-has-clause-threat : goal.returns-then-not-has-clause-threat
-returns-then-not-has-clause-threat g c =
-    let b : Grid = g.V.Seen.position c.args.view.now in
-    outside-no_threat g.R.Rule.KIND b (mover b) c.args.p c.requires.windows.two.board c.requires.none c.requires.empty
-    (told-outside b (mover b) 2 c.args.windows.now.two c.args.p c.has.result c.requires.windows.two c.has.ensures.has c.if-not-has.true)
-    (sym c.requires.twos ∙ nil-by c.args.twos.now (sym c.is_empty.ensures ∙ c.if-is_empty.true))
 
 pub returns-then-is_some_point-clause-threat : goal.returns-then-is_some_point-clause-threat
 returns-then-is_some_point-clause-threat g c =
