@@ -21,9 +21,9 @@ It is kept in FOLDER/like, and what it answers to a reply, its part, is tried th
 stands elsewhere also what it answers to the stone that stands here.
 
 With --deeper L a reply that is left is taken apart in turn, in a folder of FOLDER/deeper, and of its own replies those that are left
-too, down to L levels: before more NODES by the first moves of like tables' parts, and in the end by the first moves of tables found at
-other replies, or where the reply makes a four by what blocks that. An attack is given up where many of the first replies to it are
-left, and the tables that begin with it are its like tables.
+too, down to L levels: by the first moves of like tables' parts, one level down before any search, and by the first moves of tables found
+at other replies, or where the reply makes a four by what blocks that, some of them one level down before a search with more NODES. An
+attack is given up where many of the first replies to it are left, and the tables that begin with it are its like tables.
 
 --lines prints a command line of the shell for each reply that is left, for GNU parallel. What such a line writes stands beside the
 position in FOLDER/replies, and when the script goes on its table is taken in, if `renju check` accepts it.
@@ -61,8 +61,9 @@ MOST_FILES, MOST_ARRIVALS = 1_000, 1_000_000_000_000
 # How many tables are tried at a reply each time, and with how many arrivals.
 TRIES, FEW_ARRIVALS = 8, 10_000_000_000
 TIMES = 10
-# How many attacks are tried at a reply that is left, and by how many of them it is taken apart in turn.
-ATTACKS, DEEPER = 8, 2
+# How many attacks are tried at a reply that is left, before a search with more nodes and in the end, and by how many of them it is taken
+# apart in turn.
+QUICK, ATTACKS, DEEPER = 3, 8, 2
 # An attack is given up once more replies are left than these few and one of so many that were asked.
 FEW, ONE_OF = 2, 16
 # How many like tables an attack has of the tables that begin with it.
@@ -298,6 +299,7 @@ class Work:
             nodes = min(TIMES * nodes, most)
 
     def round(self, nodes):
+        """Asks each reply that is left, or with no nodes tries those tables alone that there are."""
         left, self.lost = self.opening.left(), 0
         began, pool = time.monotonic(), ThreadPoolExecutor(self.jobs)
         runs = [pool.submit(self.settle, reply, nodes) for reply in left]
@@ -321,11 +323,12 @@ class Work:
         opening, ended = self.opening, all_of_round - going
         more = f", {seconds * going / ended:.0f} s more at this pace" if ended and going else ""
         told = f"{len(opening.found) + len(opening.served)} of {len(opening.replies)} replies have a table, {len(opening.served)} of them another's"
-        self.clock.say(f"{told}; {ended} of {all_of_round} asked with {nodes:,}{more}")
+        how = f"asked with {nodes:,}" if nodes else "tried"
+        self.clock.say(f"{told}; {ended} of {all_of_round} {how}{more}")
 
     def settle(self, reply, nodes):
         """Looks for a table at a reply: in what stands beside its position, among those found so far, and by a search."""
-        if self.is_given_up or self.take_in(reply) or self.serve(reply) or self.search(reply, nodes):
+        if self.is_given_up or self.take_in(reply) or self.serve(reply) or nodes and self.search(reply, nodes):
             return
         self.lost += 1
         asked = len(self.opening.found) + len(self.opening.served) + self.lost
@@ -399,24 +402,35 @@ def asked_deeper(opening, given, levels, whole=True):
     wanted it ends with a reply that stays left. It answers with how many nodes they were asked at last.
     """
     work, nodes = Work(opening, given), min(given.nodes, given.most)
+
+    def apart(levels, attacks):
+        for reply in opening.left():
+            taken_apart(work, given, levels, reply, attacks)
+
+    if levels and opening.like:
+        work.round(0)
+        apart(0, opening.hints)
     work.round(nodes)
-    for reply in opening.left() if levels else []:
-        taken_apart(work, given, levels, reply, opening.hints)
+    if levels:
+        apart(levels, opening.hints)
+        apart(0, lambda reply: opening.attacks(reply)[:QUICK])
     nodes = work.rounds(nodes, given.most)
-    for reply in opening.left() if levels else []:
-        if not taken_apart(work, given, levels, reply, opening.attacks) and not whole:
-            break
+    if levels:
+        for reply in opening.left():
+            if not taken_apart(work, given, levels, reply, opening.attacks) and not whole:
+                break
     return nodes
 
 
 def taken_apart(work, given, levels, reply, attacks):
-    """Takes a reply apart by attacks that weren't tried there. It says whether the reply has a table now."""
+    """Takes a reply apart by attacks that weren't tried there, and where some levels are left what is left of them in turn. It says
+    whether the reply has a table now.
+    """
     opening, hopes = work.opening, []
     if work.serve(reply):
         return True
     for attack in [it for it in attacks(reply) if (reply, it) not in opening.apart]:
         tell(f"{both(reply, opening.after)} is taken apart by {both(attack, opening.after)}")
-        opening.apart.add((reply, attack))
         inner = Work(opening.deeper(reply, attack), given)
         inner.may_give_up = True
         inner.round(min(given.nodes, given.most))
@@ -424,6 +438,10 @@ def taken_apart(work, given, levels, reply, attacks):
             return True
         if not inner.is_given_up:
             hopes.append(inner.opening)
+        if inner.is_given_up or levels:
+            opening.apart.add((reply, attack))
+    if not levels:
+        return False
     for inner in sorted(hopes, key=lambda inner: len(inner.left()))[:DEEPER]:
         asked_deeper(inner, given, levels - 1, False)
         if is_joined(opening, reply, inner):
