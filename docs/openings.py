@@ -9,6 +9,9 @@ when, is a line of examples/openings/won/checked.txt, beside the hash of the tex
 one after the other, which takes minutes for each, and adds the line where it is accepted. --write writes the page and its picture, and
 without a word they are compared with what is there.
 
+The lines of examples/openings/won/found.txt stand in the order of finding: a table's file, and the replies whose tables were given to
+examples/openings.py as like ones.
+
 The page names a table that is accepted, and no other. Where a line of checked.txt is of another text, the page isn't written.
 """
 import argparse
@@ -16,6 +19,7 @@ import datetime
 import hashlib
 import lzma
 import os
+import re
 import sys
 from dataclasses import dataclass
 from pathlib import Path
@@ -24,14 +28,14 @@ sys.dont_write_bytecode = True
 TOP = Path(__file__).resolve().parent.parent
 sys.path.insert(0, str(TOP / "examples"))
 
-from boards import Position, Wrong, answered, read, saying, spelled, tell
+from boards import Position, Wrong, answered, numbers, read, saying, spelled, tell
 from openings import replies_to
 from outputs import replace
 from pictures import picture, words_of
 from position import IMAGES, image
 
 WON, PAGE = TOP / "examples" / "openings" / "won", TOP / "docs" / "OPENINGS.md"
-CHECKED = WON / "checked.txt"
+CHECKED, FOUND = WON / "checked.txt", WON / "found.txt"
 MOST_ARRIVALS = 1_000_000_000_000
 # The openings that the page tells of: a rule, a size, and the first move, to which the replies are told.
 FIRST_MOVES = [("freestyle", 15, (7, 7))]
@@ -39,7 +43,9 @@ FIRST_MOVES = [("freestyle", 15, (7, 7))]
 
 @dataclass
 class Won:
-    """A table: its position, its moves, the first of them, and how many nodes and bytes it has; and what `renju check` said of it."""
+    """A table: its position, its moves, the first of them, and how many nodes and bytes it has; what `renju check` said of it; and by
+    which like tables it was found.
+    """
 
     position: Position
     moves: int
@@ -49,6 +55,7 @@ class Won:
     arrivals: int = 0
     seconds: int = 0
     day: str = ""
+    like: str = ""
 
 
 def text_of(path):
@@ -67,10 +74,15 @@ def head_of(data):
     return Won(position, moves, attack, nodes, len(data))
 
 
+def lines_by_file(path):
+    """The words after the first one of each line, which is a table's file."""
+    lines = path.read_text().splitlines() if path.exists() else []
+    return {name: rest for name, *rest in map(str.split, lines)}
+
+
 def checked():
     """The lines of what was checked, by the file: the hash of its text, moves, arrivals, seconds and the day."""
-    lines = CHECKED.read_text().splitlines() if CHECKED.exists() else []
-    return {name: rest for name, *rest in map(str.split, lines)}
+    return lines_by_file(CHECKED)
 
 
 def check():
@@ -95,8 +107,10 @@ def check():
 
 def won_here():
     """The tables that are accepted, in the order of their files."""
-    lines = checked()
+    lines, likes = checked(), lines_by_file(FOUND)
     for path in sorted(WON.glob("*.xz")):
+        if path.name not in likes:
+            raise Wrong(f"{FOUND.name} has no line of {path.name}")
         data = text_of(path)
         digest, *said = lines.get(path.name, [""])
         if digest != hashlib.sha256(data).hexdigest():
@@ -105,6 +119,7 @@ def won_here():
         if found.moves != int(said[0]):
             raise Wrong(f"{path.name}: {CHECKED.name} says {said[0]} moves, and its head {found.moves}")
         found.arrivals, found.seconds, found.day = int(said[1]), int(said[2]), said[3]
+        found.like = " ".join(likes[path.name]) or "nothing"
         yield found
 
 
@@ -114,7 +129,8 @@ class Replies:
     def __init__(self, rule, size, first, tables):
         self.rule, self.size, self.first = rule, size, first
         self.after = Position(rule, size, size).after(first)
-        self.replies = sorted(replies_to(self.after)[0], key=lambda reply: reply[::-1])
+        replies, self.images = replies_to(self.after)
+        self.replies = sorted(replies, key=lambda reply: reply[::-1])
         square = [it for it in tables if it.position.width == it.position.height]
         by_text = {image(it.position, name).text(): (it, name) for name in [*IMAGES][::-1] for it in square}
         self.won = {reply: by_text[text] for reply in self.replies for text in [self.after.after(reply).text()] if text in by_text}
@@ -133,16 +149,22 @@ class Replies:
         words = [word for mark in sorted(marks) for word in ("--mark", mark)]
         return picture(self.after, words_of([*words, "--caption", f"{len(self.won)} of {len(self.replies)} replies"]), "openings")
 
+    def words(self, like):
+        """What is told of the like tables: of a reply that a symmetry makes of another that one."""
+        point = lambda word: numbers(word) if re.fullmatch(r"\d+,\d+", word) else word
+        found = [self.images.get(point(word), (point(word),))[0] for word in like.split()]
+        return " ".join(it if isinstance(it, str) else spelled(it) for it in found)
+
     def section(self):
         """What the page says of the replies."""
         yield f"## {self.title()}\n"
         yield f'<img src="../examples/openings/{self.svg().name}" width="480" alt="Numbers on the replies after which a table wins">\n'
         yield f"{len(self.won)} of {len(self.replies)} replies have a table.\n"
-        yield "| Reply | Answer | Wins within | Nodes | Bytes | Arrivals | Checked |\n|---|---|---|---|---|---|---|"
+        yield "|Reply|Answer|Moves|Nodes|Bytes|Arrivals|Checked|Seconds|Like|\n|---|---|---|---|---|---|---|---|---|"
         for reply, (table, name) in self.won.items():
             answer = IMAGES[name](*table.attack, self.size - 1, self.size - 1)
-            day = f"{table.day}, {table.seconds} s"
-            yield f"| {spelled(reply)} | {spelled(answer)} | {table.moves} moves | {table.nodes:,} | {table.size:,} | {table.arrivals:,} | {day} |"
+            counts = f"{table.moves}|{table.nodes:,}|{table.size:,}|{table.arrivals:,}"
+            yield f"|{spelled(reply)}|{spelled(answer)}|{counts}|{table.day}|{table.seconds}|{self.words(table.like)}|"
         left = [reply for reply in self.replies if reply not in self.won]
         yield f"\nOpen: {' '.join(map(spelled, left)) or 'none'}.\n"
 
@@ -152,7 +174,8 @@ def page(openings):
     yield (
         "After which replies to a first move, of those that a symmetry of the board exchanges one, the side that made it wins by a table "
         "of `examples/openings/won`: by which answer, within how many moves, and what `renju check` said of the table, when, and in how "
-        "many seconds of the processor. Of an open reply nothing is said. `docs/openings.py --write` writes this page.\n"
+        "many seconds of the processor; and from the tables after which like replies `examples/openings.py` found it. Of an open reply "
+        "nothing is said. `docs/openings.py --write` writes this page.\n"
     )
     for it in openings:
         yield from it.section()
