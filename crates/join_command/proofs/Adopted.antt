@@ -17,12 +17,12 @@ use Rattle.strategy_graph.specs.declared.roots.Root.TheVariants.{Attack}
 use Rattle.strategy_graph.proofs.Common.{NamesLower, RepliesOn, SaysSame, TableOnBoard}
 use Rattle.strategy_graph.proofs.Filling.{IsTable-lower, growth-same}
 use Rattle.strategy_graph.proofs.Saying.{same-then}
-use Rattle.strategy_compiler.proofs.Common.{IsCompiled}
+use Rattle.strategy_compiler.proofs.Adopted.{number-is}
+use Rattle.strategy_compiler.proofs.Common.{AreNumbers, IsCompiled}
 use Rattle.strategy_compiler.specs.Growth.{GrowsBy}
 use Rattle.strategy_compiler.proofs.Growing.{grows-then}
 use Rattle.join_command.specs.Joins.{node_count}
-use Rattle.join_command.specs.Adopting.{AreAdopted, AreCopied, IsAdopted}
-use Rattle.join_command.proofs.Copying.{copy-inside, copy-same}
+use Rattle.join_command.specs.Adopting.{AreAdopted, IsAdopted}
 
 -- ---- boards of one size
 
@@ -91,13 +91,6 @@ module _ (b : Grid) (u : List Node) where
       (subst (IsAdopted b u f) (same_Some r root there) h.0)
   root-at (f ∷ files) (r ∷ roots) (suc k) file root h at there = root-at files roots k file root h.1 at there
 
--- no nodes are nodes of a compiler
-pub no-nodes : (t : List Node) → t ≡ [] → IsCompiled t
-no-nodes t none = subst IsCompiled (sym none) (record {
-  table = record { nodes = λ i n at. cc; size = omega arith };
-  different = record { different = λ i j n at also. cc };
-})
-
 -- ---- one file
 
 module _ (b : Grid) (file : TableFile) (bytes : List ℕ) (is : IsTextOfTable file bytes)
@@ -107,20 +100,17 @@ module _ (b : Grid) (file : TableFile) (bytes : List ℕ) (is : IsTextOfTable fi
   adopted-on = table-same file.board b size.0 size.1 file.table is.on_board
 
   -- the number that its root got
-  pub adopted-root : (i x : ℕ) (u : List Node) (numbers : List ℕ) → file.root ≡ Attack i → IsCompiled u → AreCopied file.table u numbers
-      → x ≡ get_or numbers i x → IsAdopted b u file (Some x)
-  adopted-root i x u numbers root compiled are at =
+  pub adopted-root : (i x : ℕ) (u v : List Node) (numbers : List ℕ) → file.root ≡ Attack i → IsCompiled v
+      → AreNumbers u file.table v numbers → x ≡ get_or numbers i x → IsAdopted b v file (Some x)
+  adopted-root i x u v numbers root compiled are at =
       let inside : i < length file.table =
       let fits = subst (λ (r : Root). RootFits file.board file.table r file.moves) root is.root in
       let last = fits.0 in omega (arith, last) in
       let count = are.count in
       let here : slice_index numbers i ≡ x = sym (at ∙ get_or_default_zero numbers i x (omega (arith, count, inside))) in
-      subst (λ (j : ℕ). IsAdopted b u file (Some j)) here (
-        i,
-        record { wide = size.0; high = size.1; root = root },
-        copy-inside file.table u numbers is.table (IsTable-lower u compiled.table) are i inside,
-        copy-same file.table u numbers is.table (IsTable-lower u compiled.table) are i inside,
-      )
+      let said = number-is u file.table v numbers is.table are (IsTable-lower v compiled.table) i inside in
+      subst (λ (j : ℕ). IsAdopted b v file (Some j)) here
+      (i, record { wide = size.0; high = size.1; root = root }, said.0, said.2)
 
 -- all files, and one more
 module _ (b : Grid) (old u v : List Node) (files : List TableFile) (roots : List (Option ℕ)) (i : ℕ) (file : TableFile)

@@ -1,5 +1,4 @@
--- nodes that are adopted, and the roots of files
-mod Copying
+-- the roots of files that are adopted
 mod Adopted
 -- which file answers at a position, and what becomes of all replies
 mod Asking

@@ -1,8 +1,7 @@
 -- Nodes of the tables of files, adopted by one compiler, and what is told of them.
-use Rattle.std.specs.Prelude.{◌≡◌, ℕ, ◌<◌, List, [], ◌∷◌, length, Option, Some, None, slice_get, slice_index}
+use Rattle.std.specs.Prelude.{ℕ, ◌<◌, List, [], ◌∷◌, length, Option, Some, None}
 use Rattle.game_rules.specs.Grid.{Grid}
 use Rattle.strategy_graph.specs.Laws.{SaysSame}
-use Rattle.strategy_graph.specs.Renumbered.{renumbered_node}
 use Rattle.strategy_graph.specs.Roots.{AcceptedRoot}
 use Rattle.strategy_graph.specs.declared.Node.{Node}
 use Rattle.position_files.specs.Tables.{IsTextOfTable}
@@ -13,12 +12,6 @@ use Rattle.join_command.specs.Answering.{MayBeAsked}
 pub record IsAcceptedFile (file : TableFile) : Type 0 where
   pub text : (bytes : List ℕ) × IsTextOfTable file bytes
   pub accepted : AcceptedRoot file.kind file.table file.root file.board
-
--- the list has the number in u of each node of t: that of the node with these numbers in place of those that it names
-pub record AreCopied (t u : List Node) (numbers : List ℕ) : Type 0 where
-  pub count : length numbers ≡ length t
-  pub each : (i : ℕ) (n : Node) → slice_get t i ≡ Some n
-      → slice_get u (slice_index numbers i) ≡ Some (renumbered_node (λ j. slice_index numbers j) n)
 
 -- the file may not be asked at b; or a node says what its root says
 abbrev pub IsAdopted : Grid → List Node → TableFile → Option ℕ → Type 0

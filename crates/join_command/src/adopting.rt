@@ -1,47 +1,21 @@
-//! The nodes of files, put into one compiler.
-//!
-//! The nodes of a table are adopted in order, and the number that each of them got stands in a list, by which the numbers in the nodes
-//! after it are replaced. So nodes that several files share come once.
+//! The tables of files, adopted by one compiler, so that nodes that several of them share come once.
 #![tactic(auto)]
 
 ghost use Rattle.std.specs.Prelude.{◌≡◌, length, IfOk, IsErrOf};
 ghost use Rattle.std.specs.List.{AllByRecursion};
-ghost use Rattle.game_rules.specs.Grid.{Grid};
 ghost use Rattle.strategy_graph.specs.Tables.{TableOnBoard};
 ghost use Rattle.strategy_graph.specs.declared.TheConstants.{MAX_NODES};
 ghost use Rattle.strategy_compiler.specs.Growth.{GrowsBy};
 ghost use Rattle.strategy_compiler.specs.Nodes.{IsCompiled};
-ghost use Rattle.join_command.specs.Adopting.{AreAdopted, AreCopied, IsAcceptedFile, IsAdopted};
+ghost use Rattle.join_command.specs.Adopting.{AreAdopted, IsAcceptedFile, IsAdopted};
 ghost use Rattle.join_command.specs.Joins.{node_count};
 
 use crate::answering::has_size_of;
 use position_files::TableFile;
 use std::alloc::Global;
 use stone_board::Board;
-use strategy_compiler::{CompileError, Compiler, renumbered};
-use strategy_graph::{Root, Table};
-
-/// Adopts the nodes of the table in order, and answers for each of them its number. After an `Err` the nodes that were adopted stay.
-fn adopt_table(alloc: Global, nodes: &mut Compiler, table: &Table) -> Result<Vec<u32>, CompileError>
-    requires compiled { IsCompiled nodes.old }
-    ensures copied { IfOk result (λ numbers. AreCopied table.now nodes.new numbers.items) }
-    ensures grows { GrowsBy nodes.old nodes.new (length table.now) }
-    ensures full { IsErrOf result CompileError.Full → length nodes.new ≡ MAX_NODES }
-    ensures compiled { IsCompiled nodes.new }
-    ensures on_board { (b : Grid) → TableOnBoard b nodes.old → TableOnBoard b table.now → TableOnBoard b nodes.new }
-{
-    let mut numbers = Vec::new(alloc);
-    for i in 0..table.len() {
-        let Ok(node) = renumbered(alloc, table.node(i), numbers.as_slice()) else {
-            return Err(CompileError::Memory);
-        };
-        let number = nodes.adopt(node)?;
-        if numbers.push(number).is_err() {
-            return Err(CompileError::Memory);
-        }
-    }
-    Ok(numbers)
-}
+use strategy_compiler::{CompileError, Compiler};
+use strategy_graph::Root;
 
 /// Adopts the table of the file, if its root is a node and its board has the size of the board, and answers the number of the root.
 fn adopt_root(
@@ -64,7 +38,7 @@ fn adopt_root(
             if !has_size_of(board, &file.board) {
                 return Ok(None);
             }
-            let numbers = adopt_table(alloc, nodes, &file.table)?;
+            let numbers = nodes.adopt_table(alloc, &file.table)?;
             Ok(Some(numbers[*number as usize]))
         }
     }

@@ -1,4 +1,5 @@
 -- The words of the compiler, all in one place for the files of laws.
+pub use Rattle.strategy_compiler.specs.Adopting.{Adopts, AreNumbers}
 pub use Rattle.strategy_compiler.specs.Forks.{AnswersWin, IsDoubleThreat, WinsAtOnce, WinsByAnswers, answer_node, double_moves}
 pub use Rattle.strategy_compiler.specs.Forks.{double_nodes, two_answers}
 pub use Rattle.strategy_compiler.specs.Growth.{GrowsBy, Writes}

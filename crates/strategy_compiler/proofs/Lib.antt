@@ -14,9 +14,10 @@ mod Walking
 mod Places
 mod Copying
 mod Starting
--- nodes handed over; nodes unfolded, which a copy keeps and which tell the nodes of a compiler apart
-mod Adopting
+-- nodes handed over; nodes unfolded, which a copy keeps and which tell the nodes of a compiler apart; tables that are adopted
+mod Handing
 pub mod Unfolding
+pub mod Adopted
 -- nodes that win
 pub mod Forks
 -- the table of a tree is one

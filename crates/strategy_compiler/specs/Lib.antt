@@ -8,3 +8,4 @@ pub mod Replies
 pub mod Growth
 pub mod Forks
 pub mod Unfolded
+pub mod Adopting

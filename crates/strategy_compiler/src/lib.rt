@@ -10,6 +10,7 @@
 //! `specs/` says which nodes stand for a tree of moves, what the table of a tree is, and what a written win is.
 #![tactic(auto)]
 
+mod adopting;
 mod compiler;
 mod error;
 mod laws;
@@ -26,7 +27,6 @@ pub use laws::{
     branches_have_one_start, different_nodes_are_apart, growth_keeps_reach, growth_keeps_trees,
     growth_keeps_wins, tree_has_one_table,
 };
-pub use renumbering::renumbered;
 pub use starts::renumbered_start;
 pub use win_nodes::answer_node;
 pub use wins::WrittenWin;

@@ -65,7 +65,7 @@ pub(crate) fn renumbered_rest(rest: Rest, places: &[u32]) -> Rest
 }
 
 /// The node, with the place of each number that it names: the number that stands in the list at that number.
-pub fn renumbered(alloc: Global, node: &Node, places: &[u32]) -> Result<Node, AllocError>
+pub(crate) fn renumbered(alloc: Global, node: &Node, places: &[u32]) -> Result<Node, AllocError>
     requires below { names_below (answers_of node.now) (length places.now) ≡ true }
     ensures node { IfOk result (λ n. n ≡ renumbered_node (λ j. slice_index places.now j) node.now) }
 {

@@ -1,5 +1,5 @@
 -- Files that are bound into a book one after the other: what the book has of them stays as it grows.
-use Rattle.std.proofs.Common.{◌≡◌, ◌⊎◌, inl, inr, ◌↔◌, ℕ, zero, suc, ◌<◌, ◌≤◌, ◌+◌, List, [], ◌∷◌}
+use Rattle.std.proofs.Common.{◌≡◌, ◌⊎◌, inl, inr, ℕ, zero, suc, ◌<◌, ◌≤◌, ◌+◌, List, [], ◌∷◌}
 use Rattle.std.proofs.Common.{◌++◌, length, refl, sym, ap, subst, ◌∙◌, arith, Some, slice_get, Contains, length-append}
 use Rattle.std.proofs.Common.{append-nil, rules, append_assoc}
 use Rattle.std.specs.List.{AllByRecursion}
@@ -14,14 +14,14 @@ use Rattle.strategy_graph.specs.declared.roots.Root.{Root}
 use Rattle.strategy_graph.proofs.Common.{NamesLower}
 use Rattle.strategy_graph.proofs.Filling.{IsTable-lower}
 use Rattle.strategy_graph.proofs.Saying.{iff-then, root-grown}
-use Rattle.strategy_compiler.proofs.Common.{IsCompiled, HoldMore, IsHeld, Unfolded, unfolded, unfolded_nodes}
+use Rattle.strategy_compiler.proofs.Adopted.{among-one, among-two}
+use Rattle.strategy_compiler.proofs.Common.{Adopts, IsCompiled, HoldMore, IsHeld, Unfolded, unfolded, unfolded_nodes}
 use Rattle.strategy_compiler.proofs.Unfolding.{answers-longer, held-within, unfolded-apart, unfolded-longer, unfolded_nodes-at}
 use Rattle.strategy_compiler.proofs.Unfolding.{unfolded_nodes-there}
 use Rattle.table_book.specs.declared.Book.{Book}
 use Rattle.table_book.specs.declared.Entry.{Entry}
 use Rattle.table_book.proofs.Common.{EntryFits, EntryRootFits, AddsFile, AreEntriesOf, AreInOrder, HoldSame, IsBinding, IsBound, IsEntryOf}
-use Rattle.table_book.proofs.Common.{SameRoot, Stays, nodes_of, tables_of}
-use Rattle.table_book.proofs.Adopting.{among-one, among-two}
+use Rattle.table_book.proofs.Common.{SameRoot, nodes_of, tables_of}
 use Rattle.table_book.proofs.Soundness.{root_fits-below}
 
 -- ---- roots and entries of nodes that grow
@@ -113,18 +113,18 @@ bound-none book none without = search (rules, no-nodes, among-one)
 -- ---- one file more
 
 module _ (files : List TableFile) (file : TableFile) (old new : Book) (before : IsBound files old) (adds : AddsFile old file new)
-    (stays : Stays old.table file.table new.table) (binding : IsBinding new) where
+    (adopts : Adopts old.table file.table new.table) (binding : IsBinding new) where
   old-lower : NamesLower old.table
   old-lower = IsTable-lower old.table before.binding.compiled.table
 
   new-lower : NamesLower new.table
   new-lower = IsTable-lower new.table binding.compiled.table
 
-  count : length new.table ≡ length old.table + length stays.more
-  count = ap length stays.is ∙ length-append old.table stays.more
+  count : length new.table ≡ length old.table + length adopts.grows.added
+  count = ap length adopts.grows.is ∙ length-append old.table adopts.grows.added
 
   stays-at : (k : ℕ) → k < length old.table → unfolded new.table k ≡ unfolded old.table k
-  stays-at k l = ap (λ (v : List Node). unfolded v k) stays.is ∙ unfolded-longer old.table stays.more old-lower k l
+  stays-at k l = ap (λ (v : List Node). unfolded v k) adopts.grows.is ∙ unfolded-longer old.table adopts.grows.added old-lower k l
 
   old-held : (w : Unfolded) → IsHeld (tables_of files) w → (j : ℕ) × (j < length old.table) × (unfolded old.table j ≡ w)
   old-held w is =
@@ -211,8 +211,8 @@ module _ (files : List TableFile) (file : TableFile) (old new : Book) (before : 
     entries =
         subst (AreEntriesOf (files ++ file ∷ []) new.table) (sym adds.added)
         (entries-more new.table files old.entries file adds.entry
-        (subst (λ (u : List Node). AreEntriesOf files u old.entries) (sym stays.is)
-        (entries-grown old.table stays.more old-lower files old.entries before.binding.entries before.entries)) adds.is_of);
+        (subst (λ (u : List Node). AreEntriesOf files u old.entries) (sym adopts.grows.is)
+        (entries-grown old.table adopts.grows.added old-lower files old.entries before.binding.entries before.entries)) adds.is_of);
     held = λ w. iff-then (adds.held w) (both-held w);
     in_order = subst (AreInOrder new.table) (sym (nodes-more files file)) in-order;
   }

@@ -1,41 +1,44 @@
 -- What a binder holds stays as its nodes grow, and the entry of a file says in the book what the file says.
-use Rattle.std.proofs.Common.{◌≡◌, ◌⊎◌, inl, inr, ◌↔◌, ℕ, suc, ◌<◌, ◌≤◌, ◌+◌, true, false, List, []}
+use Rattle.std.proofs.Common.{◌≡◌, ℕ, suc, ◌<◌, ◌≤◌, true, false, List, []}
 use Rattle.std.proofs.Common.{◌∷◌, ◌++◌, length, refl, sym, ap, subst, ◌∙◌, arith, nat_lt, slice_index, map, length-append}
 use Rattle.std.proofs.Common.{rules, ltb-true, lt-ltb}
 use Rattle.std.specs.List.{list_all, AllByRecursion}
-use Rattle.std.proofs.lemmas.Option.{slice_get_within}
 use Rattle.game_rules.specs.declared.TheConstants.{MAX_SIDE}
 use Rattle.game_rules.specs.declared.Point.{Point}
 use Rattle.game_rules.proofs.Common.{Grid, IsBoard, is_on}
 use Rattle.game_rules.proofs.Boards.{and_left, and_right, on_x, on_y}
 use Rattle.game_rules.proofs.Tests.{all_push}
-use Rattle.position_files.proofs.Common.{NodeFits, IsTextOfTable, RootFits}
+use Rattle.position_files.proofs.Common.{IsTextOfTable, RootFits}
 use Rattle.position_files.specs.declared.TableFile.{TableFile}
 use Rattle.position_files.specs.declared.TheConstants.{MAX_MOVES}
 use Rattle.position_files.proofs.Completions.{answers_fit, nodes_fit}
+use Rattle.position_files.proofs.SectionLaws.{nodes_on}
 use Rattle.strategy_graph.specs.declared.Node.{Node}
 use Rattle.strategy_graph.specs.declared.Reply.{Reply}
 use Rattle.strategy_graph.specs.declared.TheConstants.{MAX_NODES}
 use Rattle.strategy_graph.specs.declared.roots.Root.{Root}
 use Rattle.strategy_graph.specs.declared.roots.Root.TheVariants.{Attack, Defend}
-use Rattle.strategy_graph.proofs.Common.{IsStart, RepliesOn, TableOnBoard, IsTable, NamesLower, answers_of, is_winning, named, names_below}
+use Rattle.strategy_graph.proofs.Common.{IsStart, RepliesOn, TableOnBoard, IsTable, NamesLower, is_winning, named, names_below}
 use Rattle.strategy_graph.proofs.Common.{renumbered_answers, renumbered_root, root_below, RootSaysSame}
 use Rattle.strategy_graph.proofs.Answering.{replies-on}
-use Rattle.strategy_graph.proofs.Copies.{Copies, is_winning-renumbered, named-renumbered}
+use Rattle.strategy_graph.proofs.Copies.{is_winning-renumbered, named-renumbered}
 use Rattle.strategy_graph.proofs.Filling.{IsTable-lower, names_below-more}
 use Rattle.strategy_graph.proofs.Saying.{root-copied, root-deep, root-longer}
 use Rattle.strategy_graph.proofs.Renumbering.{points-renumbered, rising-renumbered}
-use Rattle.strategy_compiler.proofs.Common.{IsCompiled, Unfolded, IsHeld, unfolded}
-use Rattle.strategy_compiler.proofs.Unfolding.{answers-copied, node-inside, unfolded-apart, unfolded-copied, unfolded-longer}
+use Rattle.strategy_compiler.proofs.Common.{Adopts, AreNumbers, IsCompiled, unfolded}
+use Rattle.strategy_compiler.proofs.Adopted.{adopted-holds, copies, number-inside, number-is}
+use Rattle.strategy_compiler.proofs.Unfolding.{answers-copied, unfolded-apart}
 use Rattle.table_book.specs.declared.Entry.{Entry}
 use Rattle.table_book.specs.declared.TheConstants.{MAX_ENTRIES}
-use Rattle.table_book.proofs.Common.{EntryFits, IsSound, EntryRootFits, AddsFile, AreNumbers, CanBeBound, HoldSame, IsBinding, IsEntryOf}
-use Rattle.table_book.proofs.Common.{SameRoot, Stays}
-use Rattle.table_book.proofs.Adopting.{among-two}
+use Rattle.table_book.proofs.Common.{EntryFits, IsSound, EntryRootFits, AddsFile, CanBeBound, HoldSame, IsBinding, IsEntryOf}
+use Rattle.table_book.proofs.Common.{SameRoot}
 use Rattle.table_book.proofs.Soundness.{root_fits-below}
-unfoldable use Rattle.table_book.proofs.Adopting.{largest}
 
 -- ---- points of a board are points of the largest
+
+-- an empty board of the greatest width and height
+largest : Grid
+largest = record { width = MAX_SIDE; height = MAX_SIDE; cells = [] }
 
 on-largest : (b : Grid) (p : Point) → IsBoard b → is_on b p ≡ true → is_on largest p ≡ true
 unfolding largest
@@ -49,12 +52,7 @@ table-largest : (b : Grid) (t : List Node) → IsBoard b → TableOnBoard b t �
 table-largest b [] ok on = tt
 table-largest b (n ∷ t) ok on = search (rules, on-largest, replies-largest, table-largest b t ok on.1)
 
--- the nodes of a table's text fit a book
-pub text-fits : (file : TableFile) (bytes : List ℕ) → IsTextOfTable file bytes → AllByRecursion (NodeFits MAX_SIDE MAX_SIDE) file.table
-unfolding largest
-text-fits file bytes is = nodes_fit largest file.table (table-largest file.board file.table is.board is.on_board) is.table
-
--- its root names nodes of the table
+-- the root of a table's text names nodes of the table
 pub text-below : (file : TableFile) (bytes : List ℕ) → IsTextOfTable file bytes → root_below file.root (length file.table) ≡ true
 text-below file bytes is = search (rules, lt-ltb)
 
@@ -79,14 +77,18 @@ module _ (t more : List Node) (lower : NamesLower t) where
   sound-grown [] fit all = tt
   sound-grown (e ∷ es) fit all = search (rules, root-longer, root_fits-below, sound-grown es fit.1 all.1)
 
--- the entries stay entries once nodes are adopted
-pub binding-grown : (old t new : List Node) (es : List Entry) → IsBinding (record { table = old; entries = es }) → Stays old t new
-    → IsCompiled new → AllByRecursion (NodeFits MAX_SIDE MAX_SIDE) new
-    → IsBinding (record { table = new; entries = es })
-binding-grown old t new es h stays compiled fit = search (rules, IsTable-lower, entries-grown, sound-grown)
+-- the entries stay entries once the nodes of a file are adopted
+pub binding-grown : (old new : List Node) (file : TableFile) (es : List Entry) → IsBinding (record { table = old; entries = es })
+    → CanBeBound file → Adopts old file.table new → IsBinding (record { table = new; entries = es })
+unfolding largest
+binding-grown old new file es h can adopts =
+    let nodes =
+    nodes_fit largest new (adopts.on_board largest (nodes_on largest old h.nodes)
+    (table-largest file.board file.table can.text.1.board can.text.1.on_board)) adopts.compiled.table in
+    search (rules, IsTable-lower, entries-grown, sound-grown)
 
 -- and with one entry more
-pub binding-pushed : (t : List Node) (es es' : List Entry) (e : Entry) → IsBinding (record { table = t; entries = es })
+binding-pushed : (t : List Node) (es es' : List Entry) (e : Entry) → IsBinding (record { table = t; entries = es })
     → length es < MAX_ENTRIES → EntryFits (length t) e → IsSound t e → es' ≡ es ++ e ∷ []
     → IsBinding (record { table = t; entries = es' })
 binding-pushed t es es' e h room fits sound is = search (rules, all_push, length-append)
@@ -94,45 +96,31 @@ binding-pushed t es es' e h room fits sound is = search (rules, all_push, length
 -- ---- the entry of a file
 
 module _ (old t new : List Node) (numbers : List ℕ) (table : IsTable t) (lower : NamesLower new) (are : AreNumbers old t new numbers) where
-  copies : Copies (λ j. slice_index numbers j) (λ j. nat_lt j (length t)) t new
-  copies = record {
-    copied = λ j p.
-        let n = node-inside t j (ltb-true _ _ p) in (
-          n.0,
-          n.1,
-          are.each j n.0 n.1,
-          names_below-more (answers_of n.0) j (length t) (let l : j < length t = ltb-true _ _ p in omega arith)
-              (table.nodes j n.0 n.1).below,
-        );
-  }
-
-  number-inside : (j : ℕ) → nat_lt j (length t) ≡ true → slice_index numbers j < length new
-  number-inside j p =
-      let n = node-inside t j (ltb-true _ _ p) in
-      slice_get_within new (slice_index numbers j) _ (are.each j n.0 n.1)
-
   -- the root says what the file's says
   pub root-same : (root : Root) → root_below root (length t) ≡ true
       → RootSaysSame t root new (renumbered_root (λ j. slice_index numbers j) root)
-  root-same = root-copied (λ j. slice_index numbers j) (length t) t new copies (IsTable-lower t table) lower
+  root-same =
+      root-copied (λ j. slice_index numbers j) (length t) t new (copies old t new numbers table are) (IsTable-lower t table) lower
 
   -- and is the same
   root-is : (root : Root) → root_below root (length t) ≡ true → SameRoot t root new (renumbered_root (λ j. slice_index numbers j) root)
-  root-is (Attack i) below = unfolded-copied (λ j. slice_index numbers j) (λ j. nat_lt j (length t)) t new copies (IsTable-lower t table)
-      lower i below
-  root-is (Defend a) below = answers-copied (λ j. slice_index numbers j) (λ j. nat_lt j (length t)) t new copies (IsTable-lower t table)
-      lower a below
+  root-is (Attack i) below = (number-is old t new numbers table are lower i (ltb-true _ _ below)).1
+  root-is (Defend a) below =
+      answers-copied (λ j. slice_index numbers j) (λ j. nat_lt j (length t)) t new (copies old t new numbers table are)
+      (IsTable-lower t table) lower a below
 
   all-mapped : (js : List ℕ) → list_all (λ j. nat_lt j (length t)) js ≡ true
       → list_all (λ j. nat_lt j (length new)) (map (λ j. slice_index numbers j) js) ≡ true
   all-mapped [] h = refl
-  all-mapped (j ∷ js) h = search (rules, lt-ltb, number-inside, and_left, and_right, all-mapped js (and_right (nat_lt j (length t)) _ h))
+  all-mapped (j ∷ js) h =
+      let inside = number-inside old t new numbers table are j in
+      search (rules, lt-ltb, inside, and_left, and_right, all-mapped js (and_right (nat_lt j (length t)) _ h))
 
   -- and fits the book
   root-fits : (b : Grid) (root : Root) (moves : ℕ) → IsBoard b → length new ≤ MAX_NODES → RootFits b t root moves
       → EntryRootFits (length new) (renumbered_root (λ j. slice_index numbers j) root)
   unfolding largest
-  root-fits b (Attack i) moves ok few fits = number-inside i (let last = fits.0 in lt-ltb i (length t) (omega arith))
+  root-fits b (Attack i) moves ok few fits = number-inside old t new numbers table are i (let last = fits.0 in lt-ltb i (length t) (omega arith))
   root-fits b (Defend a) moves ok few fits =
       let f : ℕ → ℕ = λ j. slice_index numbers j in
       let below : names_below (renumbered_answers f a) (length new) ≡ true =
@@ -152,30 +140,22 @@ module _ (old t new : List Node) (numbers : List ℕ) (table : IsTable t) (lower
   moves-few : (b : Grid) (root : Root) (moves : ℕ) → RootFits b t root moves → moves ≤ MAX_MOVES
   moves-few b x1 moves fits = search rules
 
-  -- each node of the file is held
-  pub file-held : (j : ℕ) → j < length t → (x : ℕ) × (x < length new) × (unfolded new x ≡ unfolded t j)
-  file-held j l =
-      let p : nat_lt j (length t) ≡ true = lt-ltb j (length t) l in (
-        slice_index numbers j,
-        number-inside j p,
-        unfolded-copied (λ j. slice_index numbers j) (λ j. nat_lt j (length t)) t new copies (IsTable-lower t table) lower j p,
-      )
-
 -- the entry of a file whose nodes are adopted
-module _ (file : TableFile) (old new : List Node) (numbers : List ℕ) (root : Root) (can : CanBeBound file) (compiled : IsCompiled new)
-    (are : AreNumbers old file.table new numbers) (is : root ≡ renumbered_root (λ j. slice_index numbers j) file.root) where
-  abbrev pub entry : Entry
+module _ (file : TableFile) (old new : List Node) (numbers : List ℕ) (root : Root) (can : CanBeBound file)
+    (adopts : Adopts old file.table new) (are : AreNumbers old file.table new numbers)
+    (is : root ≡ renumbered_root (λ j. slice_index numbers j) file.root) where
+  abbrev entry : Entry
   entry = record { kind = file.kind; board = file.board; root = root; moves = file.moves }
 
   new-lower : NamesLower new
-  new-lower = IsTable-lower new compiled.table
+  new-lower = IsTable-lower new adopts.compiled.table
 
-  pub entry-same : RootSaysSame file.table file.root new root
+  entry-same : RootSaysSame file.table file.root new root
   entry-same =
       subst (RootSaysSame file.table file.root new) (sym is)
       (root-same old file.table new numbers can.text.1.table new-lower are file.root (text-below file can.text.0 can.text.1))
 
-  pub entry-of : IsEntryOf file new entry
+  entry-of : IsEntryOf file new entry
   entry-of = record {
     kind = refl;
     board = refl;
@@ -186,52 +166,50 @@ module _ (file : TableFile) (old new : List Node) (numbers : List ℕ) (root : R
     root = entry-same;
   }
 
-  pub entry-fits : EntryFits (length new) entry
+  entry-fits : EntryFits (length new) entry
   entry-fits = record {
     board = can.text.1.board;
     moves = moves-few old file.table new numbers can.text.1.table new-lower are file.board file.root file.moves can.text.1.root;
     root =
         subst (EntryRootFits (length new)) (sym is)
         (root-fits old file.table new numbers can.text.1.table new-lower are file.board file.root file.moves can.text.1.board
-        compiled.table.size can.text.1.root);
+        adopts.compiled.table.size can.text.1.root);
   }
 
-  pub entry-sound : IsSound new entry
+  entry-sound : IsSound new entry
   entry-sound = search (rules, root-deep, entry-same)
 
   -- what is held now is what was held, and the file's nodes
-  pub now-held : NamesLower old → Stays old file.table new → HoldSame (new ∷ []) (old ∷ file.table ∷ [])
-  now-held lower stays w = (stays.held w, λ is. by_two w is.0 is.1 (among-two old file.table is.0 is.2) is.3 is.4) where
-    by_two : (w : Unfolded) (u : List Node) (k : ℕ) → (old ≡ u) ⊎ (file.table ≡ u) → k < length u → unfolded u k ≡ w → IsHeld (new ∷ []) w
-    by_two w u k (inl same) l e =
-        let inside : k < length old = subst (λ (v : List Node). k < length v) (sym same) l in
-        let count : length new ≡ length old + length stays.more = ap length stays.is ∙ length-append old stays.more in (
-          new,
-          k,
-          (0, omega arith, refl),
-          omega arith,
-          ap (λ (v : List Node). unfolded v k) stays.is ∙ unfolded-longer old stays.more lower k inside
-              ∙ ap (λ (v : List Node). unfolded v k) same ∙ e,
-        )
-    by_two w u k (inr same) l e =
-        let inside : k < length file.table = subst (λ (v : List Node). k < length v) (sym same) l in
-        let there = file-held old file.table new numbers can.text.1.table new-lower are k inside in
-        (new, there.0, (0, omega arith, refl), there.1, there.2 ∙ ap (λ (v : List Node). unfolded v k) same ∙ e)
+  now-held : NamesLower old → HoldSame (new ∷ []) (old ∷ file.table ∷ [])
+  now-held lower w = (
+    adopts.held w,
+    λ is. let there = adopted-holds old file.table new numbers can.text.1.table lower adopts are w is in
+        (new, there.0, (0, omega arith, refl), there.1, there.2),
+  )
 
-  pub file-added : (es es' : List Entry) → IsCompiled old → Stays old file.table new → es' ≡ es ++ entry ∷ []
+  file-added : (es es' : List Entry) → IsCompiled old → es' ≡ es ++ entry ∷ []
       → AddsFile (record { table = old; entries = es }) file (record { table = new; entries = es' })
-  unfolding file-held
-  file-added es es' before stays is = record {
+  file-added es es' before is = record {
     entry = entry;
     is_of = entry-of;
     added = is;
-    held = now-held (IsTable-lower old before.table) stays;
+    held = now-held (IsTable-lower old before.table);
     in_order = λ k q low high inside e.
-        let there = file-held old file.table new numbers can.text.1.table new-lower are q inside in
+        let there = number-is old file.table new numbers can.text.1.table are new-lower q inside in
         let next : slice_index numbers q ≡ suc k =
-        unfolded-apart new new-lower compiled.different (slice_index numbers q) (suc k) there.1 high (there.2 ∙ e) in
+        unfolded-apart new new-lower adopts.compiled.different (slice_index numbers q) (suc k) there.0 high (there.1 ∙ e) in
         let place = are.in_order k q low inside next in
         let within : place.0 < length file.table = (let less = place.1 in omega arith) in
-        let before = file-held old file.table new numbers can.text.1.table new-lower are place.0 within in
-        (place.0, place.1, sym before.2 ∙ ap (unfolded new) place.2);
+        let before = number-is old file.table new numbers can.text.1.table are new-lower place.0 within in
+        (place.0, place.1, sym before.1 ∙ ap (unfolded new) place.2);
   }
+
+  -- the file is added, and what is held is a binding
+  pub both-added : (es es' : List Entry) → IsBinding (record { table = old; entries = es }) → length es < MAX_ENTRIES
+      → es' ≡ es ++ entry ∷ []
+      → AddsFile (record { table = old; entries = es }) file (record { table = new; entries = es' })
+      × IsBinding (record { table = new; entries = es' })
+  both-added es es' h room is = (
+    file-added es es' h.compiled is,
+    binding-pushed new es es' entry (binding-grown old new file es h can adopts) room entry-fits entry-sound is,
+  )

@@ -1,6 +1,6 @@
 -- The words of table_book, all in one place for the files of laws.
-pub use Rattle.table_book.specs.Binding.{AddsFile, AreEntriesOf, AreInOrder, AreNumbers, CanBeBound, HoldSame, IsBinding, IsBound}
-pub use Rattle.table_book.specs.Binding.{IsEntryOf, SameRoot, Stays, bind_error, nodes_of, tables_of}
+pub use Rattle.table_book.specs.Binding.{AddsFile, AreEntriesOf, AreInOrder, CanBeBound, HoldSame, IsBinding, IsBound}
+pub use Rattle.table_book.specs.Binding.{IsEntryOf, SameRoot, bind_error, nodes_of, tables_of}
 pub use Rattle.table_book.specs.Books.{BeginsBook, EntryFits, EntryRootFits, HasText, IsBookText, IsSound, IsTextOfBook, IsWellFormed}
 pub use Rattle.table_book.specs.Books.{entries_line, first_line, move_count_line, nodes_line, root_line}
 unfoldable pub use Rattle.table_book.specs.Books.{book_lines, book_text, entry_lines}

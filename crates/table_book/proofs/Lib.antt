@@ -13,8 +13,7 @@ pub mod Beginnings
 pub mod Soundness
 mod Holds
 mod Growth
--- nodes that are adopted, and what a binder holds of files
-mod Adopting
+-- what a binder holds of files
 mod Bound
 -- files that are bound into a book one after the other
 pub mod Binding

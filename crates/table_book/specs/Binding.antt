@@ -1,10 +1,9 @@
 -- Tables that are bound into a book: which root says what another says, and what an entry has of its file.
-use Rattle.std.specs.Prelude.{◌≡◌, ◌↔◌, ℕ, suc, map, ◌<◌, ◌≤◌, List, [], ◌∷◌, ◌++◌, length, Some, slice_get, slice_index}
+use Rattle.std.specs.Prelude.{◌≡◌, ◌↔◌, ℕ, suc, map, ◌<◌, ◌≤◌, List, [], ◌∷◌, ◌++◌, length, Some, slice_get}
 use Rattle.std.specs.List.{AllByRecursion, flat_map}
 use Rattle.game_rules.specs.Play.{IsPosition}
 use Rattle.game_rules.specs.declared.TheConstants.{MAX_SIDE}
 use Rattle.strategy_graph.specs.Roots.{root_depth}
-use Rattle.strategy_graph.specs.Renumbered.{renumbered_node}
 use Rattle.strategy_graph.specs.Laws.{RootSaysSame}
 use Rattle.strategy_graph.specs.declared.Node.{Node}
 use Rattle.strategy_graph.specs.declared.roots.Root.{Root}
@@ -62,14 +61,6 @@ pub record IsBinding (book : Book) : Type 0 where
   pub sound : AllByRecursion (IsSound book.table) book.entries
   pub few : length book.entries ≤ MAX_ENTRIES
 
--- The list has the number in u of each node of t: that of the node with these numbers in place of those that it names. A number
--- that is not one of the old nodes, and the next, have their first places in this order.
-pub record AreNumbers (old t u : List Node) (numbers : List ℕ) : Type 0 where
-  pub count : length numbers ≡ length t
-  pub each : (i : ℕ) (n : Node) → slice_get t i ≡ Some n
-      → slice_get u (slice_index numbers i) ≡ Some (renumbered_node (λ j. slice_index numbers j) n)
-  pub in_order : (k q : ℕ) → length old ≤ k → q < length t → slice_index numbers q ≡ suc k → (p : ℕ) × (p < q) × (slice_index numbers p ≡ k)
-
 -- why a file is not added where a node is not adopted
 abbrev pub bind_error : CompileError → BindError
 bind_error Full = FullBook
@@ -93,12 +84,6 @@ pub record AddsFile (old : Book) (file : TableFile) (new : Book) : Type 0 where
   pub added : new.entries ≡ old.entries ++ entry ∷ []
   pub held : HoldSame (new.table ∷ []) (old.table ∷ file.table ∷ [])
   pub in_order : FollowsBefore old.table file.table new.table
-
--- nodes stay, with their numbers, and those after them are nodes of the table
-pub record Stays (old t new : List Node) : Type 0 where
-  pub more : List Node
-  pub is : new ≡ old ++ more
-  pub held : (w : Unfolded) → IsHeld (new ∷ []) w → IsHeld (old ∷ t ∷ []) w
 
 -- the tables of the files
 abbrev pub tables_of : List TableFile → List (List Node)

@@ -1,31 +1,27 @@
 //! The binder: files of tables, bound into one book.
 //!
 //! The nodes of each file are adopted in order by one compiler, so that nodes that are the same have one number in the book,
-//! whatever the files they come from. While a file is added, the number that each of its nodes got stands in a list, by which the
-//! numbers of the nodes after it, and of its root, are replaced.
+//! whatever the files they come from. By the list of the numbers that the nodes got, those that the root of the file names are
+//! replaced.
 #![tactic(auto)]
 
 ghost use Rattle.std.specs.Prelude.{◌≡◌, ◌<◌, ◌≤◌, ◌++◌, ◌∷◌, [], ℕ, List, true, length, slice_index, IfOk, OnOk, OnErr, IsErr, IsErrOf};
-ghost use Rattle.std.specs.List.{AllByRecursion};
-ghost use Rattle.game_rules.specs.declared.TheConstants.{MAX_SIDE};
 ghost use Rattle.strategy_graph.specs.declared.TheConstants.{MAX_NODES};
-ghost use Rattle.strategy_graph.specs.Tables.{NamesLower};
 ghost use Rattle.strategy_graph.specs.Roots.{root_below};
-ghost use Rattle.strategy_compiler.specs.Nodes.{IsCompiled};
+ghost use Rattle.strategy_compiler.specs.Adopting.{Adopts};
 ghost use Rattle.strategy_compiler.specs.Walks.{AreDifferent};
 ghost use Rattle.strategy_compiler.specs.Unfolded.{HoldMore};
-ghost use Rattle.position_files.specs.Answers.{NodeFits};
 ghost use Rattle.position_files.specs.declared.TableFile.{TableFile};
 ghost use Rattle.strategy_graph.specs.Renumbered.{renumbered_root as renumbered_root_lem};
-ghost use Rattle.table_book.specs.Binding.{AddsFile, AreNumbers, CanBeBound, IsBound, Stays};
+ghost use Rattle.table_book.specs.Binding.{AddsFile, CanBeBound, IsBound};
 ghost use Rattle.table_book.specs.Books.{IsWellFormed};
 
 use crate::{Book, Entries, Entry, MAX_ENTRIES};
 use position_files::TableFile;
 use std::alloc::{AllocError, Global};
 use std::marker::Model;
-use strategy_compiler::{CompileError, Compiler, renumbered, renumbered_start};
-use strategy_graph::{Root, Table};
+use strategy_compiler::{CompileError, Compiler, renumbered_start};
+use strategy_graph::Root;
 use thiserror::Error;
 
 /// The nodes and the entries of the files that were added, which contracts see as a book of them, though it may have no entry
@@ -84,30 +80,6 @@ impl From<AllocError> for BindError {
     }
 }
 
-/// Adopts the nodes of the table in order, and answers for each of them its number among the nodes. Nodes that a refused call
-/// adopted stay.
-fn adopted(alloc: Global, nodes: &mut Compiler, table: &Table) -> Result<Vec<u32>, BindError>
-    requires compiled { IsCompiled nodes.old }
-    requires old_fit { AllByRecursion (NodeFits MAX_SIDE MAX_SIDE) nodes.old }
-    requires fit { AllByRecursion (NodeFits MAX_SIDE MAX_SIDE) table.now }
-    ensures numbers { IfOk result (λ numbers. AreNumbers nodes.old table.now nodes.new numbers.items) }
-    ensures full { IsErrOf result BindError.Full → HoldMore (nodes.old ∷ table.now ∷ []) MAX_NODES }
-    ensures few { HoldMore (nodes.old ∷ table.now ∷ []) MAX_NODES → IsErr result }
-    ensures stays { Stays nodes.old table.now nodes.new }
-    ensures compiled { IsCompiled nodes.new }
-    ensures all_fit { AllByRecursion (NodeFits MAX_SIDE MAX_SIDE) nodes.new }
-{
-    let mut numbers = Vec::new(alloc);
-    for i in 0..table.len() {
-        let node = renumbered(alloc, table.node(i), numbers.as_slice())?;
-        let number = nodes.adopt(node)?;
-        if numbers.push(number).is_err() {
-            return Err(BindError::Memory);
-        }
-    }
-    Ok(numbers)
-}
-
 /// The root, with the number that stands in the list for each number that it names.
 fn renumbered_root(alloc: Global, root: &Root, numbers: &[u32]) -> Result<Root, AllocError>
     requires below { root_below root.now (length numbers.now) ≡ true }
@@ -156,7 +128,7 @@ impl Binder {
             → HoldMore (self.old.table ∷ file.table ∷ []) MAX_NODES }
         ensures few { HoldMore (self.old.table ∷ file.table ∷ []) MAX_NODES → IsErr result }
         ensures unchanged { OnErr result (self.new.entries ≡ self.old.entries) }
-        ensures stays { Stays self.old.table file.table self.new.table }
+        ensures adopts { Adopts self.old.table file.table self.new.table }
 
         // Of the files that were added before, and of this one.
         ensures bound { (files : List TableFile) → IsBound files self.old
@@ -169,7 +141,7 @@ impl Binder {
             root,
             moves,
         } = file;
-        let numbers = adopted(self.alloc, &mut self.nodes, &table)?;
+        let numbers = self.nodes.adopt_table(self.alloc, &table)?;
         let root = renumbered_root(self.alloc, &root, numbers.as_slice())?;
         self.entries.push(Entry {
             kind,

@@ -2,7 +2,7 @@
 use Rattle.std.proofs.Common.{◌∙◌, ◌++◌, ap, sym, subst, List, append-nil}
 use Rattle.strategy_graph.specs.declared.Node.{Node}
 use Rattle.strategy_compiler.proofs.Common.{IsCompiled}
-use Rattle.strategy_compiler.proofs.Adopting.{next-is_node, next-has_room, next-done}
+use Rattle.strategy_compiler.proofs.Handing.{next-is_node, next-has_room, next-done}
 use Rattle.strategy_compiler.proofs.compiler.Compiler.into_table.Goals as goal
 
 pub loop-node-init : goal.loop-node-init

@@ -1,34 +1,24 @@
--- The nodes of a table, adopted one after the other: each is a copy under its new number, and is the same node. So what is held is
--- what was held before, and the nodes of the table.
-use Rattle.std.proofs.Common.{◌≡◌, ◌⊎◌, inl, inr, ℕ, suc, ◌<◌, ◌≤◌, ◌+◌, true, List, [], ◌∷◌, ◌++◌}
+-- The nodes of a table, adopted one after the other: each is a copy under its new number, is the same node and says the same. So what is
+-- held is what was held before, and the nodes of the table.
+use Rattle.std.proofs.Common.{◌≡◌, ◌⊎◌, inl, inr, ℕ, suc, ◌<◌, ◌≤◌, ◌+◌, true, List, [], ◌∷◌, ◌++◌, append-nil}
 use Rattle.std.proofs.Common.{length, refl, sym, ap, subst, ◌∙◌, arith, Some, nat_lt, slice_get, slice_index, Contains, length-append}
-use Rattle.std.proofs.Common.{rules, append-nil, append_assoc, Result, Err, ltb-true, lt-ltb}
-use Rattle.std.specs.Result.{IsErrAnd}
-use Rattle.std.specs.List.{AllByRecursion}
+use Rattle.std.proofs.Common.{rules, ltb-true, lt-ltb}
 use Rattle.std.proofs.lemmas.Bool.{cases_lt}
 use Rattle.std.proofs.lemmas.List.{get_or_append_left, get_or_push}
 use Rattle.std.proofs.lemmas.Option.{slice_get_within, same_Some}
-use Rattle.game_rules.specs.declared.TheConstants.{MAX_SIDE}
 use Rattle.game_rules.proofs.Common.{Grid}
 use Rattle.game_rules.proofs.Tests.{all_get, all_push}
-use Rattle.position_files.proofs.Common.{NodeFits}
-use Rattle.position_files.proofs.Completions.{node_fits}
-use Rattle.position_files.proofs.SectionLaws.{nodes_on}
 use Rattle.strategy_graph.specs.declared.Node.{Node}
 use Rattle.strategy_graph.specs.declared.TheConstants.{MAX_NODES}
-use Rattle.strategy_graph.proofs.Common.{IsNode, IsTable, NamesLower, NamesOnBoard, answers_of, renumbered_node}
+use Rattle.strategy_graph.proofs.Common.{IsNode, IsTable, NamesLower, NamesOnBoard, SaysSame, TableOnBoard, answers_of, renumbered_node}
 use Rattle.strategy_graph.proofs.Answering.{replies-on}
 use Rattle.strategy_graph.proofs.Copies.{Copies}
 use Rattle.strategy_graph.proofs.Filling.{IsTable-lower, last_node, names_below-more}
 use Rattle.strategy_graph.proofs.Naming.{slice_get-longer}
-use Rattle.strategy_graph.proofs.Renumbering.{IsNode-renumbered, points-renumbered, renumbered-agree}
-use Rattle.strategy_compiler.proofs.Common.{IsCompiled, PutsIn, Unfolded, IsHeld, HoldMore, unfolded}
+use Rattle.strategy_graph.proofs.Renumbering.{IsNode-renumbered, copies-same, points-renumbered, renumbered-agree}
+use Rattle.strategy_compiler.proofs.Common.{Adopts, AreNumbers, GrowsBy, IsCompiled, PutsIn, Unfolded, IsHeld, HoldMore, unfolded}
+use Rattle.strategy_compiler.proofs.Growing.{grows-more, grows-not, grows-then}
 use Rattle.strategy_compiler.proofs.Unfolding.{node-inside, unfolded-copied, unfolded-longer, held-one_more, held-within}
-use Rattle.strategy_compiler.specs.declared.compiler.CompileError.{CompileError}
-use Rattle.strategy_compiler.specs.declared.compiler.CompileError.TheVariants.{Full}
-use Rattle.table_book.specs.declared.binder.BindError.{BindError}
-use Rattle.table_book.specs.declared.binder.BindError.TheVariants.{Full as FullBook}
-use Rattle.table_book.proofs.Common.{AreNumbers, Stays, bind_error}
 
 -- what is known once the first i nodes of t are adopted
 pub record AdoptedUpTo (old t new : List Node) (numbers : List ℕ) (i : ℕ) : Type 0 where
@@ -36,10 +26,9 @@ pub record AdoptedUpTo (old t new : List Node) (numbers : List ℕ) (i : ℕ) : 
   pub copied : (j : ℕ) (n : Node) → j < i → slice_get t j ≡ Some n
       → slice_get new (slice_index numbers j) ≡ Some (renumbered_node (λ j. slice_index numbers j) n)
   pub compiled : IsCompiled new
-  pub more : List Node
-  pub grown : new ≡ old ++ more
+  pub grows : GrowsBy old new i
   pub held : (k : ℕ) → k < length new → IsHeld (old ∷ t ∷ []) (unfolded new k)
-  pub fit : AllByRecursion (NodeFits MAX_SIDE MAX_SIDE) new
+  pub on_board : (b : Grid) → TableOnBoard b old → TableOnBoard b t → TableOnBoard b new
   pub covered : (k : ℕ) → length old ≤ k → k < length new → (p : ℕ) × (p < i) × (slice_index numbers p ≡ k)
   pub in_order : (k q : ℕ) → length old ≤ k → q < i → slice_index numbers q ≡ suc k → (p : ℕ) × (p < q) × (slice_index numbers p ≡ k)
 
@@ -76,32 +65,28 @@ module _ (t u : List Node) (numbers : List ℕ) (i : ℕ) (table : IsTable t) (f
       let n = node-inside t j (omega arith) in
       slice_get_within u (slice_index numbers j) _ (copied j n.0 low n.1)
 
--- ---- nodes within the largest board
+-- the copy of each node is there, is the same, and says the same
+module _ (old t new : List Node) (numbers : List ℕ) (table : IsTable t) (are : AreNumbers old t new numbers) where
+  pub copies : Copies (λ j. slice_index numbers j) (λ j. nat_lt j (length t)) t new
+  copies = copies-by t new numbers (length t) table (omega arith) (λ j n low at. are.each j n at)
 
--- an empty board of the greatest width and height
-unfoldable pub largest : Grid
-largest = record { width = MAX_SIDE; height = MAX_SIDE; cells = [] }
+  pub number-inside : (j : ℕ) → nat_lt j (length t) ≡ true → slice_index numbers j < length new
+  number-inside = inside-by t new numbers (length t) table (omega arith) (λ j n low at. are.each j n at)
 
-renumbered-fits : (f : ℕ → ℕ) (n : Node) (k : ℕ) → NodeFits MAX_SIDE MAX_SIDE n → IsNode (renumbered_node f n) k → k ≤ MAX_NODES
-    → NodeFits MAX_SIDE MAX_SIDE (renumbered_node f n)
-unfolding largest
-renumbered-fits f n k fits node few =
-    let on = nodes_on largest (n ∷ []) (fits, tt) in
-    let moved : NamesOnBoard largest (renumbered_node f n) =
-    record {
-      attack = on.0.attack;
-      replies = replies-on largest (renumbered_node f n).replies n.replies (points-renumbered f n.replies)
-          on.0.replies;
-    } in
-    node_fits largest (renumbered_node f n) k moved node few
+  pub number-is : NamesLower new → (j : ℕ) → j < length t → (slice_index numbers j < length new)
+      × (unfolded new (slice_index numbers j) ≡ unfolded t j) × SaysSame t j new (slice_index numbers j)
+  number-is lower j l =
+      let p : nat_lt j (length t) ≡ true = lt-ltb j (length t) l in (
+        number-inside j p,
+        unfolded-copied (λ j. slice_index numbers j) (λ j. nat_lt j (length t)) t new copies (IsTable-lower t table) lower j p,
+        copies-same (λ j. slice_index numbers j) (λ j. nat_lt j (length t)) t new copies (IsTable-lower t table) lower j p,
+      )
 
 -- ---- one node more
 
 -- before the first
-pub adopted-none : (old t new : List Node) (numbers : List ℕ) → IsCompiled old → AllByRecursion (NodeFits MAX_SIDE MAX_SIDE) old
-    → new ≡ old → numbers ≡ []
-    → AdoptedUpTo old t new numbers 0
-adopted-none old t new numbers compiled fit e none = search (rules, append-nil, held-first)
+pub adopted-none : (old t new : List Node) (numbers : List ℕ) → IsCompiled old → new ≡ old → numbers ≡ [] → AdoptedUpTo old t new numbers 0
+adopted-none old t new numbers compiled e none = search (rules, grows-not, held-first)
 
 module _ (old t new : List Node) (numbers : List ℕ) (i : ℕ) (n m : Node) (h : AdoptedUpTo old t new numbers i) (table : IsTable t)
     (at : slice_get t i ≡ Some n) (is : m ≡ renumbered_node (λ j. slice_index numbers j) n) where
@@ -157,41 +142,55 @@ module _ (old t new : List Node) (numbers : List ℕ) (i : ℕ) (n m : Node) (h 
   new-lower : NamesLower new
   new-lower = IsTable-lower new h.compiled.table
 
-  grows-by : (new' : List Node) → PutsIn new m new' → (more' : List Node) × (new' ≡ new ++ more')
-  grows-by new' x1 = search (rules, append-nil)
-
   stays-by : (new' more' : List Node) → new' ≡ new ++ more' → (k : ℕ) (v : Node) → slice_get new k ≡ Some v → slice_get new' k ≡ Some v
   stays-by new' more' e k v a = ap (λ (u : List Node). slice_get u k) e ∙ slice_get-longer new more' k v a
 
-  fits-by : NodeFits MAX_SIDE MAX_SIDE n → NodeFits MAX_SIDE MAX_SIDE m
-  fits-by fits = search (rules, renumbered-fits, adopt-node)
+  -- its points are those of the node
+  moved-on : (b : Grid) → NamesOnBoard b n → NamesOnBoard b m
+  moved-on b on = subst (NamesOnBoard b) (sym is) (record {
+    attack = on.attack;
+    replies =
+        replies-on b (renumbered_node (λ j. slice_index numbers j) n).replies n.replies
+        (points-renumbered (λ j. slice_index numbers j) n.replies) on.replies;
+  })
 
   module _ (x : ℕ) (numbers' : List ℕ) (pushed : numbers' ≡ numbers ++ x ∷ []) (new' : List Node) (put : PutsIn new m new')
       (there : slice_get new' x ≡ Some m) (compiled : IsCompiled new') where
+    grows-by : GrowsBy new new' 1
+    grows-by = by_put put where
+      by_put : PutsIn new m new' → GrowsBy new new' 1
+      by_put (inl e) = record { added = []; is = e.1 ∙ sym (append-nil new); few = omega arith }
+      by_put (inr e) = record { added = m ∷ []; is = e.1; few = omega arith }
+
+    -- a new node is the last, and its number is x
+    last-is : (k : ℕ) → new' ≡ new ++ m ∷ [] → length new ≤ k → k < length new' → x ≡ k
+    last-is k grown high l =
+        let count : length new' ≡ length new + 1 = ap length grown ∙ length-append new (m ∷ []) in
+        let last : length new ≡ k = omega arith in
+        compiled.different.different x k m there
+        (ap (slice_get new') (sym last) ∙ ap (λ (u : List Node). slice_get u (length new)) grown ∙ last_node new m)
+
     held-by : (k : ℕ) → k < length new' → IsHeld (old ∷ t ∷ []) (unfolded new' k)
     held-by k l = by_put put where
-      is_new : (grown : new' ≡ new ++ m ∷ []) → unfolded new' x ≡ unfolded t i
-      is_new grown = copy-is x numbers' pushed new' (stays-by new' (m ∷ []) grown) there (IsTable-lower new' compiled.table)
-
       by_place : (grown : new' ≡ new ++ m ∷ []) → (k < length new) ⊎ (length new ≤ k) → IsHeld (old ∷ t ∷ []) (unfolded new' k)
       by_place grown (inl low) =
           subst (IsHeld (old ∷ t ∷ [])) (sym (ap (λ (u : List Node). unfolded u k) grown ∙ unfolded-longer new (m ∷ []) new-lower k low))
           (h.held k low)
       by_place grown (inr high) =
-          let count : length new' ≡ length new + 1 = ap length grown ∙ length-append new (m ∷ []) in
-          let last : length new ≡ k = omega arith in
-          let here : slice_get new' k ≡ Some m = ap (slice_get new') (sym last) ∙ ap (λ (u : List Node). slice_get u (length new)) grown
-          ∙ last_node new m in
-          let same : x ≡ k = compiled.different.different x k m there here in
-          held-second old t i (unfolded new' k) i-inside (sym (is_new grown) ∙ ap (unfolded new') same)
+          let is_new = copy-is x numbers' pushed new' (stays-by new' (m ∷ []) grown) there (IsTable-lower new' compiled.table) in
+          held-second old t i (unfolded new' k) i-inside (sym is_new ∙ ap (unfolded new') (last-is k grown high l))
 
       by_put : PutsIn new m new' → IsHeld (old ∷ t ∷ []) (unfolded new' k)
       by_put (inl e) =
           subst (λ (u : List Node). (k : ℕ) → k < length u → IsHeld (old ∷ t ∷ []) (unfolded u k)) (sym e.1) h.held k l
       by_put (inr e) = by_place e.1 (cases_lt k (length new))
 
-    fit-more : NodeFits MAX_SIDE MAX_SIDE n → AllByRecursion (NodeFits MAX_SIDE MAX_SIDE) new'
-    fit-more fits = search (rules, all_push, fits-by)
+    on-more : (b : Grid) → TableOnBoard b old → TableOnBoard b t → TableOnBoard b new'
+    on-more b before on = by_put put where
+      by_put : PutsIn new m new' → TableOnBoard b new'
+      by_put (inl e) = subst (TableOnBoard b) (sym e.1) (h.on_board b before on)
+      by_put (inr e) = subst (TableOnBoard b) (sym e.1)
+          (all_push (NamesOnBoard b) new m (h.on_board b before on) (moved-on b (all_get (NamesOnBoard b) t i n at on)))
 
     -- each of the new nodes has its place
     covered-by : (k : ℕ) → length old ≤ k → k < length new' → (p : ℕ) × (p < i + 1) × (slice_index numbers' p ≡ k)
@@ -203,20 +202,11 @@ module _ (old t new : List Node) (numbers : List ℕ) (i : ℕ) (n m : Node) (h 
 
       by_place : (grown : new' ≡ new ++ m ∷ []) → (k < length new) ⊎ (length new ≤ k) → (p : ℕ) × (p < i + 1) × (slice_index numbers' p ≡ k)
       by_place grown (inl l) = before l
-      by_place grown (inr l) =
-          let count : length new' ≡ length new + 1 = ap length grown ∙ length-append new (m ∷ []) in
-          let last : length new ≡ k = omega arith in
-          let here : slice_get new' k ≡ Some m = ap (slice_get new') (sym last) ∙ ap (λ (u : List Node). slice_get u (length new)) grown
-          ∙ last_node new m in
-          let same : x ≡ k = compiled.different.different x k m there here in
-          (i, omega arith, number-last x numbers' pushed ∙ same)
+      by_place grown (inr l) = (i, omega arith, number-last x numbers' pushed ∙ last-is k grown l high)
 
       by_put : PutsIn new m new' → (p : ℕ) × (p < i + 1) × (slice_index numbers' p ≡ k)
       by_put (inl e) = before (subst (λ (u : List Node). k < length u) e.1 high)
       by_put (inr e) = by_place e.1 (cases_lt k (length new))
-
-    x-inside : x < length new'
-    x-inside = slice_get_within new' x m there
 
     in_order-by : (k q : ℕ) → length old ≤ k → q < i + 1 → slice_index numbers' q ≡ suc k → (p : ℕ) × (p < q) × (slice_index numbers' p ≡ k)
     in_order-by k q low high is = by_place (cases_lt q i) where
@@ -227,29 +217,25 @@ module _ (old t new : List Node) (numbers : List ℕ) (i : ℕ) (n m : Node) (h 
       by_place (inr l) =
           let last : i ≡ q = omega arith in
           let next : x ≡ suc k = sym (number-last x numbers' pushed) ∙ ap (λ (j : ℕ). slice_index numbers' j) last ∙ is in
-          let few : length new' ≤ length new + 1 = by_put put in
-          let inside = x-inside in
+          let more = grows-by in
+          let few = more.few in
+          let count : length new' ≡ length new + length more.added = ap length more.is ∙ length-append new more.added in
+          let inside = slice_get_within new' x m there in
           let place = h.covered k low (omega arith) in
-          (place.0, (let less = place.1 in omega arith), number-before x numbers' pushed place.0 place.1 ∙ place.2) where
-            by_put : PutsIn new m new' → length new' ≤ length new + 1
-            by_put (inl e) = let count : length new' ≡ length new = ap length e.1 in omega arith
-            by_put (inr e) = let count : length new' ≡ length new + 1 = ap length e.1 ∙ length-append new (m ∷ []) in omega arith
+          (place.0, (let less = place.1 in omega arith), number-before x numbers' pushed place.0 place.1 ∙ place.2)
 
     -- once the node is adopted
-    pub adopted-more : AllByRecursion (NodeFits MAX_SIDE MAX_SIDE) t → AdoptedUpTo old t new' numbers' (i + 1)
-    adopted-more fit =
-        let grows = grows-by new' put in
-        record {
-          count = ap length pushed ∙ length-append numbers (x ∷ []) ∙ ap (λ (k : ℕ). k + 1) h.count;
-          copied = copied-more x numbers' pushed new' (stays-by new' grows.0 grows.1) there;
-          compiled = compiled;
-          more = h.more ++ grows.0;
-          grown = grows.1 ∙ ap (λ (u : List Node). u ++ grows.0) h.grown ∙ append_assoc old h.more grows.0;
-          held = held-by;
-          fit = fit-more (all_get (NodeFits MAX_SIDE MAX_SIDE) t i n at fit);
-          covered = covered-by;
-          in_order = in_order-by;
-        }
+    pub adopted-more : AdoptedUpTo old t new' numbers' (i + 1)
+    adopted-more = record {
+      count = ap length pushed ∙ length-append numbers (x ∷ []) ∙ ap (λ (k : ℕ). k + 1) h.count;
+      copied = copied-more x numbers' pushed new' (stays-by new' grows-by.added grows-by.is) there;
+      compiled = compiled;
+      grows = grows-then old new new' i 1 (i + 1) h.grows grows-by (omega arith);
+      held = held-by;
+      on_board = on-more;
+      covered = covered-by;
+      in_order = in_order-by;
+    }
 
   -- where there is no room for it, there are too many different nodes
   pub adopt-full : (Contains new m → ⊥) → length new ≡ MAX_NODES → HoldMore (old ∷ t ∷ []) MAX_NODES
@@ -261,53 +247,46 @@ module _ (old t new : List Node) (numbers : List ℕ) (i : ℕ) (n m : Node) (h 
 
 -- ---- at the end
 
-module _ (old t new : List Node) (numbers : List ℕ) (i : ℕ) (h : AdoptedUpTo old t new numbers i) where
-  pub adopted-stays : (new' : List Node) → new' ≡ new → Stays old t new'
-  adopted-stays new' e = subst (Stays old t) (sym e) (record {
-    more = h.more;
-    is = h.grown;
+module _ (old t new : List Node) (numbers : List ℕ) (i : ℕ) (h : AdoptedUpTo old t new numbers i) (few : i ≤ length t) where
+  pub adopted-leaves : (new' : List Node) → new' ≡ new → Adopts old t new'
+  adopted-leaves new' e = subst (Adopts old t) (sym e) (record {
+    compiled = h.compiled;
+    grows = grows-more old new i (length t) h.grows few;
     held = λ w is. by_one w is.0 is.1 (among-one new is.0 is.2) is.3 is.4;
+    on_board = h.on_board;
   }) where
     by_one : (w : Unfolded) (u : List Node) (k : ℕ) → new ≡ u → k < length u → unfolded u k ≡ w → IsHeld (old ∷ t ∷ []) w
     by_one w u k same l is =
         subst (IsHeld (old ∷ t ∷ [])) (ap (λ (v : List Node). unfolded v k) same ∙ is)
         (h.held k (subst (λ (v : List Node). k < length v) (sym same) l))
 
-  module _ (table : IsTable t) (whole : i ≡ length t) where
-    pub adopted-numbers : AreNumbers old t new numbers
-    adopted-numbers = search (rules, slice_get_within)
+  pub adopted-numbers : length t ≤ i → AreNumbers old t new numbers
+  adopted-numbers whole = search (rules, slice_get_within)
 
-    -- each node that is held by the old nodes, or by the table, is one of the new nodes
-    pub adopted-holds : NamesLower old → (w : Unfolded) → IsHeld (old ∷ t ∷ []) w → (x : ℕ) × (x < length new) × (unfolded new x ≡ w)
-    adopted-holds lower w is = by_two (among-two old t is.0 is.2) where
-      count : length new ≡ length old + length h.more
-      count = ap length h.grown ∙ length-append old h.more
+-- each node that is held by the old nodes, or by a table that is adopted, is one of the new nodes
+pub adopted-holds : (old t new : List Node) (numbers : List ℕ) → IsTable t → NamesLower old → Adopts old t new → AreNumbers old t new numbers
+    → (w : Unfolded) → IsHeld (old ∷ t ∷ []) w → (x : ℕ) × (x < length new) × (unfolded new x ≡ w)
+adopted-holds old t new numbers table lower adopts are w is = by_two (among-two old t is.0 is.2) where
+  count : length new ≡ length old + length adopts.grows.added
+  count = ap length adopts.grows.is ∙ length-append old adopts.grows.added
 
-      by_two : (old ≡ is.0) ⊎ (t ≡ is.0) → (x : ℕ) × (x < length new) × (unfolded new x ≡ w)
-      by_two (inl same) =
-          let l : is.1 < length old = subst (λ (v : List Node). is.1 < length v) (sym same) is.3 in (
-            is.1,
-            (let c = count in omega arith),
-            ap (λ (v : List Node). unfolded v is.1) h.grown ∙ unfolded-longer old h.more lower is.1 l
-                ∙ ap (λ (v : List Node). unfolded v is.1) same ∙ is.4,
-          )
-      by_two (inr same) =
-          let l : is.1 < length t = subst (λ (v : List Node). is.1 < length v) (sym same) is.3 in
-          let passes : nat_lt is.1 i ≡ true = lt-ltb is.1 i (omega arith) in (
-            slice_index numbers is.1,
-            inside-by t new numbers i table (omega arith) h.copied is.1 passes,
-            unfolded-copied (λ j. slice_index numbers j) (λ j. nat_lt j i) t new (copies-by t new numbers i table (omega arith) h.copied)
-                (IsTable-lower t table) (IsTable-lower new h.compiled.table) is.1 passes
-                ∙ ap (λ (v : List Node). unfolded v is.1) same ∙ is.4,
-          )
+  by_two : (old ≡ is.0) ⊎ (t ≡ is.0) → (x : ℕ) × (x < length new) × (unfolded new x ≡ w)
+  by_two (inl same) =
+      let l : is.1 < length old = subst (λ (v : List Node). is.1 < length v) (sym same) is.3 in (
+        is.1,
+        (let c = count in omega arith),
+        ap (λ (v : List Node). unfolded v is.1) adopts.grows.is ∙ unfolded-longer old adopts.grows.added lower is.1 l
+            ∙ ap (λ (v : List Node). unfolded v is.1) same ∙ is.4,
+      )
+  by_two (inr same) =
+      let l : is.1 < length t = subst (λ (v : List Node). is.1 < length v) (sym same) is.3 in
+      let there = number-is old t new numbers table are (IsTable-lower new adopts.compiled.table) is.1 l in
+      (slice_index numbers is.1, there.0, there.1 ∙ ap (λ (v : List Node). unfolded v is.1) same ∙ is.4)
 
-    -- so they are not too many
-    pub adopted-few : NamesLower old → HoldMore (old ∷ t ∷ []) MAX_NODES → ⊥
-    adopted-few lower more =
-        let over = held-within (old ∷ t ∷ []) MAX_NODES new (adopted-holds lower) more in
-        let size = h.compiled.table.size in
-        absurd (omega arith)
-
--- a file is refused as full where a node is
-pub full-from : {A : Type 0} (r : Result A BindError) (e : CompileError) → IsErrAnd r (λ b. b ≡ bind_error e) → r ≡ Err FullBook → e ≡ Full
-full-from x0 e h f = search rules
+-- so they are not too many
+pub adopted-few : (old t new : List Node) (numbers : List ℕ) → IsTable t → NamesLower old → Adopts old t new → AreNumbers old t new numbers
+    → HoldMore (old ∷ t ∷ []) MAX_NODES → ⊥
+adopted-few old t new numbers table lower adopts are more =
+    let over = held-within (old ∷ t ∷ []) MAX_NODES new (adopted-holds old t new numbers table lower adopts are) more in
+    let size = adopts.compiled.table.size in
+    absurd (omega arith)
