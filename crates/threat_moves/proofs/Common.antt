@@ -2,7 +2,7 @@
 pub use Rattle.row_shapes.specs.FivePoints.{is_several}
 pub use Rattle.threat_moves.specs.Blocks.{by_block, by_fives}
 unfoldable pub use Rattle.threat_moves.specs.Blocks.{fate}
-pub use Rattle.threat_moves.specs.FiveEnds.{CostsAreNear, IsSure, five_end, is_five_end, is_near, is_straight_at}
+pub use Rattle.threat_moves.specs.FiveEnds.{HasCosts, IsSure, IsSureAt, end_past, five_end, is_five_end, is_past, is_straight_at}
 pub use Rattle.threat_moves.specs.FourMoves.{four_moves}
 unfoldable pub use Rattle.threat_moves.specs.FourMoves.{is_four_move}
 pub use Rattle.threat_moves.specs.FreePoints.{StaysFree}

@@ -1,63 +1,36 @@
--- A stone of the other side that stands away from a three leaves the three as it was: whether a point gives a straight four is
--- decided by the places of the three's line.
-use Rattle.std.proofs.Common.{◌≡◌, ◌≢◌, inl, inr, ℕ, ◌+◌, ◌-◌, ◌≤◌, ◌<◌, Bool, true, false, ◌&&◌, not}
-use Rattle.std.proofs.Common.{refl, sym, ap, ◌∙◌, arith, nat_eq, Option, Some, None, is_none, nat_le}
-use Rattle.std.proofs.lemmas.Bool.{eq-eqb, eqb-true, le-leb}
-use Rattle.game_rules.proofs.Common.{Grid, IsBoard, is_empty, put, along, points_of, holds, is_line_three_point, five, foul_of, black_foul}
-use Rattle.game_rules.proofs.Common.{has_fouls, other, towards, opposite, stones_towards, go}
+-- A stone of the other side that stands at no end of a three leaves the three as it was: whether a point gives a straight four is
+-- decided by the run that a stone there makes and the points at both its ends.
+use Rattle.std.proofs.Common.{◌≡◌, ◌≢◌, ◌⊎◌, inl, inr, ℕ, ◌+◌, ◌<◌, Bool, true, false, cond, ◌&&◌, ◌||◌, not, filter, List}
+use Rattle.std.proofs.Common.{refl, sym, ap, ◌∙◌, arith, Option, Some, None, is_none, rules}
+use Rattle.std.proofs.lemmas.Bool.{both_ways, false_from_ne_true, or_left, or_right, or_cases}
+use Rattle.game_rules.proofs.Common.{Grid, IsBoard, is_empty, put, holds, is_line_three_point, five, foul_of, black_foul}
+use Rattle.game_rules.proofs.Common.{is_at, is_same_point, other, towards, opposite, stones_towards, run_end}
 use Rattle.game_rules.specs.declared.RuleKind.{RuleKind}
 use Rattle.game_rules.specs.declared.RuleKind.TheVariants.{Freestyle, Exact, Renju}
 use Rattle.game_rules.specs.declared.Side.{Side}
 use Rattle.game_rules.specs.declared.Side.TheVariants.{Black, White}
 use Rattle.game_rules.specs.declared.Foul.{Foul}
 use Rattle.game_rules.specs.declared.Axis.{Axis}
-use Rattle.game_rules.specs.declared.Axis.TheVariants.{Row, Column, Down, Up}
 use Rattle.game_rules.specs.declared.Point.{Point}
 use Rattle.game_rules.specs.declared.Way.{Way}
 use Rattle.game_rules.specs.declared.Way.TheVariants.{Ahead, Behind}
 use Rattle.game_rules.proofs.Boards.{Apart, and_left, and_right, is_empty-on, is_empty-put, same_or_apart, other-other, stone_kept}
 use Rattle.game_rules.proofs.Fives.{five-other}
-use Rattle.game_rules.proofs.Lines.{OnLine, along-OnLine, along-same}
-use Rattle.game_rules.proofs.PointLists.{Apart-back}
-use Rattle.game_rules.proofs.Points.{any_witness, is_same_point-apart, points-found}
+use Rattle.game_rules.proofs.PointLists.{Apart-back, filter-both}
+use Rattle.game_rules.proofs.Points.{is_same_point-apart, is_same_point-itself, is_same_point-same, is_at-Some, points-found}
 use Rattle.game_rules.proofs.Positions.{IsBoard-put}
 use Rattle.game_rules.proofs.OneLine.{holds-put_others, towards_alike}
 use Rattle.game_rules.proofs.Threes.{three_empty}
-use Rattle.row_shapes.specs.Threes.{wins_past, is_open_four}
-use Rattle.row_shapes.proofs.ThreePoints.{three-open, three_first, three_near}
+use Rattle.game_rules.proofs.Ways.{go-then, go-same}
+use Rattle.stone_board.specs.Steps.{kept_on}
+use Rattle.stone_board.proofs.LineBits.{board-near}
+use Rattle.row_shapes.specs.Threes.{wins_past}
+use Rattle.row_shapes.proofs.ThreePoints.{three-open, three_first}
 use Rattle.foul_judge.proofs.FewerEmpties.{white-no_foul}
-use Rattle.threat_moves.proofs.Common.{StaysFree, is_straight_point, has_straight_point, stops_three, is_near, IsSure, CostsAreNear}
+use Rattle.open_windows.specs.PointSets.{has_point}
+use Rattle.threat_moves.proofs.Common.{StaysFree, is_straight_point, has_straight_point, stops_three, end_past, is_past, IsSure, IsSureAt}
+use Rattle.threat_moves.proofs.Common.{HasCosts}
 use Rattle.threat_moves.proofs.GainLaws.{straight-line, line_three, empty-stops}
-
--- ---- what is near on a line
-
--- a point on the eleven places of the line round g passes the test of coordinates
-pub place-near : (d : Axis) (g q : Point) (i : ℕ) → i < 11 → along d g i 5 ≡ Some q → is_near d g q ≡ true
-place-near d g q i low here = by_axis d (along-OnLine d g i 5 q here) where
-  all_three : (r t u : Bool) → r ≡ true → t ≡ true → u ≡ true → (r && t && u) ≡ true
-  all_three r t u e f h = rw (e, f, h) refl
-
-  by_axis : (d : Axis) → OnLine d g i 5 q → is_near d g q ≡ true
-  by_axis Row h =
-      let x = h.0 in
-      let y = h.1 in
-      all_three (nat_eq q.y g.y) (nat_le q.x (g.x + 5)) (nat_le g.x (q.x + 5)) (eq-eqb _ _ (omega arith)) (le-leb _ _ (omega arith))
-      (le-leb _ _ (omega arith))
-  by_axis Column h =
-      let x = h.0 in
-      let y = h.1 in
-      all_three (nat_eq q.x g.x) (nat_le q.y (g.y + 5)) (nat_le g.y (q.y + 5)) (eq-eqb _ _ (omega arith)) (le-leb _ _ (omega arith))
-      (le-leb _ _ (omega arith))
-  by_axis Down h =
-      let x = h.0 in
-      let y = h.1 in
-      all_three (nat_eq (q.x + g.y) (g.x + q.y)) (nat_le q.y (g.y + 5)) (nat_le g.y (q.y + 5)) (eq-eqb _ _ (omega arith))
-      (le-leb _ _ (omega arith)) (le-leb _ _ (omega arith))
-  by_axis Up h =
-      let x = h.0 in
-      let y = h.1 in
-      all_three (nat_eq (q.x + q.y) (g.x + g.y)) (nat_le q.y (g.y + 5)) (nat_le g.y (q.y + 5)) (eq-eqb _ _ (omega arith))
-      (le-leb _ _ (omega arith)) (le-leb _ _ (omega arith))
 
 -- ---- a stone of the other side on an empty point
 
@@ -88,84 +61,90 @@ module _ (rule : RuleKind) (b : Grid) (s : Side) (d : Axis) (p z : Point) (ok : 
       let more = towards_same w d q in
       rw (same, more) refl
 
-  -- z is on none of the eleven places of the line round p
-  module _ (far : is_near d p z ≡ false) where
-    not_place : (i : ℕ) → i < 11 → along d p i 5 ≢ Some z
-    not_place i low here = let near = place-near d p z i low here in let bad : false ≡ true = sym far ∙ near in cc
+  -- and next to no end of the run through p
+  module _ (off : (w : Way) → is_past b s d p w z ≡ false) where
+    not_past : (o e : Option Point) → (is_at z o || is_at z e) ≡ false → (o ≢ Some z) × (e ≢ Some z)
+    not_past o e h = (
+      λ same. both_ways _ h (or_left _ _ (ap (is_at z) same ∙ is_same_point-itself z)),
+      λ same. both_ways _ h (or_right (is_at z o) _ (ap (is_at z) same ∙ is_same_point-itself z)),
+    )
 
-    not_towards : (w : Way) (k : ℕ) → k ≤ 5 → towards w d p k ≢ Some z
-    not_towards Ahead k low here = not_place (5 + k) (omega arith) (along-same d p (5 + k) 5 k 0 (omega arith) ∙ here)
-    not_towards Behind k low here = let i : (j : ℕ) × (j + k ≡ 5) = (5 - k, omega arith) in
-        not_place i.0 (let e = i.1 in omega (arith, e)) (along-same d p i.0 5 0 k (let e = i.1 in omega (arith, e)) ∙ here)
+    not_first : (w : Way) → run_end b s d w p ≢ Some z
+    not_first w = (not_past _ _ (off w)).0
 
-    open_same : (w : Way) (fore back : ℕ) → is_open_four rule later s d p w fore back ≡ is_open_four rule b s d p w fore back
-    open_same w fore back = by_sum (nat_eq (fore + back) 3) refl where
-      by_sum : (r : Bool) → nat_eq (fore + back) 3 ≡ r → is_open_four rule later s d p w fore back ≡ is_open_four rule b s d p w fore back
-      by_sum false e = rw e refl
-      by_sum true e =
-          let four : fore + back ≡ 3 = eqb-true _ _ e in
-          let front = past_same w (towards w d p (1 + fore)) (not_towards w (1 + fore) (omega arith)) in
-          let rear = past_same (opposite w) (towards (opposite w) d p (1 + back)) (not_towards (opposite w) (1 + back) (omega arith)) in
-          rw (front, rear) refl
+    -- so a point q that gives a straight four stays one where it is no foul then
+    module _ (q : Point) (straight : is_straight_point rule b s d p q ≡ true) where
+      line : is_line_three_point rule b s d p q ≡ true
+      line = line_three rule b s d p q straight
 
-    -- a three point as far as the axis decides stays one
-    three_by : (q : Point) (w : Way) → go w d p (1 + stones_towards w b s d p) 0 ≡ Some q → q ≢ z → is_empty b q ≡ true
-        → is_line_three_point rule later s d p q ≡ is_line_three_point rule b s d p q
-    three_by q w here differ free =
-        let near = towards_same w d p in
-        let more = towards_same w d q in
-        let far_same = towards_same (opposite w) d p in
-        let there : go w d p (1 + stones_towards w later s d p) 0 ≡ Some q = ap (λ k. go w d p (1 + k) 0) near ∙ here in
-        three-open rule later s w d p q ok_later mine_later (empty_same q differ ∙ free) there
-        ∙ rw (near, more, far_same)
-        (open_same w (1 + stones_towards w b s d p + stones_towards w b s d q) (stones_towards (opposite w) b s d p))
-        ∙ sym (three-open rule b s w d p q ok mine free here)
+      free : is_empty b q ≡ true
+      free = three_empty rule b s d p q line
 
-    not_z : (q : Point) → is_line_three_point rule b s d p q ≡ true → q ≢ z
-    not_z q h same = let place = three_near rule b s d p ok mine q h in not_place place.0 place.1 (place.2 ∙ ap Some same)
+      first : (w : Way) × (run_end b s d w p ≡ Some q)
+      first = three_first rule b s d p q ok mine line
 
-    three-stays : (q : Point) → is_line_three_point rule b s d p q ≡ true → is_line_three_point rule later s d p q ≡ true
-    three-stays q h = let first = three_first rule b s d p q ok mine h in
-        three_by q first.0 first.1 (not_z q h) (three_empty rule b s d p q h) ∙ h
+      pub not_z : q ≢ z
+      not_z same = not_first first.0 (first.1 ∙ ap Some same)
 
-    five-stays : (q : Point) → q ≢ z → five rule later s q ≡ five rule b s q
-    five-stays q differ = elim (same_or_apart z q) [
-      | inl same ↦ absurd (differ (sym same))
-      | inr apart ↦
-          let e = five-other b (other s) z ok empty rule q apart in
-          rw (other-other s) at e
-    ]
+      module _ (w : Way) (here : run_end b s d w p ≡ Some q) where
+        abbrev fore : ℕ
+        fore = 1 + stones_towards w b s d p + stones_towards w b s d q
 
-    -- a point that gives a straight four stays one where it is no foul then
-    straight-stays : (q : Point) → is_straight_point rule b s d p q ≡ true → is_none (foul_of rule later s q) ≡ true
-        → is_straight_point rule later s d p q ≡ true
-    straight-stays q h free =
-        let line = line_three rule b s d p q h in
-        let all : (is_line_three_point rule b s d p q && not (five rule b s q) && is_none (foul_of rule b s q)) ≡ true =
-        sym (straight-line rule b s d p q) ∙ h in
-        let no_five : not (five rule b s q) ≡ true = and_right (is_line_three_point rule b s d p q) _
-        (and_left (is_line_three_point rule b s d p q && not (five rule b s q)) _ all) in
-        straight-line rule later s d p q ∙ rw (three-stays q line, five-stays q (not_z q line), no_five, free) refl
+        not_next : towards w d p (1 + fore) ≢ Some z
+        not_next at =
+            let past : end_past b s d w (run_end b s d w p) ≡ run_end b s d w q =
+            ap (end_past b s d w) here ∙ ap (λ r. cond r (run_end b s d w q) None) free in
+            let there : run_end b s d w q ≡ towards w d p (1 + fore) =
+            go-then w d p q (1 + stones_towards w b s d p) 0 (1 + stones_towards w b s d q) 0 here
+            ∙ go-same w d p _ _ (1 + fore) 0 (omega arith) in
+            (not_past _ _ (off w)).1 (past ∙ there ∙ at)
 
-    -- and then z is no cost
-    no_stop-by : (q : Point) → is_straight_point rule b s d p q ≡ true → is_none (foul_of rule later s q) ≡ true
-        → stops_three rule b s d p z ≡ false
-    unfolding has_straight_point
-    no_stop-by q h free =
-        let now = straight-stays q h free in
-        let line = line_three rule later s d p q now in
-        empty-stops rule b s d p z empty
-        ∙ ap not (points-found later (is_straight_point rule later s d p) q (is_empty-on later q (three_empty rule later s d p q line)) now)
+        stays_by : is_line_three_point rule later s d p q ≡ true
+        stays_by =
+            let near = towards_same w d p in
+            let more = towards_same w d q in
+            let far = towards_same (opposite w) d p in
+            let front = past_same w (towards w d p (1 + fore)) not_next in
+            let rear = past_same (opposite w) (run_end b s d (opposite w) p) (not_first (opposite w)) in
+            let there : run_end later s d w p ≡ Some q = ap (λ k. towards w d p (1 + k)) near ∙ here in
+            three-open rule later s w d p q ok_later mine_later (empty_same q not_z ∙ free) there
+            ∙ rw (near, more, far, front, rear) refl
+            ∙ sym (three-open rule b s w d p q ok mine free here)
+            ∙ line
 
-    -- where the side has no fouls, such a stone stops no three
-    free-no_stop : has_fouls rule s ≡ false → has_straight_point rule b s d p ≡ true → stops_three rule b s d p z ≡ false
-    unfolding has_straight_point
-    free-no_stop free h =
-        let some = any_witness (is_straight_point rule b s d p) (points_of b) h in
-        no_stop-by some.0 some.1 (rw free refl)
+      three-stays : is_line_three_point rule later s d p q ≡ true
+      three-stays = stays_by first.0 first.1
 
-    none_foul : (q : Point) → is_straight_point rule b s d p q ≡ true → is_none (foul_of rule b s q) ≡ true
-    none_foul q h = and_right (is_line_three_point rule b s d p q && not (five rule b s q)) _ (sym (straight-line rule b s d p q) ∙ h)
+      five-stays : five rule later s q ≡ five rule b s q
+      five-stays = elim (same_or_apart z q) [
+        | inl same ↦ absurd (not_z (sym same))
+        | inr apart ↦
+            let e = five-other b (other s) z ok empty rule q apart in
+            rw (other-other s) at e
+      ]
+
+      parts : (is_line_three_point rule b s d p q && not (five rule b s q) && is_none (foul_of rule b s q)) ≡ true
+      parts = sym (straight-line rule b s d p q) ∙ straight
+
+      pub none_foul : is_none (foul_of rule b s q) ≡ true
+      none_foul = and_right (is_line_three_point rule b s d p q && not (five rule b s q)) _ parts
+
+      -- and then z is no cost
+      pub no_stop-by : is_none (foul_of rule later s q) ≡ true → stops_three rule b s d p z ≡ false
+      unfolding has_straight_point
+      no_stop-by safe =
+          let no_five : not (five rule b s q) ≡ true = and_right (is_line_three_point rule b s d p q) _
+          (and_left (is_line_three_point rule b s d p q && not (five rule b s q)) _ parts) in
+          let now : is_straight_point rule later s d p q ≡ true =
+          straight-line rule later s d p q ∙ rw (three-stays, five-stays, no_five, safe) refl in
+          empty-stops rule b s d p z empty
+          ∙ ap not (points-found later (is_straight_point rule later s d p) q
+          (is_empty-on later q (three_empty rule later s d p q three-stays))
+          now)
+
+none_is : (o : Option Foul) → is_none o ≡ true → o ≡ None
+none_is None h = refl
+none_is (Some f) h = cc
 
 -- no foul of Black is freed where fewer than two axes have three points
 foul-stays : (rule : RuleKind) (b : Grid) (s : Side) (q z : Point) → IsBoard b → is_empty b q ≡ true → is_empty b z ≡ true → Apart z q
@@ -175,33 +154,88 @@ foul-stays Freestyle b s q z ok free_q free_z apart few h = refl
 foul-stays Exact b s q z ok free_q free_z apart few h = refl
 foul-stays Renju b White q z ok free_q free_z apart few h = refl
 foul-stays Renju b Black q z ok free_q free_z apart few h =
-    ap is_none (white-no_foul b q z ok free_q free_z apart Renju (few refl) (none_of (black_foul Renju b q) h)) where
-      none_of : (o : Option Foul) → is_none o ≡ true → o ≡ None
-      none_of None h = refl
-      none_of (Some f) h = cc
+    ap is_none (white-no_foul b q z ok free_q free_z apart Renju (few refl) (none_is (black_foul Renju b q) h))
 
 -- so a point that is sure stays free
 pub stays-free : (rule : RuleKind) (b : Grid) (s : Side) (p : Point) → IsBoard b → is_empty b p ≡ true → IsSure rule b s p
     → StaysFree rule b s p
-stays-free rule b s p ok empty sure = λ none z free apart. none_of (foul_of rule (put b (other s) z) s p)
-    (foul-stays rule b s p z ok empty free (Apart-back p z (is_same_point-apart p z apart)) sure (ap is_none none)) where
-      none_of : (o : Option Foul) → is_none o ≡ true → o ≡ None
-      none_of None h = refl
-      none_of (Some f) h = cc
+stays-free rule b s p ok empty sure = λ none z free apart. none_is (foul_of rule (put b (other s) z) s p)
+    (foul-stays rule b s p z ok empty free (Apart-back p z (is_same_point-apart p z apart)) sure (ap is_none none))
 
--- a point that is sure leaves no cost away from the line
-pub sure-far : (rule : RuleKind) (b : Grid) (s : Side) (d : Axis) (p q : Point) → IsBoard b → holds b s p ≡ true
-    → is_straight_point rule b s d p q ≡ true → IsSure rule b s q → CostsAreNear rule b s d p
-sure-far rule b s d p q ok mine h few z empty far =
-    let free = three_empty rule b s d p q (line_three rule b s d p q h) in
-    let differ = not_z rule b s d p z ok mine empty far q (line_three rule b s d p q h) in
-    elim (same_or_apart z q) [
-      | inl same ↦ absurd (differ (sym same))
-      | inr apart ↦ no_stop-by rule b s d p z ok mine empty far q h
-          (foul-stays rule b s q z ok free empty apart few (none_foul rule b s d p z ok mine empty far q h))
-    ]
+-- ---- where the costs of a three are
 
--- so is each of a side without fouls
-pub free-far : (rule : RuleKind) (b : Grid) (s : Side) (d : Axis) (p : Point) → IsBoard b → holds b s p ≡ true
-    → has_straight_point rule b s d p ≡ true → has_fouls rule s ≡ false → CostsAreNear rule b s d p
-free-far rule b s d p ok mine h free z empty far = free-no_stop rule b s d p z ok mine empty far free h
+-- a test that follows from another
+pub follows : (r t : Bool) → (t ≡ true → r ≡ true) → (r && t) ≡ t
+follows r t h = search rules
+
+-- what passes a test is found among the points of a set that has all of it
+pub filter-among : (f g : Point → Bool) → ((p : Point) → g p ≡ true → f p ≡ true) → (ps : List Point)
+    → filter g (filter f ps) ≡ filter g ps
+filter-among f g h ps = sym (filter-both f g ps) ∙ (λ i. filter (λ p. follows (f p) (g p) (h p) i) ps)
+
+stop-empty : (rule : RuleKind) (b : Grid) (s : Side) (d : Axis) (p z : Point) → stops_three rule b s d p z ≡ true → is_empty b z ≡ true
+unfolding stops_three
+stop-empty rule b s d p z h = and_left (is_empty b z) _ h
+
+-- where a point that gives a straight four stays no foul, the costs are next to the ends of the run
+sure-past : (rule : RuleKind) (b : Grid) (s : Side) (d : Axis) (p : Point) (o : Option Point) (z : Point) → IsBoard b → holds b s p ≡ true
+    → IsSureAt rule b s d p o → stops_three rule b s d p z ≡ true → (w : Way) × (is_past b s d p w z ≡ true)
+sure-past rule b s d p None z ok mine sure stops = absurd (let h = sure.straight in cc)
+sure-past rule b s d p (Some q) z ok mine sure stops = by_ways _ _ refl refl where
+  empty : is_empty b z ≡ true
+  empty = stop-empty rule b s d p z stops
+
+  outside : ((w : Way) → is_past b s d p w z ≡ false) → ⊥
+  outside off =
+      let none = none_is _ (none_foul rule b s d p z ok mine empty off q sure.straight) in
+      let apart : is_same_point q z ≡ false = false_from_ne_true _ (λ same.
+      not_z rule b s d p z ok mine empty off q sure.straight (is_same_point-same q z same)) in
+      both_ways _ (no_stop-by rule b s d p z ok mine empty off q sure.straight (ap is_none (sure.stays none z empty apart))) stops
+
+  by_ways : (r t : Bool) → is_past b s d p Ahead z ≡ r → is_past b s d p Behind z ≡ t → (w : Way) × (is_past b s d p w z ≡ true)
+  by_ways true t e f = (Ahead, e)
+  by_ways false true e f = (Behind, f)
+  by_ways false false e f = absurd (outside off) where
+    off : (w : Way) → is_past b s d p w z ≡ false
+    off Ahead = e
+    off Behind = f
+
+module _ (rule : RuleKind) (b : Grid) (s : Side) (d : Axis) (p : Point) (ok : IsBoard b) (set : List ℕ) where
+  -- so a set with these points has all costs
+  pub past-costs : (o : Option Point) → holds b s p ≡ true → IsSureAt rule b s d p o
+      → ((w : Way) (z : Point) → is_past b s d p w z ≡ true → is_empty b z ≡ true → has_point set z ≡ true) → HasCosts rule b s d p set
+  past-costs o mine sure past z stops =
+      let way = sure-past rule b s d p o z ok mine sure stops in past way.0 z way.1 (stop-empty rule b s d p z stops)
+
+  -- and so has one with all points
+  pub all-costs : ((z : Point) → z.x < 32 → z.y < 32 → has_point set z ≡ true) → HasCosts rule b s d p set
+  all-costs all z stops =
+      let near = board-near b z ok (is_empty-on b z (stop-empty rule b s d p z stops)) in all z near.column near.row
+
+-- ---- the points next to a run, as they are looked up
+
+-- each is the first one, or the one next after it
+pub past-point : (b : Grid) (s : Side) (d : Axis) (p : Point) (w : Way) (z first : Point) (o : Option Point)
+    → Some first ≡ kept_on b (run_end b s d w p) → o ≡ kept_on b (run_end b s d w first) → is_past b s d p w z ≡ true
+    → is_empty b z ≡ true → (z ≡ first) ⊎ (o ≡ Some z)
+past-point b s d p w z first o here next past empty = by_end (run_end b s d w p) here past where
+  kept : (e : Option Point) → e ≡ Some z → kept_on b e ≡ Some z
+  kept e is = ap (kept_on b) is ∙ ap (λ r. cond r (Some z) None) (is_empty-on b z empty)
+
+  same : (q v : Point) → Some q ≡ Some v → v ≡ q
+  same q v e = cc
+
+  by_next : (q : Point) → Some first ≡ kept_on b (Some q) → is_at z (end_past b s d w (Some q)) ≡ true → o ≡ Some z
+  by_next q at there = by_test (is_empty b q) refl there where
+    by_test : (r : Bool) → is_empty b q ≡ r → is_at z (cond r (run_end b s d w q) None) ≡ true → o ≡ Some z
+    by_test false e h = cc
+    by_test true e h =
+        let on : Some first ≡ Some q = at ∙ ap (λ r. cond r (Some q) None) (is_empty-on b q e) in
+        next ∙ kept _ (ap (run_end b s d w) (sym (same first q on)) ∙ is_at-Some z (run_end b s d w q) h)
+
+  by_end : (e : Option Point) → Some first ≡ kept_on b e → (is_at z e || is_at z (end_past b s d w e)) ≡ true → (z ≡ first) ⊎ (o ≡ Some z)
+  by_end None at h = cc
+  by_end (Some q) at h = elim (or_cases (is_at z (Some q)) _ h) [
+    | inl one ↦ inl (same first z (at ∙ kept (Some q) (is_at-Some z (Some q) one)))
+    | inr two ↦ inr (by_next q at two)
+  ]

@@ -31,7 +31,7 @@ same_tests false false h k = refl
 
 module _ (rule : RuleKind) (b : Grid) (s : Side) (d : Axis) (g : Point) (ok : IsBoard b) (mine : holds b s g ≡ true) where
   module _ (c : Point) where
-    fills_wins : fills_five rule b s d g c ≡ true → wins_on rule b s d c ≡ true
+    pub fills_wins : fills_five rule b s d g c ≡ true → wins_on rule b s d c ≡ true
     unfolding fills_five
     fills_wins h = and_left (wins_on rule b s d c) _ h
 
@@ -47,7 +47,7 @@ module _ (rule : RuleKind) (b : Grid) (s : Side) (d : Axis) (g : Point) (ok : Is
     wins_empty h = and_left (is_empty b c) _ h
 
     -- a point that fills a four is an end of its run
-    fills_first : fills_five rule b s d g c ≡ true → (w : Way) × (run_end b s d w g ≡ Some c)
+    pub fills_first : fills_five rule b s d g c ≡ true → (w : Way) × (run_end b s d w g ≡ Some c)
     fills_first h = in_run-end b s d g c ok mine (wins_empty (fills_wins h)) (fills_in_run h)
 
     -- and an end that wins fills a four

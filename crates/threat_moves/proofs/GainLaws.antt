@@ -1,8 +1,9 @@
 -- What the stone on a gain is asked for, and what is found where it is taken off again; double points. The points at which a three becomes
--- a straight four are among the places of its line; a gain with few stones within reach makes no threat.
+-- a straight four are among the places of its line; a gain lies in an open window with two stones of its side.
 use Rattle.std.proofs.Common.{◌≡◌, ◌≤◌, Bool, true, false, cond, ◌&&◌, not, List, [], ◌∷◌, length, refl, sym, ap, ◌∙◌, arith, ◌||◌, nat_le}
-use Rattle.std.proofs.Common.{ℕ, ◌<◌, Option, Some, None, is_none}
+use Rattle.std.proofs.Common.{ℕ, ◌+◌, ◌<◌, Option, Some, None, is_none}
 use Rattle.std.specs.List.{flat_map, list_any}
+use Rattle.std.proofs.lemmas.Bool.{both_ways}
 use Rattle.std.proofs.lemmas.Bool.Decides.{nat_tests}
 use Rattle.std.proofs.Math.Bool.{and-false, and-true}
 use Rattle.game_rules.specs.declared.RuleKind.{RuleKind}
@@ -17,19 +18,27 @@ use Rattle.game_rules.proofs.Common.{is_line_three_at, foul_of}
 use Rattle.game_rules.proofs.Boards.{and_left, is_empty-on, holds-put_same}
 use Rattle.game_rules.proofs.Points.{any_witness, points-found, none_of}
 use Rattle.game_rules.proofs.Fives.{five-empty}
-use Rattle.game_rules.proofs.Axes.{no_axis}
+use Rattle.game_rules.proofs.Common.{towards}
+use Rattle.game_rules.proofs.Ways.{towards-put}
 use Rattle.game_rules.proofs.Positions.{IsBoard-put}
 use Rattle.game_rules.proofs.Threes.{three_empty, three_by}
 use Rattle.stone_board.specs.Steps.{kept_on}
 use Rattle.stone_board.proofs.Looks.{three-kept}
 use Rattle.row_shapes.specs.FivePoints.{in_short}
 use Rattle.row_shapes.specs.Reach.{stones_in_reach}
-use Rattle.row_shapes.proofs.Reaches.{reach-put, few-no_three}
+use Rattle.row_shapes.proofs.Reaches.{few-no_three}
+use Rattle.row_shapes.proofs.FiveLaws.{none-short}
 use Rattle.row_shapes.proofs.ThreePoints.{three_near}
+use Rattle.open_windows.specs.OpenWindows.{in_window}
+use Rattle.open_windows.proofs.Fewer.{in-fewer}
+use Rattle.open_windows.proofs.NewFives.{five-in, end-in}
+use Rattle.open_windows.proofs.NewThrees.{three-in}
 use Rattle.threat_moves.specs.declared.threat_list.ThreatKind.{ThreatKind}
 use Rattle.threat_moves.proofs.Common.{is_gain, is_threat, makes_threat, stops_three, has_straight_point, threats_on, threats_at}
 use Rattle.threat_moves.proofs.Common.{is_several, is_three_move, makes_double_point, has_double_point, is_straight_point, is_straight_at}
-use Rattle.threat_moves.proofs.FourEnds.{few-no_four}
+use Rattle.threat_moves.specs.declared.threat_list.ThreatKind.TheVariants.{Four}
+use Rattle.threat_moves.proofs.Common.{fills_five}
+use Rattle.threat_moves.proofs.FourEnds.{few-no_four, fills_first, fills_wins}
 
 module _ (rule : RuleKind) (b : Grid) (s : Side) (g : Point) where
   pub gain-empty : is_gain rule b s g ≡ true → is_empty b g ≡ true
@@ -183,25 +192,47 @@ module _ (rule : RuleKind) (b : Grid) (s : Side) (d : Axis) (p : Point) where
   pub few-no_threats : IsBoard b → holds b s p ≡ true → stones_in_reach b s d p < 2 → threats_on rule b s p d ≡ []
   few-no_threats ok mine few = rw (few-no_four rule b s d p ok mine few, few-no_straight ok mine few) refl
 
--- a point with fewer than two stones within reach on each axis is the gain of no threat
-module _ (rule : RuleKind) (b : Grid) (s : Side) (g : Point) (ok : IsBoard b) (empty : is_empty b g ≡ true)
-    (few : list_any (λ d. nat_le 2 (stones_in_reach b s d g)) axes ≡ false) where
-  on_g : is_on b g ≡ true
-  on_g = is_empty-on b g empty
+-- ---- open windows
 
-  none_on : (d : Axis) → threats_on rule (put b s g) s g d ≡ []
-  none_on d =
-      let no = no_axis (λ d. nat_le 2 (stones_in_reach b s d g)) few d in
-      let here : stones_in_reach b s d g < 2 = grind (arith, nat_tests) in
-      let same = reach-put b s g on_g d in
-      few-no_threats rule (put b s g) s d g (IsBoard-put b s g ok) (holds-put_same b s g ok on_g) (omega (arith, here, same))
+-- where the side has no five point, a point at which its stone makes two lies in a window with three stones
+pub several-in : (rule : RuleKind) (b : Grid) (s : Side) (p : Point) → IsBoard b → has_five rule b s ≡ false → is_empty b p ≡ true
+    → is_several (in_short (five_points rule (put b s p) s)) ≡ true → in_window b s 3 p ≡ true
+several-in rule b s p ok none empty two = by_five (has_five rule (put b s p) s) refl where
+  by_five : (r : Bool) → has_five rule (put b s p) s ≡ r → in_window b s 3 p ≡ true
+  by_five true made = five-in rule b s p ok empty none made
+  by_five false quiet = absurd (both_ways _ (ap is_several (none-short rule (put b s p) s quiet)) two)
 
-  by_gain : (r : Bool) → cond r (flat_map (threats_on rule (put b s g) s g) axes) [] ≡ []
-  by_gain true = rw (none_on Row, none_on Column, none_on Down, none_on Up) refl
-  by_gain false = refl
+-- a point in no window with two stones is the gain of no threat
+module _ (rule : RuleKind) (b : Grid) (s : Side) (g : Point) (ok : IsBoard b) (out : in_window b s 2 g ≡ false) where
+  module _ (empty : is_empty b g ≡ true) (d : Axis) where
+    on_g : is_on b g ≡ true
+    on_g = is_empty-on b g empty
 
-  pub no_threats : threats_at rule b s g ≡ []
-  unfolding threats_at
-  no_threats = by_gain (is_gain rule b s g)
+    ok_g : IsBoard (put b s g)
+    ok_g = IsBoard-put b s g ok
+
+    mine : holds (put b s g) s g ≡ true
+    mine = holds-put_same b s g ok on_g
+
+    outside-no_four : makes_threat rule (put b s g) s d g Four ≡ false
+    outside-no_four = none_of (fills_five rule (put b s g) s d g) (points_of (put b s g)) (λ c h.
+        let end = fills_first rule (put b s g) s d g ok_g mine c h in
+        both_ways _ out (in-fewer b s 3 2 g (omega arith) (end-in rule b s g c d ok empty (fills_wins rule (put b s g) s d g ok_g mine c h)
+        end.0 (ap (λ k. towards end.0 d g (1 + k)) (sym (towards-put b s g on_g end.0 d)) ∙ end.1))))
+
+    outside-no_three : has_straight_point rule (put b s g) s d g ≡ false
+    unfolding has_straight_point
+    outside-no_three = none_of (is_straight_point rule (put b s g) s d g) (points_of (put b s g)) (λ q h.
+        both_ways _ out (three-in rule b s d g q ok empty (line_three rule (put b s g) s d g q h)))
+
+    none_on : threats_on rule (put b s g) s g d ≡ []
+    none_on = rw (outside-no_four, outside-no_three) refl
+
+  pub outside-threats : threats_at rule b s g ≡ []
+  outside-threats = by_gain (is_gain rule b s g) refl where
+    by_gain : (r : Bool) → is_gain rule b s g ≡ r → threats_at rule b s g ≡ []
+    by_gain false h = no_gain-threats rule b s g h
+    by_gain true h = let empty = gain-empty rule b s g h in
+        gain-threats rule b s g h ∙ rw (none_on empty Row, none_on empty Column, none_on empty Down, none_on empty Up) refl
 
 -- ---- single steps of the code

@@ -1,6 +1,6 @@
--- The points that fill a four, found at the two ends of its run, and the places of a line where a three becomes a straight
--- four: second ways to say where they are, from which the code reads.
-use Rattle.std.specs.Prelude.{◌≡◌, ◌<◌, ◌+◌, ◌==◌, nat_le, Bool, true, false, ◌&&◌, ◌||◌, Option, Some, None}
+-- The points that fill a four, found at the two ends of its run, the places of a line where a three becomes a straight four, and those
+-- where it is stopped: second ways to say where they are, from which the code reads.
+use Rattle.std.specs.Prelude.{◌≡◌, ◌<◌, ℕ, Bool, true, false, ◌||◌, if◌then◌else◌, List, Option, Some, None, IfSome}
 use Rattle.std.specs.List.{count_by}
 use Rattle.game_rules.specs.Grid.{Grid, is_empty, put, axes}
 use Rattle.game_rules.specs.Shapes.{is_at}
@@ -10,12 +10,13 @@ use Rattle.game_rules.specs.declared.RuleKind.{RuleKind}
 use Rattle.game_rules.specs.declared.Side.{Side}
 use Rattle.game_rules.specs.declared.Side.TheVariants.{Black}
 use Rattle.game_rules.specs.declared.Axis.{Axis}
-use Rattle.game_rules.specs.declared.Axis.TheVariants.{Row, Column, Down, Up}
 use Rattle.game_rules.specs.declared.Point.{Point}
 use Rattle.game_rules.specs.declared.Way.{Way}
 use Rattle.game_rules.specs.declared.Way.TheVariants.{Ahead, Behind}
 use Rattle.row_shapes.specs.FiveEnds.{kept_five}
 use Rattle.foul_judge.specs.ShortCut.{has_line_three}
+use Rattle.open_windows.specs.PointSets.{has_point}
+use Rattle.threat_moves.specs.FreePoints.{StaysFree}
 use Rattle.threat_moves.specs.Threats.{is_straight_point, stops_three}
 
 -- the first point in that way from the side's stone on g that holds no stone of the side, if a stone of the side there wins on
@@ -32,17 +33,26 @@ abbrev pub is_straight_at : RuleKind → Grid → Side → Axis → Point → Op
 is_straight_at rule b s d g None = false
 is_straight_at rule b s d g (Some q) = is_straight_point rule b s d g q
 
--- whether q is on the line of the axis through p, at most five steps away
-abbrev pub is_near : Axis → Point → Point → Bool
-is_near Row p q = q.y == p.y && nat_le q.x (p.x + 5) && nat_le p.x (q.x + 5)
-is_near Column p q = q.x == p.x && nat_le q.y (p.y + 5) && nat_le p.y (q.y + 5)
-is_near Down p q = q.x + p.y == p.x + q.y && nat_le q.y (p.y + 5) && nat_le p.y (q.y + 5)
-is_near Up p q = q.x + q.y == p.x + p.y && nat_le q.y (p.y + 5) && nat_le p.y (q.y + 5)
-
 -- fewer than two axes have three points of the side's stone on q, as far as each axis decides, or the side has no fouls
 abbrev pub IsSure : RuleKind → Grid → Side → Point → Type 0
 IsSure rule b s q = has_fouls rule s ≡ true → count_by (λ d. has_line_three rule (put b Black q) d q) axes < 2
 
--- the costs of the three of the side's stone on p are near it, on its line
-abbrev pub CostsAreNear : RuleKind → Grid → Side → Axis → Point → Type 0
-CostsAreNear rule b s d p = (q : Point) → is_empty b q ≡ true → is_near d p q ≡ false → stops_three rule b s d p q ≡ false
+-- there is such a point, the side's stone on it gives a straight four with that on p, and it stays no foul wherever the other side puts a
+-- stone
+pub record IsSureAt (rule : RuleKind) (b : Grid) (s : Side) (d : Axis) (p : Point) (o : Option Point) : Type 0 where
+  pub straight : is_straight_at rule b s d p o ≡ true
+  pub stays : IfSome o (StaysFree rule b s)
+
+-- the first point in that way past an empty one that holds no stone of the side
+abbrev pub end_past : Grid → Side → Axis → Way → Option Point → Option Point
+end_past b s d way None = None
+end_past b s d way (Some q) = if is_empty b q then run_end b s d way q else None
+
+-- whether z is the first point in that way from the side's stone on p that holds no stone of the side, or the next one, if the first is
+-- empty
+abbrev pub is_past : Grid → Side → Axis → Point → Way → Point → Bool
+is_past b s d p way z = is_at z (run_end b s d way p) || is_at z (end_past b s d way (run_end b s d way p))
+
+-- the set has each cost of the three of the side's stone on p
+abbrev pub HasCosts : RuleKind → Grid → Side → Axis → Point → List ℕ → Type 0
+HasCosts rule b s d p set = (z : Point) → stops_three rule b s d p z ≡ true → has_point set z ≡ true

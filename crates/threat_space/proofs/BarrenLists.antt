@@ -1,19 +1,23 @@
 -- Lists of threats that have no final point wherever they began: what is counted of them, where they end, and what is remembered.
 use Rattle.std.proofs.Common.{◌≡◌, ℕ, ◌+◌, ◌-◌, ◌<◌, ◌≤◌, ◌⊎◌, true, false, ◌&&◌, List, [], ◌∷◌}
-use Rattle.std.proofs.Common.{◌++◌, drop, length, get_or, find, refl, sym, ap, subst, ◌∙◌, arith, Option, Some, None, IfSome}
+use Rattle.std.proofs.Common.{◌++◌, drop, length, get_or, filter, find, refl, sym, ap, subst, ◌∙◌, arith, Option, Some, None, IfSome}
 use Rattle.std.proofs.Common.{Contains, inl, inr, rules}
 use Rattle.std.proofs.lemmas.List.{append-nil}
 use Rattle.threat_space.proofs.Common.{Grid, IsBoard, points_of, other, has_five, RuleKind, Side, Point, packed, Threat, threats_of}
 use Rattle.threat_space.proofs.Common.{FoundInLists, NoSequence, with_stone, with_stones, played, played_all, lists_from, lists_of}
-use Rattle.threat_space.proofs.Common.{final_of, is_final_point, all_needed, is_sequence, looked, looked_on, HasPairsAfter}
+use Rattle.threat_space.proofs.Common.{final_of, is_final_point, all_needed, is_sequence, looked, looked_on, HasPairsAfter, MayMakePairs}
+use Rattle.threat_space.proofs.Common.{set_has}
 use Rattle.threat_space.proofs.Common.{EndsAlike, IsNearAfter, HasNoFinal, passed, AreBarren, IsBarren, BarrenMemory}
 use Rattle.threat_space.proofs.Common.{IsBarrenEntry, IsTrueBarrenMemory}
 use Rattle.position_table.specs.Packing.{Packed}
 use Rattle.position_table.specs.Remembering.{value_under, looked_up, kept}
 use Rattle.position_table.proofs.Packing.{packed-tells}
 use Rattle.position_table.proofs.Remembering.{value_under-kept, looked_up-before, kept-before}
+use Rattle.threat_moves.proofs.FarStones.{follows}
 use Rattle.threat_moves.proofs.ThreatLists.{last_added, Final, Lists, after_path}
-use Rattle.threat_space.proofs.FarFinals.{ends-near}
+use Rattle.game_rules.proofs.Boards.{and_left}
+use Rattle.game_rules.proofs.PointLists.{find-and, find-same}
+use Rattle.threat_space.proofs.FarFinals.{ends-near, final-two}
 use Rattle.threat_space.proofs.FoundInLists.{from_threats, threat-next, lists-more, played-more}
 
 -- ---- counts
@@ -63,21 +67,18 @@ pub all-points : (b : Grid) (s : Side) (ts : List Threat) → points_of (played_
 all-points b s [] = refl
 all-points b s (t ∷ ts) = all-points (played b s t) s ts ∙ played-points b s t
 
--- so where no point can end a list there is no final point, whichever board it began from
-pub none-ends : (rule : RuleKind) (s : Side) (b start first : Grid) (us ts : List Threat) → b ≡ played_all start s us
-    → b ≡ played_all first s ts
-    → find (is_sequence rule s start us) (points_of first) ≡ None → final_of rule s start us ≡ None
-unfolding final_of
-none-ends rule s b start first us ts is from h =
-    let same = sym (all-points start s us) ∙ ap points_of (sym is ∙ from) ∙ all-points first s ts in
-    ap (find (is_sequence rule s start us)) same ∙ h
-
 -- ---- the points that end a list
 
 module _ (rule : RuleKind) (s : Side) (start : Grid) (ts : List Threat) where
-  pub first-of : (ps : List Point) → ps ≡ points_of start → find (is_sequence rule s start ts) ps ≡ final_of rule s start ts
-  unfolding final_of
-  first-of ps e = ap (find (is_sequence rule s start ts)) e
+  -- the first that does is one of a set that has all points at which a stone of the side makes two five points
+  pub first-among : (b : Grid) (set : List ℕ) (ps : List Point) → b ≡ played_all start s ts → MayMakePairs rule b s set
+      → ps ≡ filter (set_has set) (points_of b) → find (is_sequence rule s start ts) ps ≡ final_of rule s start ts
+  unfolding final_of is_sequence
+  first-among b set ps is has e =
+      ap (find (is_sequence rule s start ts)) e ∙ sym (find-and (set_has set) (is_sequence rule s start ts) (points_of b))
+      ∙ find-same (λ p. set_has set p && is_sequence rule s start ts p) (is_sequence rule s start ts) (λ p. follows _ _ (λ h.
+      has p (final-two rule b s p (ap (λ (w : Grid). is_final_point rule w s p) is ∙ and_left _ _ h)))) (points_of b)
+      ∙ ap (find (is_sequence rule s start ts)) (ap points_of is ∙ all-points start s ts)
 
   pub not-needed : (p : Point) → all_needed rule s p start ts ≡ false → is_sequence rule s start ts p ≡ false
   unfolding is_sequence

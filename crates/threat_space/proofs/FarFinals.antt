@@ -4,15 +4,16 @@
 -- line with its gain, it did so before.
 use Rattle.std.proofs.Common.{rules, ◌≡◌, ℕ, ◌+◌, ◌<◌, false, ◌||◌, List, ◌∷◌, drop, length, get_or, sym, ap}
 use Rattle.std.proofs.Common.{◌∙◌, add-one, drop-cons, suc, ◌-◌, Bool, true, cond, ◌&&◌, not, [], refl, arith, nat_le}
-use Rattle.std.proofs.Common.{is_none, ◌++◌, Result, IfOk, filter}
-use Rattle.std.proofs.lemmas.Bool.{false_from_ne_true, and_from, or_right}
+use Rattle.std.proofs.Common.{is_none, ◌++◌, Result, IfOk, filter, inl, inr}
+use Rattle.std.proofs.lemmas.Bool.{false_from_ne_true, and_from, or_right, or_cases}
 use Rattle.std.proofs.lemmas.Bool.Decides.{nat_tests}
 use Rattle.threat_space.proofs.Common.{RuleKind, Side, Point, Grid, has_five, IsBoard, is_empty, points_of, other, Threat, with_stone}
 use Rattle.threat_space.proofs.Common.{with_stones, is_final_point, played, played_all, final_depends, all_needed, is_sequence, has_point}
-use Rattle.threat_space.proofs.Common.{may_make_two, HasPairsAfter, EndsNear, HasPairsOf, HasFarPairs}
+use Rattle.threat_space.proofs.Common.{may_make_two, set_has, HasPairsAfter, EndsNear, HasPairsOf, HasFarPairs, MayMakePairs}
 use Rattle.game_rules.proofs.Common.{is_double_point, is_on, is_stone_of, cell_at, put, lift, five, foul_of, has_fouls, five_points}
 use Rattle.game_rules.proofs.Common.{is_aligned}
 use Rattle.game_rules.proofs.Wins.{no_five}
+use Rattle.game_rules.proofs.Fives.{five-empty}
 use Rattle.game_rules.proofs.Boards.{and_left, and_right, is_empty-on}
 use Rattle.game_rules.proofs.Positions.{IsBoard-lift, put-lift}
 use Rattle.game_rules.proofs.OneLine.{KeepsLines, put-kept, open_kept, no_five_kept, more_fives, keeps_itself, keeps-then, others-kept}
@@ -20,7 +21,9 @@ use Rattle.game_rules.proofs.Cells.{side_there}
 use Rattle.game_rules.proofs.Points.{points-found, is_same_point-itself, is_same_point-same}
 use Rattle.stone_board.specs.Steps.{holds_stone}
 use Rattle.row_shapes.specs.FivePoints.{in_short}
-use Rattle.threat_moves.proofs.GainLaws.{several}
+use Rattle.stone_board.proofs.LineBits.{board-near}
+use Rattle.open_windows.specs.PointSets.{TellsWindows}
+use Rattle.threat_moves.proofs.GainLaws.{several, several-in, double-empty}
 use Rattle.threat_moves.proofs.ThreatLists.{last_added}
 use Rattle.threat_moves.proofs.Common.{is_several}
 
@@ -120,6 +123,20 @@ final-pair : (rule : RuleKind) (b : Grid) (s : Side) (f : Point) → has_five ru
 unfolding is_double_point
 final-pair rule b s f none h = search (rules, new-final, and_right, final_empty, several)
 
+-- so is each final point of a side with a five point
+pub final-two : (rule : RuleKind) (b : Grid) (s : Side) (f : Point) → is_final_point rule b s f ≡ true → may_make_two rule b s f ≡ true
+unfolding is_final_point
+final-two rule b s f h = by_five (has_five rule b s) refl where
+  empty : is_empty b f ≡ true
+  empty = elim (or_cases (five rule b s f) _ h) [
+    | inl five ↦ five-empty rule b s f five
+    | inr double ↦ double-empty rule b s f double
+  ]
+
+  by_five : (r : Bool) → has_five rule b s ≡ r → may_make_two rule b s f ≡ true
+  by_five true some = rw (empty, some) refl
+  by_five false none = final-pair rule b s f none h
+
 -- a list with a final point that is on no line with its last gain, and is none of the pairs, is no sequence
 pub ends-near : (rule : RuleKind) (s : Side) (start b : Grid) (ts : List Threat) (t : Threat) (far : List Point) → IsBoard b
     → b ≡ played_all start s ts → 0 < length ts → t ≡ get_or ts (length ts - 1) t → has_five rule b s ≡ false
@@ -174,6 +191,20 @@ pub pairs-after : (rule : RuleKind) (b : Grid) (s : Side) (path longer : List Th
 pairs-after rule b s path longer t far ok pairs is fouls u some last =
     let same : u ≡ t = last ∙ ap (λ (ts : List Threat). get_or ts (length ts - 1) u) is ∙ last_added path t u in
     rw same (far-pairs rule b s t far ok fouls pairs)
+
+-- where the side has no five point, such points lie in open windows with three stones
+pub window-pairs : (rule : RuleKind) (b : Grid) (s : Side) (set : List ℕ) → TellsWindows b s 3 set → has_five rule b s ≡ false
+    → MayMakePairs rule b s set
+window-pairs rule b s set tells none p two =
+    let empty = and_left (is_empty b p) _ two in
+    let several : is_several (in_short (five_points rule (put b s p) s)) ≡ true = sym (ap (λ r. r || is_several (in_short
+    (five_points rule (put b s p) s))) none) ∙ and_right (is_empty b p) _ two in
+    tells.points p (is_empty-on b p empty) ∙ several-in rule b s p tells.board none empty several
+
+pub all-pairs : (rule : RuleKind) (b : Grid) (s : Side) (set : List ℕ) → IsBoard b
+    → ((p : Point) → p.x < 32 → p.y < 32 → set_has set p ≡ true) → MayMakePairs rule b s set
+all-pairs rule b s set ok all p two =
+    let near = board-near b p ok (is_empty-on b p (and_left (is_empty b p) _ two)) in all p near.column near.row
 
 -- a point that passes a test and is one of a list is one of those that pass it
 passes_too : (h : Point → Bool) (xs : List Point) (p : Point) → h p ≡ true → has_point xs p ≡ true → has_point (filter h xs) p ≡ true

@@ -2,12 +2,16 @@
 use Rattle.std.proofs.Common.{rules, ◌≡◌, ◌≢◌, ℕ, zero, suc, ◌+◌, ◌-◌, ◌≤◌, ◌<◌, Bool, true, false, cond}
 use Rattle.std.proofs.Common.{List, [], ◌∷◌, ◌++◌, map, drop, length, get_or, nat_eq, refl, sym, ap, ◌∙◌, arith}
 use Rattle.std.proofs.Common.{append_assoc, add-one, Option, is_some, nat_le}
-use Rattle.std.specs.List.{flat_map, range_with_len}
+use Rattle.std.specs.List.{filter, flat_map, range_with_len}
 use Rattle.std.proofs.lemmas.Bool.Decides.{nat_tests}
-use Rattle.threat_space.proofs.Common.{Grid, is_empty, RuleKind, Side, Point, Threat, threats_at, threats_of, FoundInLists, NoSequence}
+use Rattle.threat_space.proofs.Common.{Grid, points_of, set_has, RuleKind, Side, Point, Threat, threats_at, threats_of, FoundInLists}
+use Rattle.threat_space.proofs.Common.{NoSequence}
 use Rattle.threat_space.proofs.Common.{played, played_all, lists_from, lists_of, lists_up_to, final_of, first_with, pair_or, count_up_to}
 use Rattle.threat_space.proofs.Common.{answer_with, space_answer, found_or, looked, looked_on, answer_of}
-use Rattle.threat_moves.proofs.GainLaws.{taken-no_gain, no_gain-threats}
+use Rattle.open_windows.specs.OpenWindows.{in_window}
+use Rattle.open_windows.specs.PointSets.{TellsWindows}
+use Rattle.open_windows.proofs.SetOrder.{filter-on}
+use Rattle.threat_moves.proofs.GainLaws.{outside-threats}
 use Rattle.threat_moves.proofs.ThreatLists.{drop-at, Final, Lists, after_path, map-append, path-longer, path-none, no_lists, map-none}
 use Rattle.threat_space.specs.declared.answer.SpaceAnswer.TheVariants.{Spent as OutOfBudget}
 use Rattle.threat_space.specs.declared.walk.FoundInLists.TheVariants.{Spent}
@@ -44,11 +48,25 @@ module _ (final : Final) (path : List Threat) (lists : Grid → Lists) (s : Side
 
 -- ---- threats by gains
 
-module _ (rule : RuleKind) (s : Side) (b : Grid) (p : Point) (ps qs : List Point) (e : ps ≡ p ∷ qs) where
-  -- a gain that is not empty has no threats
-  pub taken-none : is_empty b p ≡ false → flat_map (threats_at rule b s) qs ≡ flat_map (threats_at rule b s) ps
-  taken-none taken = search (rules, no_gain-threats, taken-no_gain)
+module _ (rule : RuleKind) (s : Side) (b : Grid) where
+  kept-threats : (f : Point → Bool) → ((p : Point) → f p ≡ false → threats_at rule b s p ≡ []) → (ps : List Point)
+      → flat_map (threats_at rule b s) (filter f ps) ≡ flat_map (threats_at rule b s) ps
+  kept-threats f none [] = refl
+  kept-threats f none (p ∷ ps) = by_test (f p) refl (kept-threats f none ps) where
+    by_test : (r : Bool) → f p ≡ r → flat_map (threats_at rule b s) (filter f ps) ≡ flat_map (threats_at rule b s) ps
+        → flat_map (threats_at rule b s) (cond r (p ∷ filter f ps) (filter f ps)) ≡ threats_at rule b s p
+        ++ flat_map (threats_at rule b s) ps
+    by_test true e rest = ap (λ (ts : List Threat). threats_at rule b s p ++ ts) rest
+    by_test false e rest = rest ∙ ap (λ (ts : List Threat). ts ++ flat_map (threats_at rule b s) ps) (sym (none p e))
 
+  -- all have their gains in open windows with two stones
+  pub window-threats : (rows : List ℕ) → TellsWindows b s 2 rows
+      → flat_map (threats_at rule b s) (filter (set_has rows) (points_of b)) ≡ threats_of rule b s
+  window-threats rows tells =
+      ap (flat_map (threats_at rule b s)) (filter-on b (set_has rows) (in_window b s 2) tells.points)
+      ∙ kept-threats (in_window b s 2) (λ p out. outside-threats rule b s p tells.board out) (points_of b)
+
+module _ (rule : RuleKind) (s : Side) (b : Grid) (p : Point) (ps qs : List Point) (e : ps ≡ p ∷ qs) where
   -- the threats of one gain more
   pub more-threats : (ts us : List Threat) → us ≡ ts ++ threats_at rule b s p
       → us ++ flat_map (threats_at rule b s) qs ≡ ts ++ flat_map (threats_at rule b s) ps

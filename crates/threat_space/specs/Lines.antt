@@ -1,5 +1,5 @@
 -- Where the final point of a sequence has to be: on a line with the last gain, or where a stone made two five points before it.
-use Rattle.std.specs.Prelude.{◌≡◌, ◌-◌, ◌<◌, Bool, true, false, ◌&&◌, ◌||◌, List, length, get_or}
+use Rattle.std.specs.Prelude.{◌≡◌, ℕ, ◌-◌, ◌<◌, Bool, true, false, ◌&&◌, ◌||◌, List, length, get_or}
 use Rattle.std.specs.List.{list_any}
 use Rattle.game_rules.specs.Grid.{Grid, is_empty, put}
 use Rattle.game_rules.specs.Shapes.{is_same_point}
@@ -9,8 +9,8 @@ use Rattle.game_rules.specs.Lines.{is_aligned}
 use Rattle.game_rules.specs.declared.RuleKind.{RuleKind}
 use Rattle.game_rules.specs.declared.Side.{Side}
 use Rattle.game_rules.specs.declared.Point.{Point}
-use Rattle.row_shapes.specs.FivePoints.{in_short}
-use Rattle.row_shapes.specs.FivePoints.{is_several}
+use Rattle.row_shapes.specs.FivePoints.{in_short, is_several}
+use Rattle.open_windows.specs.PointSets.{has_point as set_has}
 use Rattle.threat_moves.specs.declared.threat_list.Threat.{Threat}
 use Rattle.threat_space.specs.Sequences.{is_sequence}
 
@@ -21,6 +21,10 @@ has_point ps p = list_any (λ q. is_same_point q p) ps
 -- whether the point is empty and a stone of the side on it leaves the side two five points or more, or it has one already
 abbrev pub may_make_two : RuleKind → Grid → Side → Point → Bool
 may_make_two rule b s p = is_empty b p && (has_five rule b s || is_several (in_short (five_points rule (put b s p) s)))
+
+-- the set has each such point
+abbrev pub MayMakePairs : RuleKind → Grid → Side → List ℕ → Type 0
+MayMakePairs rule b s set = (p : Point) → may_make_two rule b s p ≡ true → set_has set p ≡ true
 
 -- the list has each such point, where the side has fouls
 abbrev pub HasPairsOf : RuleKind → Grid → Side → List Point → Type 0

@@ -11,7 +11,7 @@ ghost use Rattle.threat_space.specs.Lines.{HasPairsAfter};
 ghost use Rattle.threat_space.specs.Barren.{HasLastGain, IsNearAfter, CannotEnd, HasNoFinal};
 
 use crate::boards::{played, without};
-use crate::pairs::has_point;
+use crate::pairs::{has_point, may_make_pairs};
 use row_shapes::{Rule, has_five, is_five_point};
 use std::alloc::AllocError;
 use stone_board::{Board, Point, Side};
@@ -59,7 +59,7 @@ pub(crate) fn finals_of<R: Rule>(
         far,
     };
     let mut barren = true;
-    for p in start.points() {
+    for p in may_make_pairs::<R>(board, side, some_five).points(board) {
         if can_end::<R>(board, side, p, &ends) {
             barren = false;
             if all_needed::<R>(start, side, threats, p)? {

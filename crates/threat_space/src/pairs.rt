@@ -8,8 +8,9 @@ ghost use Rattle.std.specs.Prelude.{◌≡◌, IfOk, true};
 ghost use Rattle.std.specs.List.{filter};
 ghost use Rattle.game_rules.specs.Grid.{points_of};
 ghost use Rattle.game_rules.specs.Games.{has_five as has_five_lem};
-ghost use Rattle.threat_space.specs.Lines.{HasPairsOf, has_point as has_point_lem, may_make_two as may_make_two_lem};
+ghost use Rattle.threat_space.specs.Lines.{HasPairsOf, MayMakePairs, has_point as has_point_lem, may_make_two as may_make_two_lem};
 
+use open_windows::{PointSet, window_points};
 use row_shapes::{FivePoints, Rule, fives_made, has_five};
 use std::alloc::{AllocError, Global};
 use stone_board::{Board, Point, Points, Side};
@@ -31,12 +32,25 @@ fn all_pairs<R: Rule>(alloc: Global, board: &Board, side: Side) -> Result<Points
 {
     let some_five = has_five::<R>(board, side);
     let mut found = Points::new(alloc);
-    for p in board.points() {
+    for p in may_make_pairs::<R>(board, side, some_five).points(board) {
         if may_make_two::<R>(board, side, p, some_five) {
             found.push(p)?;
         }
     }
     Ok(found)
+}
+
+/// A set that has all these points: those of open windows with three stones, or all where the side has a five point, as is told.
+pub(crate) fn may_make_pairs<R: Rule>(board: &Board, side: Side, some_five: bool) -> PointSet
+    requires five { some_five ≡ has_five_lem R.KIND board.now side }
+    ensures pairs { MayMakePairs R.KIND board.now side result }
+{
+    if some_five {
+        // This tells that the board is sound.
+        let _ = board.width();
+        return PointSet::all();
+    }
+    window_points(board, side, 3)
 }
 
 /// Whether the point is empty and a stone of the side on it leaves the side two five points or more, or it has one already, as is

@@ -18,6 +18,7 @@ use crate::barren::BarrenBoards;
 use crate::boards::played;
 use crate::needs::finals_of;
 use crate::pairs::pairs;
+use open_windows::window_points;
 use row_shapes::Rule;
 use std::alloc::{AllocError, Global};
 use stone_board::{Board, Point, Points, Side};
@@ -126,12 +127,11 @@ fn all_threats<R: Rule>(alloc: Global, board: &mut Board, side: Side) -> Result<
     ensures same { board.new ≡ board.old }
     ensures board { IsBoard board.old }
 {
+    let windows = window_points(board, side, 2);
     let mut found = Threats::new(alloc);
-    for gain in board.points() {
-        if board.is_empty(gain) {
-            let more = threats_at::<R>(alloc, board, side, gain)?;
-            add_copies(alloc, &mut found, more.as_slice())?;
-        }
+    for gain in windows.points(board) {
+        let more = threats_at::<R>(alloc, board, side, gain)?;
+        add_copies(alloc, &mut found, more.as_slice())?;
     }
     Ok(found)
 }

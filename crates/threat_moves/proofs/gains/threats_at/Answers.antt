@@ -6,14 +6,8 @@ use Rattle.stone_board.specs.Steps.{holds_stone}
 use Rattle.stone_board.proofs.Stones.{put-holds_stone}
 use Rattle.threat_moves.specs.declared.threat_list.Threat.{Threat}
 use Rattle.threat_moves.specs.Threats.{is_gain, threats_on}
-use Rattle.threat_moves.proofs.GainLaws.{gain-empty, no_gain-threats, gain-threats, no_threats}
+use Rattle.threat_moves.proofs.GainLaws.{gain-empty, no_gain-threats, gain-threats}
 use Rattle.threat_moves.proofs.gains.threats_at.Goals as goal
-
-pub returns-then-not-may_threaten-clause-threats : goal.returns-then-not-may_threaten-clause-threats
-returns-then-not-may_threaten-clause-threats g c =
-    c.new-none.ensures.empty ∙ sym
-    (no_threats g.R.Rule.KIND c.args.board.now c.args.side c.args.gain c.may_threaten.ensures.board c.requires.empty
-    (sym c.may_threaten.ensures.may ∙ c.if-not-may_threaten.true))
 
 pub returns-then-not-is_gain-clause-threats : goal.returns-then-not-is_gain-clause-threats
 returns-then-not-is_gain-clause-threats g c =

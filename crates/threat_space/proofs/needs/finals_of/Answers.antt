@@ -1,6 +1,6 @@
-use Rattle.std.proofs.Common.{◌≡◌, ap, sym, refl, ◌∙◌, find}
+use Rattle.std.proofs.Common.{ap, sym, refl, ◌∙◌, find}
 use Rattle.threat_space.proofs.Common.{is_sequence}
-use Rattle.threat_space.proofs.BarrenLists.{first-of, found-here, found-later, not-needed, none-ends}
+use Rattle.threat_space.proofs.BarrenLists.{first-among, found-here, found-later, not-needed}
 use Rattle.threat_space.proofs.needs.finals_of.Goals as goal
 
 pub loop-p-init : goal.loop-p-init
@@ -8,8 +8,8 @@ loop-p-init g c =
     let points = c.into_iter-p-iterator.ensures.into_iter_gives ∙ c.points-p-items.ensures.points in
     record {
       same = refl;
-      first = first-of _ _ _ _ _ points;
-      none = λ barren start us alike is. ap (find (is_sequence g.R.Rule.KIND c.args.side start us)) points;
+      first = first-among _ _ _ _ _ _ _ c.requires.played c.may_make_pairs.ensures.pairs points;
+      none = λ barren start us alike is. first-among _ _ _ _ _ _ _ is c.may_make_pairs.ensures.pairs points;
     }
 
 pub returns-then-branch-clause-least : goal.returns-then-branch-clause-least
@@ -27,6 +27,5 @@ loop-p-preserved-else-branch g c = record {
 
 pub returns-clause-barren : goal.returns-clause-barren
 returns-clause-barren g c barren start us alike is =
-    none-ends _ _ _ start c.args.start.now us c.args.threats.now is c.requires.played
-    (sym (c.loop-p.invariant.none barren start us alike is)
-    ∙ ap (find (is_sequence g.R.Rule.KIND c.args.side start us)) c.in-None.ensures.steps.0)
+    sym (c.loop-p.invariant.none barren start us alike is)
+    ∙ ap (find (is_sequence g.R.Rule.KIND c.args.side start us)) c.in-None.ensures.steps.0
