@@ -4,7 +4,7 @@ use Rattle.std.proofs.Common.{Bool, true, false, not, nat_eq, refl, sym, ap, ◌
 use Rattle.std.specs.Int.{bit_at}
 use Rattle.std.specs.List.{list_any, range_with_len}
 use Rattle.std.proofs.lemmas.Bool.Decides.{nat_tests}
-use Rattle.std.proofs.lemmas.Nat.Bits.{bit_at_and, bit_at-lt, bit_at_ones, bit_at_ones_above}
+use Rattle.std.proofs.lemmas.Nat.Bits.{bit_at_and, bit_at_ones_above}
 use Rattle.game_rules.proofs.Common.{Grid, along}
 use Rattle.game_rules.specs.declared.Side.{Side}
 use Rattle.game_rules.specs.declared.Axis.{Axis}
@@ -12,6 +12,7 @@ use Rattle.game_rules.specs.declared.Point.{Point}
 use Rattle.game_rules.proofs.Rows.{any_found}
 use Rattle.stone_board.proofs.Ones.{bit_shr}
 use Rattle.row_shapes.specs.LineCodes.{digit_at, from_digits, line_code, places_beside}
+use Rattle.row_shapes.proofs.CodeDigits.{first_bit}
 use Rattle.line_tables.specs.declared.codes.TheConstants.{COUNTS}
 
 -- ---- the table
@@ -36,11 +37,6 @@ count_is n low = by_test (nat_eq (get_or COUNTS n 0) (counted n)) refl where
       cc
 
 -- ---- the first bits of a number
-
-first_bit : (n r i : ℕ) → i < r → bit_at (bit_and n (2 ^ r - 1)) i ≡ bit_at n i
-first_bit n r i low =
-    let bit = bit_at-lt n i in
-    bit_at_and n (2 ^ r - 1) i ∙ ap (min (bit_at n i)) (bit_at_ones r i low) ∙ omega (arith, bit)
 
 next_bit : (n r i : ℕ) → r ≤ i → bit_at (bit_and n (2 ^ r - 1)) i ≡ 0
 next_bit n r i high = bit_at_and n (2 ^ r - 1) i ∙ ap (min (bit_at n i)) (bit_at_ones_above r i high) ∙ omega arith
@@ -120,3 +116,12 @@ module _ (b : Grid) (s : Side) (d : Axis) (p : Point) (r own taken : ℕ) where
   code_is reach digits n m behind ahead = rw (behind, ahead) (halves (λ i. digit_at b s (along d p i r))
       (λ i. bit_at own i + 2 * bit_at taken i) (λ i. bit_at (own / 2 ^ (r + 1)) i + 2 * bit_at (taken / 2 ^ (r + 1)) i) r reach digits
       (λ i. let a = bit_shr own (r + 1) i in let c = bit_shr taken (r + 1) i in cc))
+
+  -- the digits that the bits tell are those of the code
+  pub code_of_bits : (r ≡ 4) ⊎ (r ≡ 5) → ((i : ℕ) → i ≤ 2 * r → bit_at own i + 2 * bit_at taken i ≡ digit_at b s (along d p i r))
+      → from_digits (map (λ i. bit_at own i + 2 * bit_at taken i) (places_beside r)) ≡ line_code r b s d p
+  unfolding line_code
+  code_of_bits reach digits =
+      let told : ℕ → ℕ = λ i. bit_at own i + 2 * bit_at taken i in
+      sym (halves told told (λ i. told (i + (r + 1))) r reach (λ i low. refl) (λ i. refl))
+      ∙ halves (λ i. digit_at b s (along d p i r)) told (λ i. told (i + (r + 1))) r reach digits (λ i. refl)

@@ -22,11 +22,11 @@ const COUNTS: [u32; 32] = [
 
 /// The places of a line around a point, the point itself on place `reach` of them.
 #[derive(Clone, Copy)]
-struct Places {
+pub(crate) struct Places {
     /// The bit of a place is set where it holds a stone of the side.
-    own: u64,
+    pub(crate) own: u64,
     /// The bit of a place is set where it holds a stone of the other side or is off the board.
-    taken: u64,
+    pub(crate) taken: u64,
 }
 
 /// The code of the neighbours of a point on the axis, `reach` of them on each side, as the side sees them. No memory is taken.
@@ -55,7 +55,7 @@ pub(crate) fn code_at(board: &Board, p: Point, axis: Axis, side: Side, reach: us
 
 /// What the side sees on the places around a point.
 #[inline(always)]
-fn places_around(board: &Board, p: Point, axis: Axis, side: Side, reach: usize) -> Places
+pub(crate) fn places_around(board: &Board, p: Point, axis: Axis, side: Side, reach: usize) -> Places
     requires on { IsTrue (is_on board.now p) }
     requires reach { reach ≤ 5 }
     ensures digits { (i : ℕ) → i ≤ 2 * reach →

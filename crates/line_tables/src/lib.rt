@@ -1,7 +1,7 @@
-//! A position and a table of shapes: whether a move is a foul is a look at the shapes of its lines.
+//! A position whose lines tell by their bits what a stone would make on them, so that whether a move is a foul is told by shapes.
 //!
-//! Nothing is kept of the lines, so a play costs what it costs on a plain position. The code of a line at a point is worked out from
-//! the bits of the line when it is asked for, and a look at the table of shapes then tells what a stone would make there.
+//! Nothing is kept of the lines, so a play costs what it costs on a plain position, and no table is made. The bits of a line are moved
+//! to a point when its shape or its code is asked for.
 #![tactic(auto)]
 
 mod codes;
@@ -9,6 +9,6 @@ mod line_shapes;
 mod outcome;
 mod tables;
 
-pub use line_shapes::{LineShapes, reach};
+pub use line_shapes::reach;
 pub use row_shapes::{Shape, line_code};
 pub use tables::LineTables;

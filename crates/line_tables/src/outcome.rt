@@ -15,32 +15,28 @@ ghost use Rattle.row_shapes.specs.Rule.{reach_of};
 ghost use Rattle.row_shapes.specs.LineCodes.{line_code};
 ghost use Rattle.row_shapes.specs.LineShapes.{shape_of};
 
-use crate::LineShapes;
+use crate::line_shapes::shape_at;
 use foul_judge::{Outcome, Position, Seen};
 use game_rules::Foul;
 use row_shapes::{Rule, Shape, stones_in_reach};
 use stone_board::{Axis, Board, Point, Side};
 
 /// The outcome of a move of the side to move. The position is as before.
-pub(crate) fn outcome_at<R: Rule>(
-    position: &mut Position<R>,
-    shapes: &LineShapes<R>,
-    p: Point,
-) -> Outcome
+pub(crate) fn outcome_at<R: Rule>(position: &mut Position<R>, p: Point) -> Outcome
     ensures outcome { result ≡ outcome_lem R.KIND position.old p }
     ensures same { position.new ≡ position.old }
     ensures lawful { IsPosition R.KIND position.old }
 {
     let side = position.side();
     if R::BLACK_FOULS && matches!(side, Side::Black) && position.board().is_empty(p) {
-        black_outcome(position, shapes, p)
+        black_outcome(position, p)
     } else {
         position.outcome(p)
     }
 }
 
 /// The outcome of Black's move on an empty point, where Black has fouls. With few stones near it is neither a win nor a foul.
-fn black_outcome<R: Rule>(position: &mut Position<R>, shapes: &LineShapes<R>, p: Point) -> Outcome
+fn black_outcome<R: Rule>(position: &mut Position<R>, p: Point) -> Outcome
     requires empty { IsTrue (is_empty position.old p) }
     requires black { mover_lem position.old ≡ Side.Black }
     requires fouls { R.BLACK_FOULS ≡ true }
@@ -51,7 +47,7 @@ fn black_outcome<R: Rule>(position: &mut Position<R>, shapes: &LineShapes<R>, p:
     if !may_foul(board, p) {
         return quiet_outcome(board);
     }
-    let made = shapes_at(board, shapes, p);
+    let made = shapes_at::<R>(board, p);
     if has_five(&made) {
         Outcome::Wins
     } else if has_overline(&made) {
@@ -113,17 +109,17 @@ fn may_have_two_threes(reaches: &[u32; 4]) -> bool
 
 /// The shapes that a stone of Black makes on an empty point, in the order of the axes.
 #[inline(always)]
-fn shapes_at<R: Rule>(board: &Board, shapes: &LineShapes<R>, p: Point) -> [Shape; 4]
+fn shapes_at<R: Rule>(board: &Board, p: Point) -> [Shape; 4]
     requires empty { IsTrue (is_empty board.now p) }
     ensures shapes { let reach = reach_of R.KIND Side.Black in
         result ≡ map (λ d. shape_of reach (line_code reach board.now Side.Black d p)) axes }
     ensures board { IsBoard board.now }
 {
     [
-        shapes.shape_at(board, p, Axis::Row, Side::Black),
-        shapes.shape_at(board, p, Axis::Column, Side::Black),
-        shapes.shape_at(board, p, Axis::Down, Side::Black),
-        shapes.shape_at(board, p, Axis::Up, Side::Black),
+        shape_at::<R>(board, p, Axis::Row, Side::Black),
+        shape_at::<R>(board, p, Axis::Column, Side::Black),
+        shape_at::<R>(board, p, Axis::Down, Side::Black),
+        shape_at::<R>(board, p, Axis::Up, Side::Black),
     ]
 }
 

@@ -1,4 +1,4 @@
-//! A lawful position with the shapes of lines.
+//! A lawful position that tells the shapes of its lines.
 //!
 //! It is its position in all but the outcomes of moves of Black where Black has fouls, which the shapes of its lines tell.
 #![tactic(auto)]
@@ -8,11 +8,10 @@ ghost use Rattle.game_rules.specs.Grid.{is_empty};
 ghost use Rattle.game_rules.specs.Games.{five_points as five_points_lem};
 ghost use Rattle.row_shapes.specs.Rule.{reach_of};
 ghost use Rattle.row_shapes.specs.LineCodes.{line_code};
-ghost use Rattle.row_shapes.specs.LineShapes.{shape_of, shape_at, IsShape};
+ghost use Rattle.row_shapes.specs.LineShapes.{shape_of, shape_at as shape_at_lem, IsShape};
 
-use crate::LineShapes;
 use crate::codes::code_at;
-use crate::line_shapes::reach;
+use crate::line_shapes::{reach, shape_at};
 use crate::outcome::outcome_at;
 use foul_judge::{Outcome, Position, Seen};
 use row_shapes::{FivePoints, Rule, Shape, is_five_point};
@@ -21,12 +20,11 @@ use std::alloc::{AllocError, Global};
 use std::marker::Model;
 use stone_board::{Axis, Board, Point, Side};
 
-/// A lawful position under a rule, with the shapes of the lines of both sides.
+/// A lawful position under a rule, which tells the shapes of the lines of both sides.
 #[derive(Drop)]
 pub struct LineTables<R: Rule> {
     alloc: Global,
     position: Position<R>,
-    shapes: LineShapes<R>,
 }
 
 impl<R: Rule> Model for LineTables<R> {
@@ -38,37 +36,26 @@ impl<R: Rule> Model for LineTables<R> {
 }
 
 impl<R: Rule> LineTables<R> {
-    /// The tables of a position, with shapes that are worked out for them. `Err` says that memory ran out.
+    /// The tables of a position. No memory is taken.
+    pub fn over(alloc: Global, position: Position<R>) -> LineTables<R>
+        ensures position { result ≡ position }
+    {
+        LineTables { alloc, position }
+    }
+
+    /// The tables of a copy of a position. `Err` says that memory ran out.
     pub fn new(alloc: Global, position: &Position<R>) -> Result<LineTables<R>, AllocError>
         ensures position { IfOk result (λ t. t ≡ position.now) }
     {
-        LineTables::with_shapes(alloc, LineShapes::new(alloc)?, position)
+        Ok(LineTables::over(alloc, position.copy()?))
     }
 
-    /// The tables of a position, with shapes that are worked out already. `Err` says that memory ran out.
-    pub fn with_shapes(
-        alloc: Global,
-        shapes: LineShapes<R>,
-        position: &Position<R>,
-    ) -> Result<LineTables<R>, AllocError>
-        ensures position { IfOk result (λ t. t ≡ position.now) }
+    /// The position.
+    pub fn into_position(self) -> Position<R>
+        ensures position { result ≡ self }
     {
-        let position = position.copy()?;
-        Ok(LineTables {
-            alloc,
-            position,
-            shapes,
-        })
-    }
-
-    /// The shapes, for the tables of another position.
-    pub fn into_shapes(self) -> LineShapes<R> {
-        let LineTables {
-            alloc: _,
-            position: _,
-            shapes,
-        } = self;
-        shapes
+        let LineTables { alloc: _, position } = self;
+        position
     }
 
     /// The shape that a stone of the side makes on an empty point. No memory is taken.
@@ -76,9 +63,9 @@ impl<R: Rule> LineTables<R> {
     pub fn shape(&self, p: Point, axis: Axis, side: Side) -> Shape
         requires empty { IsTrue (is_empty self.now p) }
         ensures shape { result ≡ shape_of (reach_of R.KIND side) (line_code (reach_of R.KIND side) self.now side axis p) }
-        ensures made { IsShape (reach_of R.KIND side) result (shape_at R.KIND self.now side axis p) }
+        ensures made { IsShape (reach_of R.KIND side) result (shape_at_lem R.KIND self.now side axis p) }
     {
-        self.shapes.shape_at(self.position.board(), p, axis, side)
+        shape_at::<R>(self.position.board(), p, axis, side)
     }
 
     /// The code of the neighbours of an empty point, as the side sees them. No memory is taken.
@@ -130,7 +117,7 @@ impl<R: Rule> Seen<R> for LineTables<R> {
     }
 
     fn outcome(&mut self, p: Point) -> Outcome {
-        outcome_at(&mut self.position, &self.shapes, p)
+        outcome_at(&mut self.position, p)
     }
 
     fn play(&mut self, p: Point) {

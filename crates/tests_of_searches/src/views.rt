@@ -9,7 +9,7 @@ use defence_finder::{DefenceAnswer, defences};
 use foul_judge::{Position, Seen};
 use four_search::FourMemory;
 use line_proof::{LineAnswer, prove_line};
-use line_tables::{LineShapes, LineTables};
+use line_tables::LineTables;
 use proof_number::{ProofAnswer, proof_number};
 use proof_tree::ProofTree;
 use row_shapes::{ExactFive, Freestyle, Renju, Rule};
@@ -215,41 +215,26 @@ fn told<R: Rule, V: Seen<R>>(alloc: Global, view: &mut V) -> Option<String> {
     Some(text)
 }
 
-/// What line tables of a position tell. The shapes come back, for the next position.
-fn told_by_tables<R: Rule>(
-    alloc: Global,
-    shapes: LineShapes<R>,
-    position: &Position<R>,
-) -> Option<(String, LineShapes<R>)> {
-    let mut tables = LineTables::<R>::with_shapes(alloc, shapes, position).ok()?;
-    let text = told::<R, LineTables<R>>(alloc, &mut tables)?;
-    Some((text, tables.into_shapes()))
-}
-
-/// Compares what both views of a board tell. The shapes come back, for the next board.
-fn told_alike<R: Rule>(
-    rt: &(impl Abort + AllocGlobal),
-    shapes: LineShapes<R>,
-    board: Board,
-) -> LineShapes<R> {
-    let mut position = lawful::<R>(board).expect(rt, "a position");
-    let by_tables = told_by_tables::<R>(rt.alloc(), shapes, &position);
-    let (by_tables, shapes) = by_tables.expect(rt, "what tables tell");
+/// Compares what line tables of a board tell with what its position tells.
+fn told_alike<R: Rule>(rt: &(impl Abort + AllocGlobal), board: Board) {
+    let position = lawful::<R>(board).expect(rt, "a position");
+    let mut tables = LineTables::<R>::over(rt.alloc(), position);
+    let by_tables = told::<R, LineTables<R>>(rt.alloc(), &mut tables);
+    let by_tables = by_tables.expect(rt, "what tables tell");
+    let mut position = tables.into_position();
     let by_position = told::<R, Position<R>>(rt.alloc(), &mut position);
     let by_position = by_position.expect(rt, "what a position tells");
     same(rt, by_tables.as_str(), by_position.as_str());
-    shapes
 }
 
 fn all_alike<R: Rule>(rt: &(impl Abort + AllocGlobal)) {
-    let mut shapes = LineShapes::<R>::new(rt.alloc()).expect(rt, "shapes");
     for stones in &WORKED {
         let board = board_of(rt.alloc(), stones.black, stones.white);
-        shapes = told_alike::<R>(rt, shapes, board.expect(rt, "a board"));
+        told_alike::<R>(rt, board.expect(rt, "a board"));
     }
     for seed in 0..10 {
         let board = scattered(rt.alloc(), seed);
-        shapes = told_alike::<R>(rt, shapes, board.expect(rt, "a board"));
+        told_alike::<R>(rt, board.expect(rt, "a board"));
     }
 }
 
