@@ -18,6 +18,7 @@ use defence_finder::{DefenceAnswer, defences, write_defences};
 use foul_judge::Position;
 use four_search::MAX_DEPTH;
 use game_rules::RuleKind;
+use line_tables::LineTables;
 use position_files::write_table;
 use row_shapes::Rule;
 use std::alloc::{AllocError, Global};
@@ -44,14 +45,19 @@ impl AtPosition for Defend {
     ghost says = { λ c. DefenceSays c.depth c.nodes };
 
     fn say_at<R: Rule>(&self, alloc: Global, position: Position<R>) -> Result<Answer, AllocError> {
-        search_defences(alloc, position, self.depth, self.nodes)
+        search_defences(
+            alloc,
+            LineTables::over(alloc, position),
+            self.depth,
+            self.nodes,
+        )
     }
 }
 
 /// What is said of a position.
 fn search_defences<R: Rule>(
     alloc: Global,
-    position: Position<R>,
+    position: LineTables<R>,
     depth: u32,
     nodes: u64,
 ) -> Result<Answer, AllocError>
@@ -61,12 +67,12 @@ fn search_defences<R: Rule>(
 {
     let mut view = position;
     let mut compiler = Compiler::new(alloc);
-    match defences::<R, Position<R>>(alloc, &mut view, depth, nodes, &mut compiler) {
+    match defences::<R, LineTables<R>>(alloc, &mut view, depth, nodes, &mut compiler) {
         Ok(DefenceAnswer::Known { good, bad }) => {
             if good.len() > 0 {
                 return listed(alloc, &good);
             }
-            let board = view.into_board();
+            let board = view.into_position().into_board();
             lost(alloc, R::KIND, &board, compiler, &bad)
         }
         Ok(DefenceAnswer::Spent { at }) => spent_after(alloc, at),

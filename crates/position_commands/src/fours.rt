@@ -14,6 +14,7 @@ ghost use Rattle.position_commands.specs.Fours.{AreLimits, SearchSays, IsShortWi
 use command_base::{Answer, AtPosition, Status, none, spent};
 use foul_judge::{Position, Seen};
 use four_search::{FewestWin, MAX_DEPTH, fewest_win};
+use line_tables::LineTables;
 use position_files::write_table;
 use row_shapes::Rule;
 use std::alloc::{AllocError, Global};
@@ -38,14 +39,19 @@ impl AtPosition for Fours {
     ghost says = { λ c. SearchSays c.depth c.nodes };
 
     fn say_at<R: Rule>(&self, alloc: Global, position: Position<R>) -> Result<Answer, AllocError> {
-        search(alloc, position, self.depth, self.nodes)
+        search(
+            alloc,
+            LineTables::over(alloc, position),
+            self.depth,
+            self.nodes,
+        )
     }
 }
 
 /// What is said of a position.
 fn search<R: Rule>(
     alloc: Global,
-    position: Position<R>,
+    position: LineTables<R>,
     depth: u32,
     nodes: u64,
 ) -> Result<Answer, AllocError>
@@ -53,7 +59,7 @@ fn search<R: Rule>(
     ensures says { IfOk result (λ answer. SearchSays depth nodes (file_at R.KIND position) answer.status answer.text) }
 {
     let mut view = position;
-    match fewest_win::<R, Position<R>>(alloc, &mut view, depth, nodes)? {
+    match fewest_win::<R, LineTables<R>>(alloc, &mut view, depth, nodes)? {
         FewestWin::Win(win) => table_text::<R>(alloc, view.board(), &win.table, win.moves),
         FewestWin::None => Ok(none()),
         FewestWin::Spent => Ok(spent()),

@@ -33,7 +33,7 @@ returns-else-len-gt0 g c =
     let count = c.len.ensures.length in
     let few = c.if-len-gt0.false in
     let none : defences_of rule n p ≡ [] = sym good_are ∙ no_points good (omega (arith, count, few)) in
-    let there = c.into_board-board.ensures.board ∙ c.defences.ensures.same in
+    let there = c.into_board-board.ensures.board ∙ c.into_position.ensures.position ∙ c.defences.ensures.same in
     let short : length t ≤ most_nodes n p = new-few c.new-compiler.result t (most_nodes n p) c.new-compiler.ensures.empty
     c.in-Ok-Known.ensures.writes.grows in
     let text = rw c.KIND.ensures at c.lost.ensures.text in
