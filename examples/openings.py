@@ -64,6 +64,8 @@ TIMES = 10
 # How many attacks are tried at a reply that is left, before a search with more nodes and in the end, and by how many of them it is taken
 # apart in turn.
 QUICK, ATTACKS, DEEPER = 3, 8, 2
+# With how many replies left an attack is gone on with before that search.
+NEARLY = 3
 # An attack is given up once more replies are left than these few and one of so many that were asked.
 FEW, ONE_OF = 2, 16
 # How many like tables an attack has of the tables that begin with it.
@@ -285,7 +287,7 @@ class Work:
     """The runs of the program at the replies that are left."""
 
     def __init__(self, opening, given):
-        self.opening, self.depth, self.jobs, self.memory = opening, given.depth, given.jobs, given.memory
+        self.opening, self.given, self.depth, self.jobs, self.memory = opening, given, given.depth, given.jobs, given.memory
         self.clock = Clock()
         # Whether the attack may be given up, and is, and how many replies a round has asked in vain.
         self.may_give_up, self.is_given_up, self.lost = False, False, 0
@@ -402,31 +404,26 @@ def asked_deeper(opening, given, levels, whole=True):
     wanted it ends with a reply that stays left. It answers with how many nodes they were asked at last.
     """
     work, nodes = Work(opening, given), min(given.nodes, given.most)
-
-    def apart(levels, attacks):
-        for reply in opening.left():
-            taken_apart(work, given, levels, reply, attacks)
-
     if levels and opening.like:
         work.round(0)
-        apart(0, opening.hints)
-    work.round(nodes)
-    if levels:
-        apart(levels, opening.hints)
-        apart(0, lambda reply: opening.attacks(reply)[:QUICK])
-    nodes = work.rounds(nodes, given.most)
-    if levels:
         for reply in opening.left():
-            if not taken_apart(work, given, levels, reply, opening.attacks) and not whole:
-                break
+            taken_apart(work, reply, opening.hints, 0)
+    work.round(nodes)
+    for reply in opening.left() if levels else []:
+        taken_apart(work, reply, opening.hints, levels)
+        taken_apart(work, reply, lambda it: opening.attacks(it)[:QUICK], levels, NEARLY)
+    nodes = work.rounds(nodes, given.most)
+    for reply in opening.left() if levels else []:
+        if not taken_apart(work, reply, opening.attacks, levels) and not whole:
+            break
     return nodes
 
 
-def taken_apart(work, given, levels, reply, attacks):
-    """Takes a reply apart by attacks that weren't tried there, and where some levels are left what is left of them in turn. It says
-    whether the reply has a table now.
+def taken_apart(work, reply, attacks, levels, most=MOST_FILES):
+    """Takes a reply apart by attacks that weren't tried there, and with some levels what is left of them in turn, where that are at most
+    so many. It says whether the reply has a table now.
     """
-    opening, hopes = work.opening, []
+    opening, given, hopes = work.opening, work.given, []
     if work.serve(reply):
         return True
     for attack in [it for it in attacks(reply) if (reply, it) not in opening.apart]:
@@ -436,13 +433,12 @@ def taken_apart(work, given, levels, reply, attacks):
         inner.round(min(given.nodes, given.most))
         if is_joined(opening, reply, inner.opening):
             return True
-        if not inner.is_given_up:
-            hopes.append(inner.opening)
-        if inner.is_given_up or levels:
+        if inner.is_given_up:
             opening.apart.add((reply, attack))
-    if not levels:
-        return False
+        elif levels and len(inner.opening.left()) <= most:
+            hopes.append(inner.opening)
     for inner in sorted(hopes, key=lambda inner: len(inner.left()))[:DEEPER]:
+        opening.apart.add((reply, inner.attack))
         asked_deeper(inner, given, levels - 1, False)
         if is_joined(opening, reply, inner):
             return True
