@@ -1,6 +1,7 @@
 -- What the readers of nodes and starts find.
 use Rattle.std.specs.Prelude.{◌≡◌, ℕ, true, List, [], ◌∷◌, ◌++◌, ◌<◌, ◌^◌}
 use Rattle.std.specs.List.{AllByRecursion}
+use Rattle.game_rules.specs.declared.Point.{Point}
 use Rattle.strategy_graph.specs.Tables.{Answers, IsStart, answers_of, is_winning, names_below}
 use Rattle.strategy_graph.specs.declared.Reply.{Reply}
 use Rattle.strategy_graph.specs.declared.Rest.{Rest}
@@ -54,3 +55,7 @@ pub record AddsNode (width height : ℕ) (old new : List Node) (bytes rest : Lis
 -- replies and a rest as answers
 abbrev pub answers_with : List Reply × Rest → Answers
 answers_with found = record { replies = found.0; rest = found.1 }
+
+-- a node of an attack and a rest, and of replies
+abbrev pub node_with : Point × Rest → List Reply → Node
+node_with found rs = record { attack = found.0; replies = rs; rest = found.1 }

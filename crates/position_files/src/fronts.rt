@@ -10,12 +10,11 @@ ghost use Rattle.std.specs.Fmt.{decimal};
 ghost use Rattle.text_lines.specs.Lines.{line_feed};
 ghost use Rattle.text_lines.specs.Reading.{IsWithin};
 ghost use Rattle.text_lines.specs.Spellings.{point_text};
-ghost use Rattle.position_files.specs.Answers.{AnswersFit, NodeFits, ReplyFits, answers_with};
+ghost use Rattle.position_files.specs.Answers.{AnswersFit, NodeFits, ReplyFits, answers_with, node_with};
 ghost use Rattle.position_files.specs.Tables.{answers_text, node_line, replies_text, reply_text, rest_text};
 
 use game_rules::Point;
-use std::alloc::Global;
-use strategy_graph::{Node, Replies, Reply, Rest};
+use strategy_graph::{Replies, Reply, Rest};
 use text_lines::after;
 
 /// The bytes after this one, if they begin with it.
@@ -111,22 +110,22 @@ fn reply(bytes: &[u8], width: u8, height: u8) -> Option<(Reply, &[u8])>
     Some((Reply { at, next }, rest))
 }
 
-/// The replies that the bytes begin with, each after a space, and the bytes after the last.
+/// The bytes after the replies that they begin with, each after a space. These come into the list in place of what was there.
 #[tactic(auto, using(crate::proofs::FrontLaws::front_reply, game_rules::proofs::Tests::all_push))]
-fn replies(alloc: Global, bytes: &[u8], width: u8, height: u8) -> Option<(Replies, &[u8])>
-    ensures fit { IfSome result (λ found. AllByRecursion (ReplyFits width height) found.0) }
-    ensures text { IfSome result (λ found. bytes.now ≡ replies_text found.0 ++ found.1.now) }
+fn replies<'a>(listed: &mut Replies, bytes: &'a [u8], width: u8, height: u8) -> Option<&'a [u8]>
+    ensures fit { IfSome result (λ _. AllByRecursion (ReplyFits width height) listed.new) }
+    ensures text { IfSome result (λ rest. bytes.now ≡ replies_text listed.new ++ rest.now) }
 {
-    let mut replies = Replies::new(alloc);
+    listed.clear();
     let mut rest = bytes;
     while let Some(text) = past(rest, b' ') {
         let (found, more) = reply(text, width, height)?;
-        if replies.push(found).is_err() {
+        if listed.push(found).is_err() {
             return None;
         }
         rest = more;
     }
-    Some((replies, rest))
+    Some(rest)
 }
 
 /// What answers the replies that are not listed, where the bytes begin with it, and the bytes after it.
@@ -143,30 +142,38 @@ fn rest(bytes: &[u8]) -> Option<(Rest, &[u8])>
     Some((Rest::To(next), tail))
 }
 
-/// The rest and the replies that the bytes begin with, and the bytes after them. A rest that wins comes with no replies.
-fn answers(alloc: Global, bytes: &[u8], width: u8, height: u8) -> Option<((Replies, Rest), &[u8])>
-    ensures fit { IfSome result (λ found. AnswersFit width height (answers_with found.0)) }
-    ensures text { IfSome result (λ found. bytes.now ≡ answers_text (answers_with found.0) ++ found.1.now) }
+/// The rest that the bytes begin with, and the bytes after the replies behind it, which come into the list in place of what was
+/// there. A rest that wins comes with no replies.
+fn answers<'a>(
+    listed: &mut Replies,
+    bytes: &'a [u8],
+    width: u8,
+    height: u8,
+) -> Option<(Rest, &'a [u8])>
+    ensures fit { IfSome result (λ found. AnswersFit width height (answers_with (listed.new, found.0))) }
+    ensures text { IfSome result (λ found. bytes.now ≡ answers_text (answers_with (listed.new, found.0)) ++ found.1.now) }
 {
     let (rest, tail) = rest(bytes)?;
     if rest.is_winning() {
-        return Some(((Replies::new(alloc), rest), tail));
+        listed.clear();
+        return Some((rest, tail));
     }
-    let (replies, tail) = replies(alloc, tail, width, height)?;
-    Some(((replies, rest), tail))
+    let tail = replies(listed, tail, width, height)?;
+    Some((rest, tail))
 }
 
-/// The node whose line the bytes begin with, and the bytes after the line.
-pub(crate) fn node(alloc: Global, bytes: &[u8], width: u8, height: u8) -> Option<(Node, &[u8])>
-    ensures fits { IfSome result (λ found. NodeFits width height found.0) }
-    ensures text { IfSome result (λ found. bytes.now ≡ node_line found.0 ++ line_feed ∷ found.1.now) }
+/// The attack and the rest of the node whose line the bytes begin with, and the bytes after the line. Its replies come into the
+/// list in place of what was there.
+pub(crate) fn node<'a>(
+    listed: &mut Replies,
+    bytes: &'a [u8],
+    width: u8,
+    height: u8,
+) -> Option<((Point, Rest), &'a [u8])>
+    ensures fits { IfSome result (λ found. NodeFits width height (node_with found.0 listed.new)) }
+    ensures text { IfSome result (λ found. bytes.now ≡ node_line (node_with found.0 listed.new) ++ line_feed ∷ found.1.now) }
 {
     let (attack, text) = point(bytes, width, height)?;
-    let ((replies, rest), tail) = answers(alloc, past(text, b' ')?, width, height)?;
-    let node = Node {
-        attack,
-        replies,
-        rest,
-    };
-    Some((node, past(tail, b'\n')?))
+    let (rest, tail) = answers(listed, past(text, b' ')?, width, height)?;
+    Some(((attack, rest), past(tail, b'\n')?))
 }

@@ -6,6 +6,7 @@
 
 ghost use Rattle.std.specs.Prelude.{◌≡◌, ℕ, ◌≤◌, ◌<◌, true, List, [], ◌∷◌, ◌++◌, length, map, OnOk, OnErr, IfOk, IfErr, IfNone, IfSome, Err};
 ghost use Rattle.std.specs.List.{AllByRecursion};
+ghost use Rattle.strategy_graph.specs.Lent.{lent_node};
 ghost use Rattle.strategy_graph.specs.Tables.{IsNode, is_winning};
 ghost use Rattle.strategy_graph.specs.declared.Node.{Node};
 ghost use Rattle.text_lines.specs.Lines.{line_feed, text_of};
@@ -18,18 +19,18 @@ ghost use Rattle.position_files.specs.Sections.{AreNodeLines, IsSectionFault};
 use crate::answers::node;
 use crate::{HeadError, fronts};
 use std::alloc::Global;
-use strategy_graph::{MAX_NODES, Node, PushError, Table};
+use strategy_graph::{LentNode, MAX_NODES, PushError, Replies, Table};
 use text_lines::{Fault, line};
 
 /// Adds the node at the end of the table. `Bad` says that it is no node of this number.
-fn append(table: &mut Table, node: Node) -> Result<(), Fault>
-    requires winning { is_winning node.rest ≡ true → node.replies ≡ [] }
-    ensures pushed { OnOk result (table.new ≡ table.old ++ node ∷ []) }
+fn append(table: &mut Table, node: LentNode) -> Result<(), Fault>
+    requires winning { is_winning node.rest ≡ true → node.replies.now ≡ [] }
+    ensures pushed { OnOk result (table.new ≡ table.old ++ lent_node node.entry ∷ []) }
     ensures bad { result ≡ Err Fault.Bad
-        → IsNode node (length table.old) → length table.old < MAX_NODES → ⊥ }
+        → IsNode (lent_node node.entry) (length table.old) → length table.old < MAX_NODES → ⊥ }
     ensures unchanged { OnErr result (table.new ≡ table.old) }
 {
-    match table.push(node) {
+    match table.push_lent(node) {
         Ok(_) => Ok(()),
         Err(PushError::NotBelow | PushError::NotRising | PushError::Full) => Err(Fault::Bad),
         Err(PushError::Memory) => Err(Fault::Memory),
@@ -39,7 +40,7 @@ fn append(table: &mut Table, node: Node) -> Result<(), Fault>
 /// Adds the node whose line the bytes begin with at the end of the table, where it is taken in place and is a node of this
 /// number, and answers the bytes after the line.
 fn take_node<'a>(
-    alloc: Global,
+    listed: &mut Replies,
     table: &mut Table,
     bytes: &'a [u8],
     width: u8,
@@ -49,9 +50,14 @@ fn take_node<'a>(
         table.old table.new bytes.now rest.now) }
     ensures unchanged { IfNone result (table.new ≡ table.old) }
 {
-    let (node, rest) = fronts::node(alloc, bytes, width, height)?;
+    let ((attack, rest), after) = fronts::node(listed, bytes, width, height)?;
+    let node = LentNode {
+        attack,
+        replies: listed.as_slice(),
+        rest,
+    };
     append(table, node).ok()?;
-    Some(rest)
+    Some(after)
 }
 
 /// Adds the node of the first line at the end of the table, and answers the bytes after the line.
@@ -74,13 +80,16 @@ fn add_line<'a>(
     let Some((text, rest)) = line(bytes) else {
         return Err(Fault::Bad);
     };
-    append(table, node(alloc, text, width, height)?)?;
+    let node = node(alloc, text, width, height)?;
+    append(table, node.lent())?;
     Ok(rest)
 }
 
-/// The same. Most lines are read in place; the others are read as whole lines, which tells why a line is bad.
+/// The same. Most lines are read in place, with one list for the replies of all of them; the others are read as whole lines, which
+/// tells why a line is bad.
 fn add_node<'a>(
     alloc: Global,
+    listed: &mut Replies,
     table: &mut Table,
     bytes: &'a [u8],
     width: u8,
@@ -95,7 +104,7 @@ fn add_node<'a>(
         → bytes.now ≡ node_line n ++ line_feed ∷ others → ⊥ }
     ensures unchanged { OnErr result (table.new ≡ table.old) }
 {
-    if let Some(rest) = take_node(alloc, table, bytes, width, height) {
+    if let Some(rest) = take_node(listed, table, bytes, width, height) {
         return Ok(rest);
     }
     add_line(alloc, table, bytes, width, height)
@@ -120,9 +129,10 @@ pub(crate) fn node_lines(
     ensures within { IfErr result (IsUpTo count) }
 {
     let mut table = Table::new(alloc);
+    let mut listed = Replies::new(alloc);
     let mut rest = bytes;
     for number in 0..count {
-        match add_node(alloc, &mut table, rest, width, height) {
+        match add_node(alloc, &mut listed, &mut table, rest, width, height) {
             Ok(after) => rest = after,
             Err(fault) => return Err(HeadError::at(number + 1, fault)),
         }

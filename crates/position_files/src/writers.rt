@@ -8,6 +8,7 @@ ghost use Rattle.std.specs.Prelude.{◌≡◌, [], ◌∷◌, ◌++◌, map, IfO
 ghost use Rattle.std.specs.List.{AllByRecursion};
 ghost use Rattle.std.specs.Fmt.{decimal};
 ghost use Rattle.game_rules.specs.Grid.{IsBoard};
+ghost use Rattle.strategy_graph.specs.Lent.{lent_node};
 ghost use Rattle.strategy_graph.specs.Tables.{IsTable, TableOnBoard};
 ghost use Rattle.text_lines.specs.Lines.{Extends, ended, text_of};
 ghost use Rattle.position_files.specs.Positions.{IsTextOfPosition, board_lines};
@@ -17,7 +18,7 @@ use crate::written::board_text;
 use game_rules::RuleKind;
 use std::alloc::{AllocError, Global};
 use stone_board::Board;
-use strategy_graph::{Node, Replies, Reply, Rest, Root, Start, Table};
+use strategy_graph::{LentNode, Reply, Rest, Root, Start, Table};
 use text_lines::{push_number, push_number_line, push_point, push_spaced_point};
 
 /// Writes the text of a position. `Err` says that memory ran out.
@@ -72,25 +73,25 @@ fn push_rest(text: &mut String, rest: Rest) -> Result<(), AllocError>
 }
 
 /// Adds the rest and the replies that are listed to a text.
-fn push_answers(text: &mut String, replies: &Replies, rest: Rest) -> Result<(), AllocError>
+fn push_answers(text: &mut String, replies: &[Reply], rest: Rest) -> Result<(), AllocError>
     ensures answers { IfOk result (λ _. string_bytes text.new ≡ string_bytes text.old
         ++ answers_text (record { replies = replies.now; rest = rest })) }
     ensures kept { OnErr result (Extends (string_bytes text.old) (string_bytes text.new)) }
 {
     push_rest(text, rest)?;
-    push_replies(text, replies.as_slice())?;
+    push_replies(text, replies)?;
     Ok(())
 }
 
 /// Adds the line of a node to a text.
-fn push_node(text: &mut String, node: &Node) -> Result<(), AllocError>
+fn push_node(text: &mut String, node: LentNode) -> Result<(), AllocError>
     ensures line { IfOk result (λ _. string_bytes text.new ≡ string_bytes text.old
-        ++ ended (node_line node.now)) }
+        ++ ended (node_line (lent_node node.entry))) }
     ensures kept { OnErr result (Extends (string_bytes text.old) (string_bytes text.new)) }
 {
     push_point(text, node.attack)?;
     text.push(' ')?;
-    push_answers(text, &node.replies, node.rest)?;
+    push_answers(text, node.replies, node.rest)?;
     text.push('\n')?;
     Ok(())
 }
@@ -102,7 +103,7 @@ pub fn push_start(text: &mut String, start: &Start) -> Result<(), AllocError>
     ensures kept { OnErr result (Extends (string_bytes text.old) (string_bytes text.new)) }
 {
     text.push_str("start ")?;
-    push_answers(text, start.replies(), start.rest())?;
+    push_answers(text, start.replies().as_slice(), start.rest())?;
     text.push('\n')?;
     Ok(())
 }

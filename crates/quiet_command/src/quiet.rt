@@ -131,7 +131,7 @@ fn is_on_board(board: &Board, table: &Table) -> bool
 {
     for i in 0..table.len() {
         let node = table.node(i);
-        if !board.on(node.attack) || !are_on_board(board, node.replies.as_slice()) {
+        if !board.on(node.attack) || !are_on_board(board, node.replies) {
             return false;
         }
     }

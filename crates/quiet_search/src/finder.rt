@@ -106,7 +106,7 @@ pub(crate) fn answer_of(compiler: &Compiler, node: Option<u32>, q: Point) -> Opt
     let place = node? as usize;
     let nodes = nodes_of(compiler);
     if place < nodes.len() {
-        answer_among(&nodes[place].replies, nodes[place].rest, q)
+        answer_among(nodes[place].replies.as_slice(), nodes[place].rest, q)
     } else {
         None
     }

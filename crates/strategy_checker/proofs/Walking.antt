@@ -1,5 +1,5 @@
 -- A move played and taken back, arrivals that are taken, and faults.
-use Rattle.std.proofs.Common.{rules, ◌≡◌, ℕ, zero, suc, ◌+◌, ◌≤◌, false, drop, List, [], ◌∷◌, ◌++◌, sym, ap}
+use Rattle.std.proofs.Common.{rules, ◌≡◌, ℕ, ◌+◌, ◌≤◌, false, drop, List, [], ◌∷◌, ◌++◌}
 use Rattle.std.proofs.Common.{◌∙◌, arith, Some, slice_get, Result, Ok, Err}
 use Rattle.game_rules.proofs.Common.{Grid, is_empty, IsPosition, outcome, after}
 use Rattle.game_rules.specs.declared.RuleKind.{RuleKind}
@@ -72,8 +72,3 @@ refused-reply rule t a b q now ready taken = search (rules, arrivals-stops, take
 
 pub drop-none : {X : Type 0} (xs : List X) → drop 0 xs ≡ xs
 drop-none xs = search rules
-
-pub drop-at : {X : Type 0} (xs : List X) (i : ℕ) (x : X) → slice_get xs i ≡ Some x → drop i xs ≡ x ∷ drop (i + 1) xs
-drop-at [] i x h = cc
-drop-at (y ∷ ys) zero x h = let same : y ≡ x = cc in ap (λ z. z ∷ ys) same ∙ ap (λ zs. x ∷ zs) (sym (drop-none ys))
-drop-at (y ∷ ys) (suc i) x h = let e : suc i + 1 ≡ suc (i + 1) = omega arith in drop-at ys i x h ∙ ap (λ k. x ∷ drop k (y ∷ ys)) (sym e)

@@ -17,7 +17,7 @@ use crate::walk::{Stop, Walk};
 use foul_judge::{Outcome, Position, Seen};
 use row_shapes::Rule;
 use stone_board::{Board, Point, ReadingOrder};
-use strategy_graph::{Replies, Rest, Table, answer_among};
+use strategy_graph::{Reply, Rest, Table, answer_among};
 
 /// The replies that are still to be asked.
 #[derive(Drop)]
@@ -46,7 +46,7 @@ impl Walk {
     pub(crate) fn next<R: Rule>(
         &mut self,
         table: &Table,
-        replies: &Replies,
+        replies: &[Reply],
         rest: Rest,
         meeting: &mut Meeting,
         position: &mut Position<R>,
@@ -84,7 +84,7 @@ impl Walk {
     fn course<R: Rule>(
         &mut self,
         table: &Table,
-        replies: &Replies,
+        replies: &[Reply],
         rest: Rest,
         meeting: &mut Meeting,
         position: &mut Position<R>,
@@ -113,7 +113,7 @@ impl Walk {
     fn plan<R: Rule>(
         &mut self,
         table: &Table,
-        replies: &Replies,
+        replies: &[Reply],
         rest: Rest,
         outlook: Outlook,
         position: &mut Position<R>,
@@ -194,7 +194,7 @@ pub(crate) fn begun(free: bool) -> Meeting
 }
 
 /// The course over the replies that are listed, and over the one on `w` if it isn't.
-fn apart_course(replies: &Replies, w: Point) -> Course
+fn apart_course(replies: &[Reply], w: Point) -> Course
     ensures course { to_ask replies.now result ≡ apart_points replies.now w }
 {
     if is_listed(replies, w) {
@@ -205,7 +205,7 @@ fn apart_course(replies: &Replies, w: Point) -> Course
 }
 
 /// The course over all replies: the listed ones are all of them where all empty points are listed.
-fn whole_course(replies: &Replies, board: &Board) -> Course
+fn whole_course(replies: &[Reply], board: &Board) -> Course
     requires rising { is_rising replies.now ≡ true }
     ensures course { IsWhole board.now replies.now (to_ask replies.now result) }
 {
@@ -217,7 +217,7 @@ fn whole_course(replies: &Replies, board: &Board) -> Course
 }
 
 /// The next reply that is to be asked, with the node that answers it if it is listed.
-fn advance(course: &mut Course, replies: &Replies) -> Option<(Point, Option<u32>)>
+fn advance(course: &mut Course, replies: &[Reply]) -> Option<(Point, Option<u32>)>
     requires rising { is_rising replies.now ≡ true }
     ensures next { MatchOption result (to_ask replies.now course.old ≡ [])
         (λ r. to_ask replies.now course.old ≡ r.0 ∷ to_ask replies.now course.new) }
@@ -230,7 +230,7 @@ fn advance(course: &mut Course, replies: &Replies) -> Option<(Point, Option<u32>
         },
         Course::Listed(i) => {
             if *i < replies.len() {
-                let reply = replies.at(*i);
+                let reply = replies[*i];
                 *i += 1;
                 Some((reply.at, Some(reply.next)))
             } else {
@@ -239,7 +239,7 @@ fn advance(course: &mut Course, replies: &Replies) -> Option<(Point, Option<u32>
         }
         Course::ListedThen(i, w) => {
             if *i < replies.len() {
-                let reply = replies.at(*i);
+                let reply = replies[*i];
                 *i += 1;
                 Some((reply.at, Some(reply.next)))
             } else {
@@ -252,7 +252,7 @@ fn advance(course: &mut Course, replies: &Replies) -> Option<(Point, Option<u32>
 }
 
 /// The node that answers the reply `q`, which is known where it is listed.
-fn answer_of(replies: &Replies, rest: Rest, q: Point, listed: Option<u32>) -> Option<u32>
+fn answer_of(replies: &[Reply], rest: Rest, q: Point, listed: Option<u32>) -> Option<u32>
     requires listed { IfSome listed (λ j. listed_node replies.now q ≡ Some j) }
     ensures answer { result ≡ answer_lem (record { replies = replies.now; rest = rest }) q }
 {

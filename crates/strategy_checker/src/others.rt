@@ -16,12 +16,12 @@ ghost use Rattle.strategy_checker.specs.Walks.{is_apart as is_apart_lem};
 use foul_judge::{Outcome, Position, Seen};
 use row_shapes::Rule;
 use stone_board::{Board, Point};
-use strategy_graph::Replies;
+use strategy_graph::Reply;
 
 /// How many replies go on that are neither listed nor on `w`.
 pub(crate) fn others_going_on<R: Rule>(
     position: &mut Position<R>,
-    replies: &Replies,
+    replies: &[Reply],
     w: Point,
 ) -> usize
     requires rising { is_rising replies.now ≡ true }
@@ -40,7 +40,7 @@ pub(crate) fn others_going_on<R: Rule>(
 }
 
 /// How many points are empty that are neither listed nor `w`.
-fn empty_others(board: &Board, replies: &Replies, w: Point) -> usize
+fn empty_others(board: &Board, replies: &[Reply], w: Point) -> usize
     requires board { IsBoard board.now }
     requires rising { is_rising replies.now ≡ true }
     requires empty { is_empty board.now w ≡ true }
@@ -55,18 +55,17 @@ fn empty_others(board: &Board, replies: &Replies, w: Point) -> usize
 }
 
 /// How many of the points that are listed are empty.
-pub(crate) fn listed_empties(board: &Board, replies: &Replies) -> usize
+pub(crate) fn listed_empties(board: &Board, replies: &[Reply]) -> usize
     ensures count { result ≡ count_by (λ r. is_empty board.now r.at) replies.now }
 {
     replies
-        .as_slice()
         .iter()
         .filter(|reply| board.is_empty(reply.at))
         .count()
 }
 
 /// How many replies go on that are neither listed nor on `w`, each of them asked.
-fn asked_others<R: Rule>(position: &mut Position<R>, replies: &Replies, w: Point) -> usize
+fn asked_others<R: Rule>(position: &mut Position<R>, replies: &[Reply], w: Point) -> usize
     ensures count { result
         ≡ count_by (λ q. goes_on (outcome R.KIND position.old q) && not (is_apart_lem replies.now w q)) (points_of position.old) }
     ensures same { position.new ≡ position.old }
@@ -81,7 +80,7 @@ fn asked_others<R: Rule>(position: &mut Position<R>, replies: &Replies, w: Point
 }
 
 /// Whether the reply `q` goes on, and is neither listed nor on `w`.
-fn is_other<R: Rule>(position: &mut Position<R>, replies: &Replies, w: Point, q: Point) -> bool
+fn is_other<R: Rule>(position: &mut Position<R>, replies: &[Reply], w: Point, q: Point) -> bool
     ensures other { result ≡ (goes_on (outcome R.KIND position.old q) && not (is_apart_lem replies.now w q)) }
     ensures same { position.new ≡ position.old }
 {
@@ -89,18 +88,17 @@ fn is_other<R: Rule>(position: &mut Position<R>, replies: &Replies, w: Point, q:
 }
 
 /// Whether the reply `q` is listed or on `w`.
-fn is_apart(replies: &Replies, w: Point, q: Point) -> bool
+fn is_apart(replies: &[Reply], w: Point, q: Point) -> bool
     ensures apart { result ≡ is_apart_lem replies.now w q }
 {
     is_listed(replies, q) || (w.x == q.x && w.y == q.y)
 }
 
 /// Whether the reply `q` is listed.
-pub(crate) fn is_listed(replies: &Replies, q: Point) -> bool
+pub(crate) fn is_listed(replies: &[Reply], q: Point) -> bool
     ensures listed { result ≡ list_any (λ r. is_same_point r.at q) replies.now }
 {
     replies
-        .as_slice()
         .iter()
         .any(|reply| reply.at.x == q.x && reply.at.y == q.y)
 }

@@ -19,6 +19,7 @@ ghost use Rattle.game_rules.specs.Grid.{lift};
 ghost use Rattle.game_rules.specs.Games.{has_five};
 ghost use Rattle.game_rules.specs.Play.{after, outcome, mover};
 ghost use Rattle.game_rules.specs.declared.RuleKind.{RuleKind as AnyRule};
+ghost use Rattle.strategy_graph.specs.Lent.{lent_node};
 ghost use Rattle.strategy_graph.specs.Tables.{Answers, IsTable, answer as answer_lem, is_winning, names_below};
 ghost use Rattle.strategy_graph.specs.declared.Node.{Node as AnyNode};
 ghost use Rattle.strategy_graph.specs.Acceptance.{AcceptedStart};
@@ -36,7 +37,7 @@ use position_table::LateTable;
 use row_shapes::Rule;
 use std::alloc::Global;
 use stone_board::{Point, Points};
-use strategy_graph::{Node, Root, Start, Table};
+use strategy_graph::{LentNode, Root, Start, Table};
 
 /// The most pairs of a node and a position that a walk remembers.
 const MEMO_ENTRIES: u32 = 65_536;
@@ -154,7 +155,13 @@ impl Walk {
         let free = !position.has_five(position.side());
         let mut meeting = begun(free);
         loop {
-            match self.next(table, start.replies(), start.rest(), &mut meeting, position)? {
+            match self.next(
+                table,
+                start.replies().as_slice(),
+                start.rest(),
+                &mut meeting,
+                position,
+            )? {
                 None => return Ok(()),
                 Some(next) => {
                     self.answer(table, next, meeting.outlook.free, position, meeting.reply)?;
@@ -271,14 +278,14 @@ impl Walk {
         &mut self,
         table: &Table,
         i: u32,
-        node: &Node,
+        node: LentNode,
         fives: Fives,
         position: &mut Position<R>,
     ) -> Result<Option<Stage>, Stop>
         requires table { IsTable table.now }
-        requires node { slice_get table.now i ≡ Some node.now }
-        requires goes_on { outcome R.KIND position.old node.now.attack ≡ Outcome.GoesOn }
-        requires more { is_winning node.now.rest ≡ false }
+        requires node { slice_get table.now i ≡ Some (lent_node node) }
+        requires goes_on { outcome R.KIND position.old node.attack ≡ Outcome.GoesOn }
+        requires more { is_winning node.rest ≡ false }
         requires ready { IsReady R.KIND table.now position.old self.old }
         requires fives { AreFives R.KIND position.old fives }
         ensures entered { Entered R.KIND table.now i position.old self.old.left self.new position.new result }
@@ -313,13 +320,7 @@ impl Walk {
         ensures fewer { to_do self.new.left (length waiting.new.items) result < 3 * self.old.left + length waiting.old.items + 3 }
     {
         let node = table.node(stage.node);
-        let met = self.next(
-            table,
-            &node.replies,
-            node.rest,
-            &mut stage.meeting,
-            position,
-        );
+        let met = self.next(table, node.replies, node.rest, &mut stage.meeting, position);
         match met {
             Ok(found) => match found {
                 Some(next) => self.go_down(table, stage, next, waiting, position),
@@ -414,7 +415,7 @@ impl Walk {
         &mut self,
         table: &Table,
         i: u32,
-        node: &Node,
+        node: LentNode,
         position: &Position<R>,
     ) -> Option<u64>
         requires in_table { i < length table.now }
@@ -435,7 +436,7 @@ impl Walk {
         &mut self,
         table: &Table,
         i: u32,
-        node: &Node,
+        node: LentNode,
         position: &Position<R>,
         arrivals: u64,
     )
@@ -488,7 +489,7 @@ impl Walk {
 
 /// Whether node `i` is walked in a few steps: it is a winning node, or lists few replies, and each node that it names names no
 /// other. Where it answers no others and lists fewer still, that may be one step later.
-fn is_soon_won(table: &Table, i: u32, node: &Node) -> bool
+fn is_soon_won(table: &Table, i: u32, node: LentNode) -> bool
     requires in_table { i < length table.now }
 {
     if node.rest.is_winning() {

@@ -2,7 +2,7 @@
 -- answers each as given, and stands for the tree of these branches. The commonest of some numbers, found by going over them.
 use Rattle.std.proofs.Common.{◌≡◌, inl, inr, ◌<◌, ◌≤◌, Bool, true, false, cond, List, [], ◌∷◌, ◌++◌, length, refl, sym, subst, ℕ, not, map}
 use Rattle.std.proofs.Common.{filter, ap, ◌∙◌, Option, Some, None, Result, IfOk, OnOk, nat_lt, nat_eq, slice_get, All, Contains}
-use Rattle.std.proofs.Common.{◌+◌, max, ◌&&◌, ◌==◌, take, get_or, arith, IsSome, nat_le, rules}
+use Rattle.std.proofs.Common.{◌+◌, max, ◌==◌, take, get_or, arith, IsSome, nat_le, rules}
 use Rattle.std.specs.List.{list_any, IsDistinct, list_all, find, AllByRecursion, count_by, sum_by}
 use Rattle.std.specs.Option.{option_or, option_eq}
 use Rattle.std.proofs.lemmas.Bool.Decides.{Decides-eqb}

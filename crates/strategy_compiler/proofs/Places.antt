@@ -1,6 +1,6 @@
 -- The places of numbers in an order, and nodes with these in place of the numbers. The table that is made of the nodes that some roots
 -- reach, in the order in which walks complete them.
-use Rattle.std.proofs.Common.{◌≡◌, ◌≢◌, ℕ, zero, suc, ◌+◌, ◌<◌, ◌≤◌, Bool, true, false, cond, not, ◌||◌}
+use Rattle.std.proofs.Common.{◌≡◌, ℕ, zero, suc, ◌+◌, ◌<◌, ◌≤◌, Bool, true, false, cond, not, ◌||◌}
 use Rattle.std.proofs.Common.{◌==◌, List, [], ◌∷◌, ◌++◌, length, rules, take, get_or, refl, sym, ap, subst, ◌∙◌}
 use Rattle.std.proofs.Common.{◌⊎◌, inl, inr, arith, length-append, one-add, Some, slice_get, replicate, Contains, map, fold, All}
 use Rattle.std.proofs.Common.{ltb-true, ltb-false}
@@ -147,13 +147,14 @@ module _ (t : List Node) (order : List ℕ) (table : IsTable t) (is_order : IsOr
 
 -- ---- the same, as the loop reads it
 
-module _ (t : List Node) (order : List ℕ) (table : IsTable t) (is_order : IsOrder t order) (p : ℕ) (l : p < length order) (n : Node)
-    (read : n ≡ get_or t (get_or order p 0) n) where
+module _ (t : List Node) (order : List ℕ) (table : IsTable t) (is_order : IsOrder t order) (p : ℕ) (l : p < length order) (d : Node)
+    (read : d ≡ get_or t (get_or order p 0) d) (n : Node) (same : n ≡ d) where
   number-here : slice_get order p ≡ Some (get_or order p 0)
   number-here = slice_get-get_or order p 0 l
 
   node-at : slice_get t (get_or order p 0) ≡ Some n
-  node-at = slice_get_read t (length t) (get_or order p 0) n refl (is_order.within p (get_or order p 0) number-here) read
+  node-at = slice_get_read t (length t) (get_or order p 0) d refl (is_order.within p (get_or order p 0) number-here) read
+      ∙ ap Some (sym same)
 
   pub names-places : (k : ℕ) → k ≡ length t → names_below (answers_of n) k ≡ true
   names-places k e =

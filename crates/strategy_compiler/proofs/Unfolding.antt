@@ -1,6 +1,6 @@
 -- Nodes unfolded: copies are the same nodes, and in a table with no two equal nodes no two are the same. So such a table holds as
 -- many different nodes as it has.
-use Rattle.std.proofs.Common.{rules, ◌≡◌, ℕ, zero, suc, ◌<◌, ◌≤◌, ◌+◌, Bool, true, false, ◌||◌, ◌==◌, List}
+use Rattle.std.proofs.Common.{rules, ◌≡◌, ℕ, zero, suc, ◌<◌, ◌≤◌, ◌+◌, Bool, true, false, ◌==◌, List}
 use Rattle.std.proofs.Common.{[], ◌∷◌, length, refl, sym, ap, subst, ◌∙◌, arith, Option, Some, None, nat_lt, slice_get, map}
 use Rattle.std.proofs.Common.{All, Contains, ◌++◌, ◌⊎◌, inl, inr, length-append, ltb-true}
 use Rattle.std.specs.List.{list_all, list_any, range_with_len, AllByRecursion, IsDistinct}

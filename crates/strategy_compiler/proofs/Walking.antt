@@ -1,7 +1,7 @@
 -- The order in which a walk completes nodes: the bound on the nodes that follow one another plays no part, and the walk goes step by step.
 -- The walks that complete nodes, step by step.
-use Rattle.std.proofs.Common.{◌≡◌, ℕ, zero, suc, ◌<◌, Bool, true, false, cond, not, ◌&&◌, ◌||◌, ◌==◌, List, [], ◌∷◌, ◌++◌, map, refl, sym}
-use Rattle.std.proofs.Common.{ap, subst, ◌∙◌, arith, Option, Some, None, nat_lt, slice_get, fold, Contains, ◌≢◌, ◌+◌, ◌≤◌, reverse, length}
+use Rattle.std.proofs.Common.{◌≡◌, ℕ, zero, suc, ◌<◌, Bool, true, false, cond, not, ◌||◌, ◌==◌, List, [], ◌∷◌, ◌++◌, map, refl, sym}
+use Rattle.std.proofs.Common.{ap, subst, ◌∙◌, arith, Option, Some, None, nat_lt, slice_get, fold, Contains, ◌+◌, ◌≤◌, reverse, length}
 use Rattle.std.proofs.Common.{get_or, ◌⊎◌, inl, inr, length-append, rules}
 use Rattle.std.specs.List.{list_all, find}
 use Rattle.std.specs.Option.{option_map_or}

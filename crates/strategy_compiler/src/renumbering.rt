@@ -8,6 +8,7 @@ ghost use Rattle.std.specs.Prelude.{option_to_list};
 ghost use Rattle.std.specs.List.{list_all};
 ghost use Rattle.strategy_graph.specs.declared.TheConstants.{MAX_NODES};
 ghost use Rattle.strategy_graph.specs.Tables.{IsTable, answers_of, names_below, rest_node};
+ghost use Rattle.strategy_graph.specs.Lent.{lent_node};
 ghost use Rattle.strategy_graph.specs.Renumbered.{renumbered_node, renumbered_reply, renumbered_rest as renumbered_rest_lem};
 ghost use Rattle.strategy_compiler.specs.Walks.{Renumbers, completed_from};
 ghost use Rattle.strategy_compiler.specs.Orders.{ArePlaces, IsMadeFrom, IsOrder};
@@ -15,7 +16,7 @@ ghost use Rattle.strategy_compiler.specs.Nodes.{IsCompiled};
 
 use crate::walk::completed_order;
 use std::alloc::{AllocError, Global};
-use strategy_graph::{Node, Replies, Reply, Rest, Table};
+use strategy_graph::{LentNode, Node, Replies, Reply, Rest, Table};
 
 /// For each number of the order its place there, as a list by number; for other numbers it says nothing.
 fn places_in(alloc: Global, order: &[u32], len: usize) -> Result<Vec<u32>, AllocError>
@@ -65,11 +66,11 @@ pub(crate) fn renumbered_rest(rest: Rest, places: &[u32]) -> Rest
 }
 
 /// The node, with the place of each number that it names: the number that stands in the list at that number.
-pub(crate) fn renumbered(alloc: Global, node: &Node, places: &[u32]) -> Result<Node, AllocError>
-    requires below { names_below (answers_of node.now) (length places.now) ≡ true }
-    ensures node { IfOk result (λ n. n ≡ renumbered_node (λ j. slice_index places.now j) node.now) }
+pub(crate) fn renumbered(alloc: Global, node: LentNode, places: &[u32]) -> Result<Node, AllocError>
+    requires below { names_below (answers_of (lent_node node)) (length places.now) ≡ true }
+    ensures node { IfOk result (λ n. n ≡ renumbered_node (λ j. slice_index places.now j) (lent_node node.entry)) }
 {
-    let replies = renumbered_replies(alloc, node.replies.as_slice(), places)?;
+    let replies = renumbered_replies(alloc, node.replies, places)?;
     Ok(Node {
         attack: node.attack,
         replies,
@@ -92,7 +93,7 @@ fn table_of(
 {
     let mut table = Table::new(alloc);
     for number in order {
-        let node = renumbered(alloc, &nodes[*number as usize], places)?;
+        let node = renumbered(alloc, nodes[*number as usize].lent(), places)?;
         table.push_node(node)?;
     }
     Ok(table)

@@ -3,7 +3,7 @@ use Rattle.std.proofs.Common.{◌≡◌, ℕ, zero, suc, ◌≤◌, ◌<◌, Boo
 use Rattle.std.proofs.Common.{sym, subst, ◌∙◌, arith, Some, slice_get, nat_lt, ◌+◌, map, ◌⊎◌, inl, inr, length-append}
 use Rattle.std.proofs.Common.{get_or, replicate, append_assoc, Option, None, IfSome, slice_index, rules, ltb-true, lt-ltb}
 use Rattle.std.specs.List.{list_all}
-use Rattle.std.proofs.lemmas.Option.{slice_get_read, slice_get-get_or}
+use Rattle.std.proofs.lemmas.Option.{slice_get-get_or}
 use Rattle.std.proofs.lemmas.List.{get_or_push, get_or_append_left, append-nil, length-replicate}
 use Rattle.std.proofs.lemmas.Bool.{cases_lt}
 use Rattle.game_rules.specs.declared.Point.{Point}
@@ -181,12 +181,9 @@ start_depth-read t u ds a m table h below value = search (rules, greatest-depths
 answer_lower : (a : Answers) (i : ℕ) (q : Point) (o : Option ℕ) → names_below a i ≡ true → o ≡ answer a q → IfSome o (λ j. j < i)
 answer_lower a i q o below e = search (rules, answer-below)
 
-pub lookup-below : (t u : List Node) (i : ℕ) (n : Node) (q : Point) (o : Option ℕ) → IsTable t → t ≡ u → i < length u → n ≡ get_or t i n
+pub lookup-below : (t : List Node) (i : ℕ) (n : Node) (q : Point) (o : Option ℕ) → IsTable t → slice_get t i ≡ Some n
     → o ≡ answer (answers_of n) q → IfSome o (λ j. j < i)
-lookup-below t u i n q o ok same low here e =
-    let count : length t ≡ length u = ap length same in
-    let within : i < length t = omega (arith, count) in
-    answer_lower (answers_of n) i q o (ok.nodes i n (slice_get_read t (length t) i n refl within here)).below e
+lookup-below t i n q o ok here e = answer_lower (answers_of n) i q o (ok.nodes i n here).below e
 
 -- the node that wins at once in the corner
 abbrev pub corner : Node

@@ -8,6 +8,8 @@ pub mod Answering
 pub mod Rising
 pub mod Naming
 pub mod Equal
+-- nodes in one list, and their replies in another
+mod PackedLists
 -- the greatest of what a list of nodes gives; nodes that are the same but for related numbers
 pub mod Greatest
 pub mod Pairs

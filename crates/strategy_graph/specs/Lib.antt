@@ -1,4 +1,6 @@
 pub mod Tables
+pub mod Lent
+pub mod Packing
 pub mod Renumbered
 pub mod Same
 pub mod Acceptance

@@ -11,10 +11,12 @@
 
 ghost use Rattle.std.specs.Prelude.{◌≡◌, nat_lt, option_to_list};
 ghost use Rattle.std.specs.List.{list_all};
+ghost use Rattle.strategy_graph.specs.Lent.{lent_node};
 ghost use Rattle.strategy_graph.specs.Tables.{is_winning, rest_node};
 
 mod depths;
 mod laws;
+mod packing;
 mod replies;
 mod roots;
 mod start;
@@ -25,7 +27,7 @@ pub use laws::{
     accepted_start_wins, accepted_wins, faults_refute, faults_refute_start, games_end_well,
     growth_keeps, growth_keeps_start, nodes_go_by_node,
 };
-pub use replies::{Replies, answer_among};
+pub use replies::{Replies, answer_among, listed_among};
 pub use roots::Root;
 pub use start::Start;
 pub use table::{PushError, Table};
@@ -85,6 +87,27 @@ impl Rest {
 pub struct Node {
     pub attack: Point,
     pub replies: Replies,
+    pub rest: Rest,
+}
+
+impl Node {
+    /// The node, lent.
+    pub fn lent(&self) -> LentNode<'_>
+        ensures node { lent_node result ≡ self.now }
+    {
+        LentNode {
+            attack: self.attack,
+            replies: self.replies.as_slice(),
+            rest: self.rest,
+        }
+    }
+}
+
+/// A node that is lent: its attack, its replies as a slice, and its rest.
+#[derive(Clone, Copy, Debug)]
+pub struct LentNode<'a> {
+    pub attack: Point,
+    pub replies: &'a [Reply],
     pub rest: Rest,
 }
 

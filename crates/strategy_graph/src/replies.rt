@@ -14,7 +14,7 @@ use std::alloc::{AllocError, Global};
 use std::hash::{Hash, Hasher};
 use std::marker::Model;
 
-fn rises(replies: &[Reply]) -> bool
+pub(crate) fn rises(replies: &[Reply]) -> bool
     ensures rising { result ≡ is_rising replies.now }
 {
     let Some((first, others)) = replies.split_first() else {
@@ -28,6 +28,14 @@ fn rises(replies: &[Reply]) -> bool
         last = reply.at;
     }
     true
+}
+
+/// The node that is listed for the reply at this point, if one is. It takes no memory.
+pub fn listed_among(replies: &[Reply], at: Point) -> Option<u32>
+    ensures listed { result ≡ listed_node replies.now at }
+{
+    let found = replies.iter().find(|reply| reply.at == at)?;
+    Some(found.next)
 }
 
 /// Replies in the order in which they were added.
@@ -121,19 +129,18 @@ impl Replies {
         rises(self.items.as_slice())
     }
 
-    /// Whether each node that the replies name is below `len`.
-    pub(crate) fn are_below(&self, len: u32) -> bool
-        ensures below { result ≡ list_all (λ r. nat_lt r.next len) self.now }
-    {
-        self.items.iter().all(|reply| reply.next < len)
-    }
-
     /// The node that is listed for the reply at this point, if one is. It takes no memory.
     pub fn find(&self, at: Point) -> Option<u32>
         ensures listed { result ≡ listed_node self.now at }
     {
-        let found = self.items.iter().find(|reply| reply.at == at)?;
-        Some(found.next)
+        listed_among(self.items.as_slice(), at)
+    }
+
+    /// Takes all replies out. The memory is kept for others.
+    pub fn clear(&mut self)
+        ensures empty { self.new ≡ [] }
+    {
+        self.items.clear();
     }
 
     /// Adds the reply at the end. After an `Err` the list is as it was, and the reply is gone.
@@ -148,18 +155,25 @@ impl Replies {
 
 /// The node that answers the reply, by the replies that are listed and the rest: the one that is listed for it, else the
 /// one of the rest, else `None`. It takes no memory.
-pub fn answer_among(replies: &Replies, rest: Rest, reply: Point) -> Option<u32>
+pub fn answer_among(replies: &[Reply], rest: Rest, reply: Point) -> Option<u32>
     ensures answer { result ≡ answer (record { replies = replies.now; rest = rest }) reply }
 {
-    match replies.find(reply) {
+    match listed_among(replies, reply) {
         Some(number) => Some(number),
         None => rest.node(),
     }
 }
 
+/// Whether each node that the replies name is below `len`.
+fn are_below(replies: &[Reply], len: u32) -> bool
+    ensures below { result ≡ list_all (λ r. nat_lt r.next len) replies.now }
+{
+    replies.iter().all(|reply| reply.next < len)
+}
+
 /// Whether each node that the replies and the rest name is below `len`.
-pub(crate) fn are_all_below(replies: &Replies, rest: Rest, len: u32) -> bool
+pub(crate) fn are_all_below(replies: &[Reply], rest: Rest, len: u32) -> bool
     ensures below { result ≡ names_below (record { replies = replies.now; rest = rest }) len }
 {
-    replies.are_below(len) && rest.is_below(len)
+    are_below(replies, len) && rest.is_below(len)
 }

@@ -62,13 +62,13 @@ impl Start {
     pub fn lookup(&self, reply: Point) -> Option<u32>
         ensures answer { result ≡ answer self.now reply }
     {
-        answer_among(&self.replies, self.rest, reply)
+        answer_among(self.replies.as_slice(), self.rest, reply)
     }
 
     /// Whether each node that the start names is below `len`.
     pub fn names_below(&self, len: u32) -> bool
         ensures below { result ≡ names_below self.now len }
     {
-        are_all_below(&self.replies, self.rest, len)
+        are_all_below(self.replies.as_slice(), self.rest, len)
     }
 }

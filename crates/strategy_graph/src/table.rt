@@ -6,22 +6,25 @@
 #![tactic(auto)]
 
 ghost use Rattle.std.specs.Prelude.{◌≡◌, ◌↔◌, ◌<◌, ◌++◌, [], ◌∷◌, IsTrue, true, false, List, length, slice_get, Some, IfOk, IfSome, IsOk, OnOk, OnErr, IsErrOf};
+ghost use Rattle.strategy_graph.specs.Lent.{lent_node};
 ghost use Rattle.strategy_graph.specs.Roots.{root_below, root_depth};
 ghost use Rattle.strategy_graph.specs.Tables.{IsNode, IsTable, answer_at, is_rising, is_winning, names_below, names_nodes_of, depth, start_depth};
 
 use crate::depths::deepest;
-use crate::replies::{answer_among, are_all_below};
-use crate::{MAX_NODES, Node, Root, Start};
+use crate::packing::PackedNodes;
+use crate::replies::{answer_among, are_all_below, rises};
+use crate::{LentNode, MAX_NODES, Node, Root, Start};
 use game_rules::Point;
 use std::alloc::{AllocError, Global};
 use std::marker::Model;
 use thiserror::Error;
 
 /// A table of answers, which contracts see as the list of its nodes. Each node names only lower ones, its replies rise
-/// strictly in reading order, a winning node lists none, and there are at most `MAX_NODES` nodes.
+/// strictly in reading order, a winning node lists none, and there are at most `MAX_NODES` nodes, which list at most
+/// `u32::MAX` replies in all.
 #[derive(Debug, Drop)]
 pub struct Table {
-    nodes: Vec<Node>,
+    nodes: PackedNodes,
     depths: Vec<u32>,
 }
 
@@ -32,9 +35,9 @@ impl Model for Table {
 
     ghost Value = { List Node };
 
-    ghost view = { λ t. t.nodes.items };
+    ghost view = { λ t. t.nodes };
 
-    ghost invariant = { λ t. IsTableWithDepths t.nodes.items t.depths.items };
+    ghost invariant = { λ t. IsTableWithDepths t.nodes t.depths.items };
 }
 
 /// Why a node is not added. The first that holds is answered.
@@ -49,7 +52,7 @@ pub enum PushError {
     /// The table has `MAX_NODES` nodes.
     #[error("the table is full")]
     Full,
-    /// There is no memory for the node and its depth.
+    /// There is no memory for the node, its replies and its depth, or the table would list more than `u32::MAX` replies in all.
     #[error("out of memory")]
     Memory,
 }
@@ -60,7 +63,7 @@ impl Table {
         ensures empty { result ≡ [] }
     {
         Table {
-            nodes: Vec::new(alloc),
+            nodes: PackedNodes::new(alloc),
             depths: Vec::new(alloc),
         }
     }
@@ -77,16 +80,16 @@ impl Table {
     pub fn is_empty(&self) -> bool
         ensures empty { IsTrue result ↔ (self.now ≡ []) }
     {
-        self.nodes.is_empty()
+        self.nodes.len() == 0
     }
 
     /// Node `i`, counted from 0.
-    pub fn node(&self, i: u32) -> &Node
+    pub fn node(&self, i: u32) -> LentNode<'_>
         requires in_table { i < length self.now }
-        ensures node { slice_get self.now i ≡ Some result.now }
+        ensures node { slice_get self.now i ≡ Some (lent_node result) }
         ensures table { IsTable self.now }
     {
-        &self.nodes[i as usize]
+        self.nodes.node(i as usize)
     }
 
     /// The node that answers the reply at node `i`: the one that is listed for it, else the one of the rest, else
@@ -96,8 +99,8 @@ impl Table {
         ensures answer { result ≡ answer_at self.now i reply }
         ensures below { IfSome result (λ j. j < i) }
     {
-        let node = &self.nodes[i as usize];
-        answer_among(&node.replies, node.rest, reply)
+        let node = self.nodes.node(i as usize);
+        answer_among(node.replies, node.rest, reply)
     }
 
     /// Adds the node at the end, and answers its number. A node whose rest is `Wins` has no replies. After an `Err` the
@@ -106,7 +109,8 @@ impl Table {
     /// - `NotBelow`, exactly where the node names a number that is not below the length of the table;
     /// - `NotRising`, exactly where its replies do not rise strictly in reading order;
     /// - `Full`, exactly where the table has `MAX_NODES` nodes;
-    /// - `Memory`, where there is no memory for it and its depth.
+    /// - `Memory`, where there is no memory for it, its replies and its depth, or the table would list more than `u32::MAX`
+    ///   replies in all.
     pub fn push(&mut self, node: Node) -> Result<u32, PushError>
         requires winning { is_winning node.rest ≡ true → node.replies ≡ [] }
         ensures number { IfOk result (λ i. i ≡ length self.old) }
@@ -122,31 +126,58 @@ impl Table {
             × (length self.old ≡ MAX_NODES)) }
         ensures unchanged { OnErr result (self.new ≡ self.old) }
     {
+        self.push_lent(node.lent())
+    }
+
+    /// The same of a node that is lent, so that one list of replies serves many nodes.
+    pub fn push_lent(&mut self, node: LentNode) -> Result<u32, PushError>
+        requires winning { is_winning node.rest ≡ true → node.replies.now ≡ [] }
+        ensures number { IfOk result (λ i. i ≡ length self.old) }
+        ensures pushed { OnOk result (self.new ≡ self.old ++ lent_node node.entry ∷ []) }
+        ensures not_below { IsErrOf result PushError.NotBelow
+            ↔ (names_nodes_of self.old (lent_node node.entry) ≡ false) }
+        ensures not_rising { IsErrOf result PushError.NotRising
+            ↔ ((names_nodes_of self.old (lent_node node.entry) ≡ true) × (is_rising node.entry.replies.now ≡ false)) }
+        ensures full { IsErrOf result PushError.Full
+            ↔ ((names_nodes_of self.old (lent_node node.entry) ≡ true) × (is_rising node.entry.replies.now ≡ true)
+            × (length self.old ≡ MAX_NODES)) }
+        ensures unchanged { OnErr result (self.new ≡ self.old) }
+    {
         let number = self.nodes.len() as u32;
-        if !are_all_below(&node.replies, node.rest, number) {
+        if !are_all_below(node.replies, node.rest, number) {
             return Err(PushError::NotBelow);
         }
-        if !node.replies.is_rising() {
+        if !rises(node.replies) {
             return Err(PushError::NotRising);
         }
         if number == MAX_NODES {
             return Err(PushError::Full);
         }
-        match self.push_node(node) {
+        match self.push_lent_node(node) {
             Ok(()) => Ok(number),
             Err(_) => Err(PushError::Memory),
         }
     }
 
-    /// Adds a node that is known to be one of a table, for which there is room, at the end. `Err` says that memory ran out:
-    /// then the table is as it was, and the node is gone.
+    /// Adds a node that is known to be one of a table, for which there is room, at the end. `Err` says that memory ran out, or that
+    /// the table would list more than `u32::MAX` replies in all: then the table is as it was, and the node is gone.
     pub fn push_node(&mut self, node: Node) -> Result<(), AllocError>
         requires node { IsNode node (length self.old) }
         requires room { length self.old < MAX_NODES }
         ensures pushed { OnOk result (self.new ≡ self.old ++ node ∷ []) }
         ensures unchanged { OnErr result (self.new ≡ self.old) }
     {
-        let below = deepest(node.replies.as_slice(), node.rest, self.depths.as_slice());
+        self.push_lent_node(node.lent())
+    }
+
+    /// The same of a node that is lent.
+    pub fn push_lent_node(&mut self, node: LentNode) -> Result<(), AllocError>
+        requires node { IsNode (lent_node node) (length self.old) }
+        requires room { length self.old < MAX_NODES }
+        ensures pushed { OnOk result (self.new ≡ self.old ++ lent_node node.entry ∷ []) }
+        ensures unchanged { OnErr result (self.new ≡ self.old) }
+    {
+        let below = deepest(node.replies, node.rest, self.depths.as_slice());
         if self.depths.push(below + 1).is_err() {
             return Err(AllocError);
         }

@@ -5,7 +5,7 @@ use four_search::{FourAnswer, FourMemory, MAX_DEPTH, four_search_with};
 use row_shapes::Rule;
 use std::alloc::{AllocError, Global};
 use strategy_compiler::{Compiler, WrittenWin};
-use strategy_graph::{Node, Reply, Rest, Table};
+use strategy_graph::{LentNode, Reply, Rest, Table};
 
 /// Adds what a search of fours with this memory answers: `none`, `spent`, or its win.
 pub(crate) fn add_fours<R: Rule, V: Seen<R>>(
@@ -67,7 +67,7 @@ fn add_table(table: &Table, moves: u32, text: &mut String) -> Result<(), AllocEr
     Ok(())
 }
 
-fn add_node(node: &Node, text: &mut String) -> Result<(), AllocError> {
+fn add_node(node: LentNode, text: &mut String) -> Result<(), AllocError> {
     let x = node.attack.x;
     let y = node.attack.y;
     write!(text, "{x},{y}")?;
@@ -76,7 +76,7 @@ fn add_node(node: &Node, text: &mut String) -> Result<(), AllocError> {
         Rest::To(j) => write!(text, " rest {j}")?,
         Rest::Nothing => text.push_str(" only")?,
     }
-    add_replies(node.replies.as_slice(), text)?;
+    add_replies(node.replies, text)?;
     text.push_str("; ")
 }
 

@@ -60,7 +60,7 @@ fn root_zone<R: Rule>(ground: Ground, root: &Root, walk: &mut Walk) -> Result<Ve
         Root::Defend(start) => match start.rest() {
             Rest::To(rest) => {
                 let asked = Asked {
-                    replies: start.replies(),
+                    replies: start.replies().as_slice(),
                     rest,
                     bound: ground.table.len(),
                 };

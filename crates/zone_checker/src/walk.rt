@@ -17,7 +17,7 @@ use crate::marks::{Mark, blanks, cover, cover_back, enter, harms, opened};
 use row_shapes::{Rule, is_five_point};
 use std::alloc::Global;
 use stone_board::{Board, Point, Side};
-use strategy_graph::{Replies, Rest, Table};
+use strategy_graph::{Reply, Rest, Table, listed_among};
 
 /// Why a walk ends without a zone.
 #[derive(Clone, Copy)]
@@ -49,7 +49,7 @@ pub(crate) struct Walk {
 /// The answers that are asked: those listed, and the node of the rest. Each node that they name is below `bound`.
 #[derive(Clone, Copy)]
 pub(crate) struct Asked<'a> {
-    pub(crate) replies: &'a Replies,
+    pub(crate) replies: &'a [Reply],
     pub(crate) rest: u32,
     pub(crate) bound: u32,
 }
@@ -86,7 +86,7 @@ pub(crate) fn node_zone<R: Rule>(ground: Ground, i: u32, walk: &mut Walk) -> Res
     };
     walk.board.put(node.attack, ground.side);
     let asked = Asked {
-        replies: &node.replies,
+        replies: node.replies,
         rest,
         bound: i,
     };
@@ -215,7 +215,7 @@ fn to_walk(board: &Board, asked: Asked, passed: &[Mark], q: Point) -> Option<u32
     if !board.is_empty(q) {
         return None;
     }
-    let listed = asked.replies.find(q);
+    let listed = listed_among(asked.replies, q);
     if listed.is_some() {
         return listed;
     }

@@ -20,7 +20,8 @@ returns-in_err-append-clause-bad c = λ is n others fits is_node few e.
     let bad : c.in_err-append.field-0.0 ≡ Bad = sym p.2 ∙ same_fault {X = Bor (List ℕ)} p.0 Bad (sym p.1 ∙ is) in
     let was = c.in_err-append.was in
     let result : c.append.result ≡ Err Bad = cc in
-    let found : Node = c.in_ok-node.field-0 in
+    let found : Node = c.in_ok-node.node in
     let same = same_node c.args.width c.args.height c.requires.wide c.requires.high c.args.bytes.now c.in-Some.text.now c.in-Some.rest.now
-    c.in-Some.ensures.ended c.in-Some.ensures.line found n others c.in_ok-node.ensures.node.0 c.in_ok-node.ensures.node.1 fits e in
+    c.in-Some.ensures.ended c.in-Some.ensures.line found n others c.in_ok-node.ensures.node.0 c.in_ok-node.ensures.node.1 fits e
+    ∙ sym c.lent.ensures.node in
     c.append.ensures.bad result (subst (λ (m : Node). IsNode m (length c.args.table.now)) same is_node) few

@@ -1,5 +1,6 @@
 use Rattle.std.proofs.Common.{◌≡◌, inl, inr, subst, arith, rules}
 use Rattle.std.proofs.lemmas.Bool.{cases_lt}
+use Rattle.strategy_graph.specs.Lent.{lent_node}
 use Rattle.strategy_graph.specs.declared.Node.{Node}
 use Rattle.strategy_graph.proofs.Common.{NamesOnBoard}
 use Rattle.quiet_command.proofs.BoardTests.{table-on}
@@ -10,9 +11,9 @@ loop-i-preserved c = λ k n l e.
     elim (cases_lt k c.loop-i.i) [
       | inl before ↦ c.loop-i.invariant k n before e
       | inr here ↦
-          let names : NamesOnBoard c.args.board.now c.node-node.result.now = search rules in
+          let names : NamesOnBoard c.args.board.now (lent_node c.node-node.result) = search rules in
           let same : k ≡ c.loop-i.i = omega arith in
-          let node : c.node-node.result.now ≡ n = cc in
+          let node : lent_node c.node-node.result ≡ n = cc in
           subst (λ (m : Node). NamesOnBoard c.args.board.now m) node names
     ]
 

@@ -1,7 +1,7 @@
 use Rattle.std.proofs.Common.{◌≡◌, ap, sym, subst, ◌+◌, List, length, true}
 use Rattle.strategy_graph.specs.Roots.{root_below}
 use Rattle.strategy_graph.specs.declared.Node.{Node}
-use Rattle.table_book.specs.Books.{EntryFits}
+use Rattle.table_book.specs.Books.{EntryFits, IsSound}
 use Rattle.game_rules.proofs.Tests.{all_get}
 use Rattle.table_book.proofs.Soundness.{root_fits-below}
 use Rattle.table_book.proofs.Holds.{hold_fault_of, next_entry}
@@ -17,6 +17,14 @@ add_entry-requires-clause-below c =
     c.requires.well_formed.text.entries in
     subst (λ (t : List Node). root_below c.in-Some.entry.root (length t) ≡ true) (sym so_far.table)
     (root_fits-below (length c.args.book.table) c.in-Some.entry.root fits.root)
+
+-- and it is sound
+pub add_entry-requires-clause-lawful : goal.add_entry-requires-clause-lawful
+add_entry-requires-clause-lawful c =
+    let here = next_entry c.args.book.table c.args.book.entries c.args.work c.loop-entry.held c.loop-entry.yielded _ c.in-Some.entry _
+    c.loop-entry.invariant.2 c.in-Some.ensures.steps.0 in
+    (all_get (IsSound c.args.book.table) c.args.book.entries (length c.loop-entry.yielded) c.in-Some.entry here.at
+    c.requires.well_formed.entries).lawful
 
 pub returns-in-Err-clause-refused : goal.returns-in-Err-clause-refused
 returns-in-Err-clause-refused c =

@@ -8,7 +8,7 @@ use Rattle.zone_checker.proofs.checks.root_zone.Goals as goal
 
 pub returns-in-To-clause-found : goal.returns-in-To-clause-found
 returns-in-To-clause-found g c =
-    let start = same_start c.in-Defend.start c.replies.result.now c.in-To.rest c.replies.ensures.listed
+    let start = same_start c.in-Defend.start c.as_slice.result.now c.in-To.rest (c.as_slice.ensures.items ∙ c.replies.ensures.listed)
     (sym c.rest.ensures.rest ∙ c.in-To.is) in
     rw c.in-Defend.is
     (subst (λ (a : Answers). MatchResult c.withstand.result
@@ -19,7 +19,7 @@ returns-in-To-clause-found g c =
 
 pub returns-in-To-clause-took : goal.returns-in-To-clause-took
 returns-in-To-clause-took g c =
-    let start = same_start c.in-Defend.start c.replies.result.now c.in-To.rest c.replies.ensures.listed
+    let start = same_start c.in-Defend.start c.as_slice.result.now c.in-To.rest (c.as_slice.ensures.items ∙ c.replies.ensures.listed)
     (sym c.rest.ensures.rest ∙ c.in-To.is) in
     rw c.in-Defend.is
     (subst (λ (a : Answers). IfOk c.withstand.result

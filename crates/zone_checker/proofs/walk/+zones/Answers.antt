@@ -5,6 +5,7 @@ use Rattle.std.proofs.lemmas.List.{get_or_default, length-map}
 use Rattle.game_rules.proofs.Common.{Grid, put, other, points_of}
 use Rattle.game_rules.specs.declared.Side.{Side}
 use Rattle.game_rules.specs.declared.Point.{Point}
+use Rattle.strategy_graph.specs.Lent.{lent_node}
 use Rattle.strategy_graph.proofs.Filling.{IsTable-lower}
 use Rattle.relevance_zone.specs.Zones.{HasZone}
 use Rattle.zone_checker.specs.Marks.{AreCovered, IsEntered, IsGreatest, kept_back}
@@ -27,25 +28,29 @@ node_zone-returns-then-walk-eq0-clause-found g t c = λ n h.
 pub node_zone-returns-then-not-is_empty-clause-found : goal.node_zone-returns-then-not-is_empty-clause-found
 node_zone-returns-then-not-is_empty-clause-found g t c = λ z h.
     taken-fails g.R.Rule.KIND _ (IsTable-lower _ c.node-node.ensures.table) _ c.args.i
-    c.args.walk.now.board c.node-node.result.now c.node-node.ensures.node (sym c.is_empty.ensures.empty ∙ c.if-not-is_empty.true) z h
+    c.args.walk.now.board (lent_node c.node-node.result) c.node-node.ensures.node (sym c.is_empty.ensures.empty ∙ c.if-not-is_empty.true) z
+    h
 
 pub node_zone-returns-then-is_five_point-clause-found : goal.node_zone-returns-then-is_five_point-clause-found
 node_zone-returns-then-is_five_point-clause-found g t c =
     won-greatest g.R.Rule.KIND _ (IsTable-lower _ c.node-node.ensures.table) _ c.args.i
-    c.args.walk.now.board c.node-node.result.now c.node-node.ensures.node (sym c.is_five_point.ensures.five ∙ c.if-is_five_point.true)
+    c.args.walk.now.board (lent_node c.node-node.result) c.node-node.ensures.node
+    (sym c.is_five_point.ensures.five ∙ c.if-is_five_point.true)
     (sym c.is_empty.ensures.empty ∙ c.if-not-is_empty.false) c.in-Ok.marks.items c.enter.new.marks.items c.enter.ensures.entered
     c.in-Ok.ensures.blanks c.in-Ok.ensures.size
 
 pub node_zone-returns-then-is_five_point-clause-took : goal.node_zone-returns-then-is_five_point-clause-took
 node_zone-returns-then-is_five_point-clause-took g t c =
     won-took g.R.Rule.KIND _ (IsTable-lower _ c.node-node.ensures.table) _ c.args.i
-    c.args.walk.now.board c.node-node.result.now c.node-node.ensures.node (sym c.is_five_point.ensures.five ∙ c.if-is_five_point.true)
+    c.args.walk.now.board (lent_node c.node-node.result) c.node-node.ensures.node
+    (sym c.is_five_point.ensures.five ∙ c.if-is_five_point.true)
     (sym c.is_empty.ensures.empty ∙ c.if-not-is_empty.false) c.args.walk.now.left (omega arith)
 
 pub node_zone-returns-in_default-rest : goal.node_zone-returns-in_default-rest
 node_zone-returns-in_default-rest g t c = record {
   found = restless-fails g.R.Rule.KIND _ (IsTable-lower _ c.node-node.ensures.table) _ c.args.i
-      c.args.walk.now.board c.node-node.result.now c.node-node.ensures.node (sym c.is_five_point.ensures.five ∙ c.if-is_five_point.false)
+      c.args.walk.now.board (lent_node c.node-node.result) c.node-node.ensures.node
+      (sym c.is_five_point.ensures.five ∙ c.if-is_five_point.false)
       c.in_default-rest.not-To;
   same = refl;
   took = tt;
@@ -53,7 +58,7 @@ node_zone-returns-in_default-rest g t c = record {
 
 pub node_zone-withstand-withstood-requires : goal.node_zone-withstand-withstood-requires
 node_zone-withstand-withstood-requires g t c =
-    let below = asked-below c.args.ground.table.now c.args.i c.node-node.result.now c.in-To.rest
+    let below = asked-below c.args.ground.table.now c.args.i (lent_node c.node-node.result) c.in-To.rest
     (IsTable-lower _ c.node-node.ensures.table) c.node-node.ensures.node c.in-To.is in
     let points : c.args.ground.points.now ≡ points_of c.put.new.self = rw c.put.ensures.put c.requires.points in
     let bound : c.args.i < length c.args.ground.table.now + 1 = let l = c.requires.in_table in omega (arith, l) in
@@ -61,32 +66,32 @@ node_zone-withstand-withstood-requires g t c =
 
 pub node_zone-lift-requires : goal.node_zone-lift-requires
 node_zone-lift-requires g t c = record {
-  stone = stone-there c.args.walk.now.board _ _ c.args.ground.side c.node-node.result.now.attack
+  stone = stone-there c.args.walk.now.board _ _ c.args.ground.side c.node-node.result.attack
       (sym c.is_empty.ensures.empty ∙ c.if-not-is_empty.false) c.put.ensures.put c.withstand-withstood.ensures.same
       c.is_empty.ensures.board;
 }
 
 pub node_zone-returns-in-Ok-withstood-clause-same : goal.node_zone-returns-in-Ok-withstood-clause-same
 node_zone-returns-in-Ok-withstood-clause-same g t c =
-    lifted-same c.args.walk.now.board _ _ c.args.ground.side c.node-node.result.now.attack
+    lifted-same c.args.walk.now.board _ _ c.args.ground.side c.node-node.result.attack
     (sym c.is_empty.ensures.empty ∙ c.if-not-is_empty.false) c.put.ensures.put c.withstand-withstood.ensures.same _ c.lift.ensures.lift
 
 pub node_zone-returns-in-Err-clause-same : goal.node_zone-returns-in-Err-clause-same
 node_zone-returns-in-Err-clause-same g t c =
-    lifted-same c.args.walk.now.board _ _ c.args.ground.side c.node-node.result.now.attack
+    lifted-same c.args.walk.now.board _ _ c.args.ground.side c.node-node.result.attack
     (sym c.is_empty.ensures.empty ∙ c.if-not-is_empty.false) c.put.ensures.put c.withstand-withstood.ensures.same _ c.lift.ensures.lift
 
 pub node_zone-returns-in-Ok-withstood-clause-took : goal.node_zone-returns-in-Ok-withstood-clause-took
 node_zone-returns-in-Ok-withstood-clause-took g t c =
     left-took g.R.Rule.KIND _ (IsTable-lower _ c.node-node.ensures.table) _ c.args.i
-    c.args.walk.now.board c.node-node.result.now c.node-node.ensures.node c.in-To.rest c.in-To.is
+    c.args.walk.now.board (lent_node c.node-node.result) c.node-node.ensures.node c.in-To.rest c.in-To.is
     (sym c.is_five_point.ensures.five ∙ c.if-is_five_point.false) c.put.new.self c.put.ensures.put
     (sym c.is_empty.ensures.empty ∙ c.if-not-is_empty.false) c.args.walk.now.left _ (omega arith) c.in-Ok-withstood.ensures.took
 
 pub node_zone-returns-in-Err-clause-found : goal.node_zone-returns-in-Err-clause-found
 node_zone-returns-in-Err-clause-found g t c =
     left-stopped g.R.Rule.KIND _ (IsTable-lower _ c.node-node.ensures.table) _ c.args.i
-    c.args.walk.now.board c.node-node.result.now c.node-node.ensures.node c.in-To.rest c.in-To.is
+    c.args.walk.now.board (lent_node c.node-node.result) c.node-node.ensures.node c.in-To.rest c.in-To.is
     (sym c.is_five_point.ensures.five ∙ c.if-is_five_point.false) c.put.new.self c.put.ensures.put
     (sym c.is_empty.ensures.empty ∙ c.if-not-is_empty.false) c.args.walk.now.left c.in-Err.stop (omega arith) c.in-Err.ensures.found
 
@@ -94,7 +99,7 @@ pub node_zone-returns-in-Ok-withstood-clause-found : goal.node_zone-returns-in-O
 node_zone-returns-in-Ok-withstood-clause-found g t c =
     let table = c.args.ground.table.now in
     let s = c.args.ground.side in
-    let n = c.node-node.result.now in
+    let n = lent_node c.node-node.result in
     let b = c.args.walk.now.board in
     let ms = c.in-Ok-withstood.marks.items in
     let marks = c.enter-in-Ok-withstood.new.marks.items in

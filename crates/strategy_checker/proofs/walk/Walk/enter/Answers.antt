@@ -3,6 +3,7 @@ use Rattle.std.proofs.lemmas.Result.{err_from_is_err_and}
 use Rattle.game_rules.proofs.Common.{Grid, outcome}
 use Rattle.game_rules.specs.declared.Outcome.TheVariants.{Wins}
 use Rattle.game_rules.specs.declared.RuleKind.{RuleKind}
+use Rattle.strategy_graph.specs.Lent.{lent_node}
 use Rattle.strategy_graph.specs.declared.Why.TheVariants.{NotWon}
 use Rattle.strategy_graph.proofs.Common.{Accepted, arrivals, Leads}
 use Rattle.strategy_graph.proofs.Filling.{IsTable-lower}
@@ -56,12 +57,13 @@ returns-in_ok-take-in-Wins-clause-entered g c =
     let rule : RuleKind = g.R.Rule.KIND in
     let b : Grid = c.args.position.now in
     let lower = IsTable-lower c.args.table.now c.node-node.ensures.table in
-    let won : outcome rule b c.node-node.result.now.attack ≡ Wins = sym c.in-Wins.ensures.outcome in
-    let one = arrivals-one rule c.args.table.now lower c.args.i b c.node-node.result.now c.node-node.ensures.node Wins won (λ e. cc) in
+    let won : outcome rule b c.node-node.result.attack ≡ Wins = sym c.in-Wins.ensures.outcome in
+    let one = arrivals-one rule c.args.table.now lower c.args.i b (lent_node c.node-node.result) c.node-node.ensures.node Wins won
+    (λ e. cc) in
     let took = ap (λ (w : Walk). w.left) c.in_ok-take-in-Wins.ensures.takes in
     let left = c.look.ensures.left in (
       record {
-        accepted = accepted-by-win rule c.args.table.now lower c.args.i b c.node-node.result.now c.node-node.ensures.node won;
+        accepted = accepted-by-win rule c.args.table.now lower c.args.i b (lent_node c.node-node.result) c.node-node.ensures.node won;
         counted = omega (arith, one, took, left);
         ready = taken-ready rule c.args.table.now b 1 c.look.new.self c.take-in-Wins.new.self c.look.ensures.ready
             c.in_ok-take-in-Wins.ensures.takes;

@@ -3,6 +3,7 @@ use Rattle.std.proofs.lemmas.Result.{err_from_is_err_and}
 use Rattle.game_rules.proofs.Common.{Grid, has_five, after, mover}
 use Rattle.game_rules.specs.declared.Point.{Point}
 use Rattle.game_rules.specs.declared.RuleKind.{RuleKind}
+use Rattle.strategy_graph.specs.Lent.{lent_node}
 use Rattle.strategy_graph.proofs.Common.{Accepted, arrivals, Leads}
 use Rattle.strategy_graph.proofs.Steps.{arrivals-positive}
 use Rattle.strategy_checker.specs.declared.outlook.Outlook.{Outlook}
@@ -28,7 +29,7 @@ pub returns-clause-entered : goal.returns-clause-entered
 returns-clause-entered g c =
     let rule : RuleKind = g.R.Rule.KIND in
     let b : Grid = c.args.position.now in
-    let p : Point = c.args.node.now.attack in
+    let p : Point = c.args.node.attack in
     let there : c.play.new.self ≡ after b p = c.play.ensures.played ∙ ap (λ (w : Grid). after w p) c.told.ensures.same in
     let took = ap (λ (w : Walk). w.left) c.in_ok-take.ensures.takes in
     let one : c.args.self.now.left ≡ c.take.new.self.left + 1 = omega (arith, took) in
@@ -44,14 +45,14 @@ returns-clause-entered g c =
       no_line = taken.no_line;
       memo = taken.memo;
     } in (
-      c.args.node.now,
+      lent_node c.args.node,
       (
-        stage-first rule c.args.table.now c.args.i b c.play.new.self c.args.node.now c.requires.table c.requires.node
+        stage-first rule c.args.table.now c.args.i b c.play.new.self (lent_node c.args.node) c.requires.table c.requires.node
             c.requires.ready.lawful c.requires.goes_on c.requires.more there c.args.self.now.left c.take.new.self.left c.begun.result one
             c.begun.ensures.course outlook,
         refl,
         refl,
-        stage-lift rule c.args.table.now c.args.i b c.play.new.self c.args.node.now c.requires.table c.requires.node
+        stage-lift rule c.args.table.now c.args.i b c.play.new.self (lent_node c.args.node) c.requires.table c.requires.node
             c.requires.ready.lawful c.requires.goes_on c.requires.more there,
         ready,
       ),

@@ -40,13 +40,13 @@ loop-next-init g c =
 
 -- what the replies came to, said of the answers that were given
 asked : (g : _) (c : After-next g) (r : Result (Option ℕ) Stop)
-    → Advanced g.R.Rule.KIND c.args.table.now (record { replies = c.replies.result.now; rest = c.rest.result }) c.loop-next.position
-    (all_to_ask c.loop-next.position c.replies.result.now c.loop-next.meeting.course) c.next.new.meeting.reply
-    (all_to_ask c.loop-next.position c.replies.result.now c.next.new.meeting.course) c.loop-next.self.left c.next.new.self r
+    → Advanced g.R.Rule.KIND c.args.table.now (record { replies = c.as_slice.result.now; rest = c.rest.result }) c.loop-next.position
+    (all_to_ask c.loop-next.position c.as_slice.result.now c.loop-next.meeting.course) c.next.new.meeting.reply
+    (all_to_ask c.loop-next.position c.as_slice.result.now c.next.new.meeting.course) c.loop-next.self.left c.next.new.self r
     → Advanced g.R.Rule.KIND c.args.table.now c.args.start.now c.args.position.now
     (all_to_ask c.args.position.now c.args.start.now.replies c.loop-next.meeting.course) c.next.new.meeting.reply
     (all_to_ask c.args.position.now c.args.start.now.replies c.next.new.meeting.course) c.loop-next.self.left c.next.new.self r
-asked g c r h = rw (← c.replies.ensures.listed, ← c.rest.ensures.rest, ← c.loop-next.invariant.same) h
+asked g c r h = rw (← c.replies.ensures.listed, ← c.as_slice.ensures.items, ← c.rest.ensures.rest, ← c.loop-next.invariant.same) h
 
 pub returns-in_err-next-clause-walked : goal.returns-in_err-next-clause-walked
 returns-in_err-next-clause-walked g c =
