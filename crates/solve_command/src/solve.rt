@@ -16,6 +16,7 @@ use command_base::{Answer, AtPosition, full, none, spent};
 use foul_judge::{Position, Seen};
 use four_search::fewest_win;
 use line_proof::{LineAnswer, prove_line};
+use line_tables::LineTables;
 use position_commands::{table_text, win_text};
 use proof_number::{ProofAnswer, proof_number};
 use proof_tree::ProofTree;
@@ -43,14 +44,19 @@ impl AtPosition for Solve {
     ghost says = { λ c. SolutionSays c.depth c.nodes };
 
     fn say_at<R: Rule>(&self, alloc: Global, position: Position<R>) -> Result<Answer, AllocError> {
-        by_fours(alloc, position, self.depth, self.nodes)
+        by_fours(
+            alloc,
+            LineTables::over(alloc, position),
+            self.depth,
+            self.nodes,
+        )
     }
 }
 
 /// What is said of a position: what the first step comes to, and else the later ones.
 fn by_fours<R: Rule>(
     alloc: Global,
-    position: Position<R>,
+    position: LineTables<R>,
     depth: u32,
     nodes: u64,
 ) -> Result<Answer, AllocError>
@@ -58,7 +64,7 @@ fn by_fours<R: Rule>(
     ensures says { IfOk result (λ answer. SolutionSays depth nodes (file_at R.KIND position) answer.status answer.text) }
 {
     let mut view = position;
-    match fewest_win::<R, Position<R>>(alloc, &mut view, depth, nodes)?.win() {
+    match fewest_win::<R, LineTables<R>>(alloc, &mut view, depth, nodes)?.win() {
         Some(win) => table_text::<R>(alloc, view.board(), &win.table, win.moves),
         None => by_line(alloc, view, depth, nodes),
     }
@@ -67,7 +73,7 @@ fn by_fours<R: Rule>(
 /// The second step, and else the third.
 fn by_line<R: Rule>(
     alloc: Global,
-    position: Position<R>,
+    position: LineTables<R>,
     depth: u32,
     nodes: u64,
 ) -> Result<Answer, AllocError>
@@ -84,7 +90,7 @@ fn by_line<R: Rule>(
 /// The threats of the first sequence of the side to move, if the budget is enough for the search and there is one.
 fn first_line<R: Rule>(
     alloc: Global,
-    position: &Position<R>,
+    position: &LineTables<R>,
     depth: u32,
     nodes: u64,
 ) -> Result<Option<Threats>, AllocError>
@@ -105,7 +111,7 @@ fn first_line<R: Rule>(
 /// What the proof of the first sequence comes to, and else the third step.
 fn prove_first<R: Rule>(
     alloc: Global,
-    position: Position<R>,
+    position: LineTables<R>,
     line: &Threats,
     depth: u32,
     nodes: u64,
@@ -117,8 +123,8 @@ fn prove_first<R: Rule>(
 {
     let mut view = position;
     let mut compiler = Compiler::new(alloc);
-    match prove_line::<R, Position<R>>(alloc, &mut view, line, depth, &mut compiler) {
-        Ok(LineAnswer::Proved(win)) => win_text(alloc, view, compiler, win),
+    match prove_line::<R, LineTables<R>>(alloc, &mut view, line, depth, &mut compiler) {
+        Ok(LineAnswer::Proved(win)) => win_text(alloc, view.into_position(), compiler, win),
         Ok(LineAnswer::Fails) => by_threats(alloc, view, depth, nodes),
         Err(SearchError::Full) => Ok(full()),
         Err(SearchError::Memory) => Err(AllocError),
@@ -128,7 +134,7 @@ fn prove_first<R: Rule>(
 /// The third step.
 fn by_threats<R: Rule>(
     alloc: Global,
-    position: Position<R>,
+    position: LineTables<R>,
     depth: u32,
     nodes: u64,
 ) -> Result<Answer, AllocError>
@@ -138,7 +144,7 @@ fn by_threats<R: Rule>(
 {
     let mut view = position;
     match searched_in_turn::<R>(alloc, &mut view, depth, nodes)? {
-        Searched::Win { compiler, win } => win_text(alloc, view, compiler, win),
+        Searched::Win { compiler, win } => win_text(alloc, view.into_position(), compiler, win),
         Searched::None => Ok(none()),
         Searched::Spent => Ok(spent()),
         Searched::Full => Ok(full()),
@@ -158,7 +164,7 @@ enum Searched {
 /// searched: so two thirds of the moves are searched first, and else what is found within all of them decides.
 fn searched_in_turn<R: Rule>(
     alloc: Global,
-    view: &mut Position<R>,
+    view: &mut LineTables<R>,
     depth: u32,
     nodes: u64,
 ) -> Result<Searched, AllocError>
@@ -178,7 +184,7 @@ fn searched_in_turn<R: Rule>(
 /// What the search for a win by threats within so many moves comes to.
 fn searched_within<R: Rule>(
     alloc: Global,
-    view: &mut Position<R>,
+    view: &mut LineTables<R>,
     moves: u32,
     nodes: u64,
 ) -> Result<Searched, AllocError>
@@ -188,7 +194,7 @@ fn searched_within<R: Rule>(
 {
     let mut compiler = Compiler::new(alloc);
     let mut tree = ProofTree::new(alloc)?;
-    match proof_number::<R, Position<R>>(alloc, view, moves, nodes, &mut tree, &mut compiler) {
+    match proof_number::<R, LineTables<R>>(alloc, view, moves, nodes, &mut tree, &mut compiler) {
         Ok(ProofAnswer::Win(win)) => Ok(Searched::Win { compiler, win }),
         Ok(ProofAnswer::None) => Ok(Searched::None),
         Ok(ProofAnswer::Spent) => Ok(Searched::Spent),

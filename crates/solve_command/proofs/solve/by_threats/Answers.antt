@@ -1,4 +1,4 @@
-use Rattle.std.proofs.Common.{inr}
+use Rattle.std.proofs.Common.{inr, ◌∙◌}
 use Rattle.command_base.specs.Positions.{file_at}
 use Rattle.solve_command.proofs.Solutions.{threats-says, unwon-says, undecided-says, full-says}
 use Rattle.solve_command.proofs.solve.by_threats.Goals as goal
@@ -11,7 +11,7 @@ win_text-requires g c =
       win = (
         c.args.depth,
         c.requires.limits.1,
-        rw c.searched_in_turn.ensures.same is.0.written,
+        rw (c.into_position.ensures.position ∙ c.searched_in_turn.ensures.same) is.0.written,
       );
     }
 
@@ -21,8 +21,9 @@ returns-in-Win g c =
     let p = c.args.position in
     let is = rw c.in-Win.is at c.in_ok-compiler.ensures.told in
     record {
-      says = threats-says c.win_text.result c.args.depth c.args.nodes rule p c.searched_in_turn.new.view c.searched_in_turn.ensures.same
-          c.in-Win.compiler c.in-Win.win is c.requires.left c.win_text.ensures.status c.win_text.ensures.shown;
+      says = threats-says c.win_text.result c.args.depth c.args.nodes rule p c.into_position.result
+          (c.into_position.ensures.position ∙ c.searched_in_turn.ensures.same) c.in-Win.compiler c.in-Win.win is c.requires.left
+          c.win_text.ensures.status c.win_text.ensures.shown;
     }
 
 pub returns-in-None : goal.returns-in-None

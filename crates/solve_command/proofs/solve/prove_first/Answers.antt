@@ -1,4 +1,4 @@
-use Rattle.std.proofs.Common.{◌<◌, ◌+◌, ap, arith, inl, Err}
+use Rattle.std.proofs.Common.{◌<◌, ◌+◌, ◌∙◌, ap, arith, inl, Err}
 use Rattle.command_base.specs.Positions.{file_at}
 use Rattle.position_commands.proofs.Searches.{new-few}
 use Rattle.solve_command.proofs.Solutions.{line-says, line-proved, full-says}
@@ -12,8 +12,8 @@ returns-in-Ok-Proved g c =
     let win = c.in-Ok-Proved.win in
     let is = rw c.in-Ok-Proved.field-0-is at c.in-Ok-Proved.ensures.proved in
     record {
-      says = line-says c.win_text.result c.args.depth c.args.nodes rule p c.prove_line.new.view c.prove_line.ensures.same compiled win
-          c.args.line.now is (new-few c.new-compiler.result compiled _ c.new-compiler.ensures.empty c.prove_line.ensures.added)
+      says = line-says c.win_text.result c.args.depth c.args.nodes rule p c.into_position.result
+          (c.into_position.ensures.position ∙ c.prove_line.ensures.same) compiled win c.args.line.now is (new-few c.new-compiler.result compiled _ c.new-compiler.ensures.empty c.prove_line.ensures.added)
           c.requires.no_fours c.requires.line
           (line-proved rule c.args.line.now c.args.depth p c.in-Ok-Proved.field-0 win c.in-Ok-Proved.field-0-is
           c.in-Ok-Proved.ensures.fails) c.win_text.ensures.status c.win_text.ensures.shown;
