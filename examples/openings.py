@@ -64,7 +64,7 @@ TIMES = 10
 # How many attacks are tried at a reply that is left, before a search with more nodes and in the end, and by how many of them it is taken
 # apart in turn.
 QUICK, ATTACKS, DEEPER = 3, 8, 2
-# With how many replies left an attack is gone on with before that search.
+# With how many replies left an attack is gone on with at once.
 NEARLY = 3
 # An attack is given up once more replies are left than these few and one of so many that were asked.
 FEW, ONE_OF = 2, 16
@@ -421,9 +421,15 @@ def asked_deeper(opening, given, levels, whole=True):
 
 def taken_apart(work, reply, attacks, levels, most=MOST_FILES):
     """Takes a reply apart by attacks that weren't tried there, and with some levels what is left of them in turn, where that are at most
-    so many. It says whether the reply has a table now.
+    so many, few at once and more once all are tried. It says whether the reply has a table now.
     """
     opening, given, hopes = work.opening, work.given, []
+
+    def is_won(inner):
+        opening.apart.add((reply, inner.attack))
+        asked_deeper(inner, given, levels - 1, False)
+        return is_joined(opening, reply, inner)
+
     if work.serve(reply):
         return True
     for attack in [it for it in attacks(reply) if (reply, it) not in opening.apart]:
@@ -431,18 +437,14 @@ def taken_apart(work, reply, attacks, levels, most=MOST_FILES):
         inner = Work(opening.deeper(reply, attack), given)
         inner.may_give_up = True
         inner.round(min(given.nodes, given.most))
-        if is_joined(opening, reply, inner.opening):
+        left = len(inner.opening.left())
+        if is_joined(opening, reply, inner.opening) or levels and left <= NEARLY and is_won(inner.opening):
             return True
         if inner.is_given_up:
             opening.apart.add((reply, attack))
-        elif levels and len(inner.opening.left()) <= most:
+        elif levels and NEARLY < left <= most:
             hopes.append(inner.opening)
-    for inner in sorted(hopes, key=lambda inner: len(inner.left()))[:DEEPER]:
-        opening.apart.add((reply, inner.attack))
-        asked_deeper(inner, given, levels - 1, False)
-        if is_joined(opening, reply, inner):
-            return True
-    return False
+    return any(map(is_won, sorted(hopes, key=lambda inner: len(inner.left()))[:DEEPER]))
 
 
 def is_joined(opening, reply, inner):
