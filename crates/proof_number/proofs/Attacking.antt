@@ -159,8 +159,9 @@ module _ {rule : RuleKind} {s : Search} {t : Tree} {c : List Node} {leaf : ℕ} 
     tree-here = ap (λ (n : ℕ). threat_tree rule n s.board) left_is
 
     -- where the budget does not reach, the game has more positions
-    pub moves-spent : s.budget < s.defended + length (tried_moves rule s.board) → HasSpent rule s s t t
+    pub moves-spent : s.budget < s.defended + length (tried_moves rule s.board) → HasSpent rule s s t t c leaf
     moves-spent over = record {
+      searching = here.searching;
       spent = (let a = defences-fit in let d = moves-few rule s.board lawful-here no-five others m one-move in let e =
           tree-here in omega (arith, over, a, d, e));
       ran_out = runs-out stands Attack attack (inr over);

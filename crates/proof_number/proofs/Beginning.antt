@@ -1,5 +1,5 @@
 -- A search whose tree has one node: the root is open, or it is settled as won or lost.
-use Rattle.std.proofs.Common.{◌≡◌, ◌∙◌, ℕ, ◌+◌, ◌-◌, ◌<◌, ◌≤◌, Bool, true, false, cond, ◌&&◌, not, refl}
+use Rattle.std.proofs.Common.{◌≡◌, ◌∙◌, ℕ, ◌+◌, ◌-◌, ◌<◌, ◌≤◌, Bool, true, false, cond, ◌&&◌, refl}
 use Rattle.std.proofs.Common.{sym, ap, subst, arith, List, [], length, nat_eq, Result, Ok, OnOk, min, inl, rules}
 use Rattle.std.proofs.lemmas.Bool.{eq-eqb, ne_eqb}
 use Rattle.std.proofs.lemmas.List.{get_or-set_same, length-map, length-set}
@@ -9,6 +9,8 @@ use Rattle.proof_number.proofs.Common.{Numbers, IsThreatWin, one_if, Note, Searc
 use Rattle.proof_number.proofs.Common.{TellsTruly, WinsAt, board_at, left_at, IsLostAt, AreWritten, CanBegin, HasBegun, IsSameAim}
 use Rattle.proof_number.proofs.Common.{IsCounted, IsNotedWin, IsSettledAt, Searches, behind_leaves, game_of, is_attack, noted_won}
 use Rattle.proof_number.proofs.Common.{sum_below, unwritten, IsBare, threat_wins, wins_behind, won_at, wins_by_threats}
+use Rattle.proof_tree.proofs.Common.{sought}
+use Rattle.proof_number.proofs.Common.{HasSpare, no_numbers}
 use Rattle.position_table.proofs.Remembering.{true-none}
 use Rattle.proof_tree.proofs.SumLaws.{lone-childless}
 use Rattle.proof_number.proofs.GameTruths.{board-root, left-root}
@@ -45,6 +47,7 @@ pub record IsBegun (rule : RuleKind) (s : Search) (t : Tree) (c : List Node) : T
   pub some_budget : 1 ≤ s.budget
   pub budget_fits : s.budget ≤ 10000000
   pub none : s.settled.entries ≡ []
+  pub none_to_spare : s.spare ≡ no_numbers
   pub attacked_is : s.attacked ≡ 1
   pub defended_is : s.defended ≡ 0
   pub compiled : IsCompiled c
@@ -154,8 +157,18 @@ module _ {rule : RuleKind} {s : Search} {t : Tree} {c : List Node} (begun : IsBe
   lone-counted : IsCounted Game s.budget s.attacked s.defended
   lone-counted = search (rules, own-board, lone-behind, tree-positive, lone-sum, counts-less)
 
+  lone-spare : HasSpare t s.spare
+  lone-spare = record {
+    fits = λ kind. let zero_spare = none kind in omega (arith, zero_spare);
+    leaves = λ kind many. let one = begun.one_node in absurd (omega (arith, many, one));
+    lone = λ kind one unsettled. none kind;
+  } where
+    none : (kind : Kind) → sought kind s.spare ≡ 0
+    none Attack = ap (λ (n : Numbers). n.proof) begun.none_to_spare
+    none Defend = ap (λ (n : Numbers). n.disproof) begun.none_to_spare
+
   pub lone-searches : Searches rule s t c (λ i. ⊥)
-  lone-searches = search (rules, lone-game, lone-written, true-none, lone-counted, one_where, lone-sum, lone-wins)
+  lone-searches = search (rules, lone-game, lone-written, true-none, lone-counted, lone-spare, one_where, lone-sum, lone-wins)
 
 -- ---- the first look at the root
 
@@ -181,6 +194,7 @@ module _ {rule : RuleKind} {s : Search} {t : Tree} {c : List Node} {b : Grid} (c
     some_budget = some_budget;
     budget_fits = budget_fits;
     none = begins.none;
+    none_to_spare = begins.none_to_spare;
     attacked_is = begins.attacked_is;
     defended_is = begins.defended_is;
     compiled = compiled;
@@ -237,6 +251,7 @@ module _ {rule : RuleKind} {s : Search} {t : Tree} {c : List Node} {b : Grid} (c
       some_budget = rw rest some_budget;
       budget_fits = rw rest budget_fits;
       none = ap (λ (w : Search). w.settled.entries) rest ∙ begins.none;
+      none_to_spare = ap (λ (w : Search). w.spare) rest ∙ begins.none_to_spare;
       attacked_is = ap (λ (w : Search). w.attacked) rest ∙ begins.attacked_is;
       defended_is = ap (λ (w : Search). w.defended) rest ∙ begins.defended_is;
       compiled = compiled;

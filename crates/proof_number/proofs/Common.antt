@@ -24,6 +24,7 @@ pub use Rattle.proof_number.specs.SearchTrees.{attacks_behind, behind_at, behind
 pub use Rattle.proof_number.specs.SearchTrees.{wins_behind}
 unfoldable pub use Rattle.proof_number.specs.SearchTrees.{sum_below}
 pub use Rattle.proof_number.specs.Searches.{AreWritten, CanBegin, Grows, HasBegun, HasGrown, HasSpent, HasStayed, HasStepped, IsAbove}
+pub use Rattle.proof_number.specs.Searches.{HasEnded, HasFollowed, HasSpare, IsOpenLeaf, IsOther, IsThere, one_more}
 pub use Rattle.proof_number.specs.Searches.{IsAtLeaf, IsBack, IsExpandedAt, IsMet, IsNew, IsNotedWin, IsOverBudget, IsPassed, IsSameAim}
 pub use Rattle.proof_number.specs.Searches.{IsSearching, IsSettledAt, IsStep, IsTried, KeepsTree, OnStep, Searches, StandsAt, closed_nodes}
 pub use Rattle.proof_number.specs.Searches.{game_of, noted_won, unwritten, won_at}
@@ -41,7 +42,7 @@ pub use Rattle.proof_number.specs.declared.search.Search.{Search}
 pub use Rattle.proof_number.specs.declared.search.Step.{Step}
 pub use Rattle.proof_number.specs.declared.search.Step.TheVariants.{Done}
 pub use Rattle.proof_tree.specs.Combining.{combined, is_settled, least, no_numbers, other_kind, settled_numbers, total}
-pub use Rattle.proof_tree.specs.Trees.{IsOnWayUp, IsTree, OthersStay, Tree, ancestor, children_of, leaf_sum, link_at, most_proving}
+pub use Rattle.proof_tree.specs.Trees.{IsAlive, IsOnWayUp, IsTree, OthersStay, Tree, ancestor, children_of, leaf_sum, link_at, most_proving}
 pub use Rattle.proof_tree.specs.Trees.{numbers_at}
 pub use Rattle.proof_tree.specs.declared.Kind.{Kind}
 pub use Rattle.proof_tree.specs.declared.Kind.TheVariants.{Attack, Defend}

@@ -1,6 +1,6 @@
 -- A proved node of the attacker is compiled: the nodes behind its proved move have wins, and the search goes on with one more. A proved
 -- node of the attacker is compiled, in the words of the contracts.
-use Rattle.std.proofs.Common.{◌≡◌, ◌≢◌, ◌⊎◌, inl, inr, ℕ, ◌+◌, ◌<◌, ◌≤◌, true, false, ◌&&◌, sym, ap}
+use Rattle.std.proofs.Common.{◌≡◌, ◌≢◌, ◌⊎◌, inl, inr, ℕ, ◌+◌, ◌<◌, ◌≤◌, true, false, sym, ap}
 use Rattle.std.proofs.Common.{subst, ◌∙◌, arith, List, [], ◌∷◌, ◌++◌, map, length, take, drop, All, Ok, rules}
 use Rattle.std.proofs.lemmas.Bool.{cases_eq, eq-eqb}
 use Rattle.std.proofs.lemmas.List.{get_or-map, get_or-take, get_or-drop, get_or-set_same, get_or-set_other, length-map, length-take}
@@ -337,6 +337,7 @@ module _ {rule : RuleKind} {s : Search} {t : Tree} {c : List Node} {node : ℕ} 
               rw (won-places rule s t u.notes.items node win items)
               (memo-grown rule (game_of rule s t) c more s.settled lower h.remembered);
           counted = rw (won-places rule s t u.notes.items node win items) h.counted;
+          spare = h.spare;
           compiled = compiled;
           few = won-few;
           wins = rw (won-places rule s t u.notes.items node win items) won-wins;

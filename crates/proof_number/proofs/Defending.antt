@@ -1,13 +1,13 @@
 -- The numbers and notes of the children of a node of the defender, one after another. A leaf of the defender is settled where a reply
 -- leaves no win, or else gets a child for each reply.
-use Rattle.std.proofs.Common.{◌≡◌, ◌⊎◌, inl, inr, ℕ, ◌+◌, ◌<◌, ◌≤◌, refl, sym, ap, ◌∙◌, arith}
+use Rattle.std.proofs.Common.{subst, ◌≡◌, ◌⊎◌, inl, inr, ℕ, ◌+◌, ◌<◌, ◌≤◌, refl, sym, ap, ◌∙◌, arith}
 use Rattle.std.proofs.Common.{List, [], ◌∷◌, ◌++◌, length, take, Option, Some, None, IfSome, is_none, sum_by, suc, rules, ◌-◌}
 use Rattle.std.proofs.Common.{Bool, true, false, cond, ◌&&◌, not, map, All, ◌*◌, get_or}
 use Rattle.std.proofs.lemmas.Bool.{cases_lt, eq-eqb, ne_eqb}
 use Rattle.std.proofs.lemmas.List.{get_or_append_left, get_or_push, length_push, get_or-map}
 use Rattle.std.proofs.lemmas.List.Sums.{sum_by_more, sum_by_more_le, sum_by-cons, sum_by-le}
 use Rattle.std.proofs.lemmas.List.Elements.{All-from_get_or}
-use Rattle.proof_number.proofs.Common.{RuleKind, GoesOn, Point, Grid, after, is_empty, points_of, IsPosition, mover, outcome}
+use Rattle.proof_number.proofs.Common.{IsSearching, RuleKind, GoesOn, Point, Grid, after, is_empty, points_of, IsPosition, mover, outcome}
 use Rattle.proof_number.proofs.Common.{goes_on, LosesOr, WinsByThreats, has_five, if_goes_on, behind_replies, Numbers, Kind, Attack, Defend}
 use Rattle.proof_number.proofs.Common.{no_numbers, numbers_at, is_settled, other_kind, settled_numbers, Tree, link_at, Node, NamesLower}
 use Rattle.proof_number.proofs.Common.{WrittenWin, GrowsBy, IsCompiled, Child, Children, Judged, Five, Last, Open, IsThreatWin}
@@ -405,8 +405,10 @@ module _ {rule : RuleKind} {s : Search} {t : Tree} {c : List Node} {leaf : ℕ} 
 
   module _ (children : Children) (are : AreChildren rule (note_at s.notes.items leaf).left view children) where
     -- where the budget does not reach, the game has more positions
-    pub replies-spent : s.budget < s.attacked + children.count → (b : Grid) → b ≡ s.board → HasSpent rule s (record s { board = b }) t t
+    pub replies-spent : s.budget < s.attacked + children.count → (b : Grid) → b ≡ s.board
+        → HasSpent rule s (record s { board = b }) t t c leaf
     replies-spent over b same = record {
+      searching = subst (λ (w : Grid). IsSearching rule (record s { board = w }) t c (λ i. ⊥)) (sym same) here.searching;
       spent = (let a = attacks-fit in let few = are.few in omega (arith, a, few, over));
       ran_out = runs-out stands Defend defend (children, are, over);
       same = refl;

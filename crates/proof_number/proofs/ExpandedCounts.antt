@@ -25,6 +25,9 @@ use Rattle.proof_number.proofs.Expanding.{IsExpansion, IsNewChild, behind-grown,
 use Rattle.proof_number.proofs.Expanding.{game-grown, grown-moves, new-board, new-kind, new-left, old-board, old-kind, old-left}
 use Rattle.proof_number.proofs.Expanding.{old-moves_of, old-numbers, split, old-parent}
 use Rattle.proof_number.proofs.Staying.{expanded-proved}
+use Rattle.proof_tree.proofs.OpenWays.{alive-open}
+use Rattle.proof_number.proofs.Common.{HasSpare, one_more}
+use Rattle.proof_number.proofs.Sparing.{open-counts, sought-more, spare-less}
 
 -- what is noted of a new child of this kind: a win that is written, where it is proved, and none where it is open
 pub record IsNewNote (rule : RuleKind) (kind : Kind) (b : Grid) (c : List Node) (note : Note) (numbers : Numbers) : Type 0 where
@@ -97,6 +100,34 @@ pub record Expansion (rule : RuleKind) (s v : Search) (t u : Tree) (c nodes : Li
       (λ j. unwritten_win rule (link_at t.links leaf).kind (board_at (game_of rule s t) leaf) (note_at ms j)) + sum_below (length more)
       (λ j. new_behind wins_behind rule (link_at t.links leaf).kind (board_at (game_of rule s t) leaf) (note_at ms j) (numbers_at more j))
       ≤ wins_behind (link_at t.links leaf).kind rule (left_at (game_of rule s t).left leaf) (board_at (game_of rule s t) leaf)
+
+-- a leaf that gets children leaves its own number to spare
+grown-spare : {rule : RuleKind} {s : Search} {t : Tree} {c : List Node} {leaf : ℕ} {view : Grid} → IsAtLeaf rule s t c leaf view
+    → (kind : Kind) (more : List Numbers) → 0 < length more → finite_sum (map (sought kind) more) ≤ length more
+    → leaf_sum kind (grown_links t.links leaf (length more)) (t.numbers ++ more) + sought kind (one_more s.spare)
+    ≤ length t.links + length more
+grown-spare {s = s} {t = t} {leaf = leaf} h kind more some low =
+    let grown = leaf_sum-grown kind t.links t.numbers more leaf h.searching.tree.numbered.count h.in_tree h.childless some in
+    let counts = open-counts kind (numbers_at t.numbers leaf) (alive-open t h.searching.tree leaf h.in_tree h.alive leaf (0, refl)) in
+    let more_spare = sought-more kind s.spare in
+    by_size (cases_lt 1 (length t.links)) grown counts more_spare where
+      by_size : (1 < length t.links) ⊎ (length t.links ≤ 1)
+          → leaf_sum kind (grown_links t.links leaf (length more)) (t.numbers ++ more) + finite (sought kind (numbers_at t.numbers leaf))
+          ≡ leaf_sum kind t.links t.numbers + finite_sum (map (sought kind) more)
+          → 1 ≤ finite (sought kind (numbers_at t.numbers leaf)) → sought kind (one_more s.spare) ≡ sought kind s.spare + 1
+          → leaf_sum kind (grown_links t.links leaf (length more)) (t.numbers ++ more) + sought kind (one_more s.spare)
+          ≤ length t.links + length more
+      by_size (inl several) grown counts more_spare =
+          let before = h.searching.spare.leaves kind several in omega (arith, grown, low, before, counts, more_spare)
+      by_size (inr one) grown counts more_spare =
+          let inside = h.in_tree in
+          let single : length t.links ≡ 1 = omega (arith, one, inside) in
+          let root : leaf ≡ 0 = omega (arith, one, inside) in
+          let alone = one-leaf kind t.links t.numbers single (h.searching.tree.numbered.count ∙ single)
+          (ap (λ (m : ℕ). (link_at t.links m).count) (sym root) ∙ h.childless) in
+          let same = ap (λ (m : ℕ). finite (sought kind (numbers_at t.numbers m))) root in
+          let none = h.searching.spare.lone kind single h.root_open in
+          omega (arith, grown, low, alone, same, none, more_spare)
 
 module _ {rule : RuleKind} {s v : Search} {t u : Tree} {c nodes : List Node} {leaf : ℕ} {view : Grid} {more : List Numbers} {ms : List Note}
     (x : Expansion rule s v t u c nodes leaf view more ms) where
@@ -432,37 +463,28 @@ module _ {rule : RuleKind} {s v : Search} {t u : Tree} {c nodes : List Node} {le
       + sum_below (length more) (λ j. unproved_child (link_at t.links leaf).kind (numbers_at more j))
   unproved-now = sum-within (unproved u) (unproved t) (λ j. unproved_child (link_at t.links leaf).kind (numbers_at more j))
       (λ i l. unproved-less t u i (old-kind expansion i l)
-      (expanded-proved t h.searching.tree h.root_open leaf h.leaf_is u.links u.numbers more (old-parent expansion) h.in_tree e.others i l))
+      (expanded-proved t h.searching.tree leaf h.in_tree h.alive u.links u.numbers more (old-parent expansion) e.others i l))
       (λ j l.
       let a = ap (λ (kind : Kind). one_where (is_attack kind && not (nat_eq (numbers_at u.numbers (length t.links + j)).proof 0)))
       (new-link-kind j l) in
       let b = ap (λ (n : Numbers). unproved_child (link_at t.links leaf).kind n) (e.children j l) in
       omega (arith, a, b))
 
-  sums-now : (kind : Kind) → 1 < length u.links → leaf_sum kind u.links u.numbers ≤ length u.links
-  sums-now kind many_nodes =
+  -- the number of the leaf before is one more to spare
+  spare-now : (kind : Kind) → leaf_sum kind u.links u.numbers + sought kind (one_more s.spare) ≤ length u.links
+  spare-now kind =
       let bound : leaf_sum kind u.links u.numbers ≤ leaf_sum kind (grown_links t.links leaf (length more)) (t.numbers ++ more) =
       subst (λ (l : List Link). leaf_sum kind u.links u.numbers ≤ leaf_sum kind l (t.numbers ++ more)) e.links (e.leaves kind) in
-      let grown = leaf_sum-grown kind t.links t.numbers more leaf h.searching.tree.numbered.count h.in_tree h.childless some in
-      let less = low kind in
+      let fits = grown-spare h kind more some (low kind) in
       let size = long.sized in
-      by_size (cases_lt 1 (length t.links)) bound grown less size where
-        by_size : (1 < length t.links) ⊎ (length t.links ≤ 1)
-            → leaf_sum kind u.links u.numbers ≤ leaf_sum kind (grown_links t.links leaf (length more)) (t.numbers ++ more)
-            → leaf_sum kind (grown_links t.links leaf (length more)) (t.numbers ++ more) + finite (sought kind (numbers_at t.numbers leaf))
-            ≡ leaf_sum kind t.links t.numbers + finite_sum (map (sought kind) more)
-            → finite_sum (map (sought kind) more) ≤ length more → length u.links ≡ length t.links + length more
-            → leaf_sum kind u.links u.numbers ≤ length u.links
-        by_size (inl several) bound grown less size = let before =
-            h.searching.counted.leaves kind several in omega (arith, bound, grown, less, size, before)
-        by_size (inr one) bound grown less size =
-            let inside = h.in_tree in
-            let single : length t.links ≡ 1 = omega (arith, one, inside) in
-            let root : leaf ≡ 0 = omega (arith, one, inside) in
-            let alone = one-leaf kind t.links t.numbers single (h.searching.tree.numbered.count ∙ single)
-            (ap (λ (m : ℕ). (link_at t.links m).count) (sym root) ∙ h.childless) in
-            let same = ap (λ (m : ℕ). finite (sought kind (numbers_at t.numbers m))) root in
-            omega (arith, bound, grown, less, size, alone, same)
+      omega (arith, bound, fits, size)
+
+  spare-grown : HasSpare u (one_more s.spare)
+  spare-grown = record {
+    fits = λ kind. let fits = spare-now kind in omega (arith, fits);
+    leaves = λ kind many. spare-now kind;
+    lone = λ kind one unsettled. let size = long.sized in let inside = h.in_tree in absurd (omega (arith, one, size, inside, some));
+  }
 
   -- what is counted behind the new children, by their notes and numbers
   children-count : (f : Kind → RuleKind → ℕ → Grid → ℕ)
@@ -513,7 +535,7 @@ module _ {rule : RuleKind} {s v : Search} {t u : Tree} {c nodes : List Node} {le
     defenders = let a = h.searching.counted.defenders in let b = long.sized in omega (arith, a, b, attackers-are, defenders_counted);
     attacked_fits = attacked_fits;
     defended_fits = defended_fits;
-    leaves = sums-now;
+    leaves = λ kind many. let fits = spare-now kind in omega (arith, fits);
   }
 
   searching-now : IsSearching rule
@@ -523,14 +545,15 @@ module _ {rule : RuleKind} {s v : Search} {t u : Tree} {c nodes : List Node} {le
       let to : noted_tree rule s.root u v.notes.items ≡ Now = places u in
       record {
         tree = e.tree;
-        game = rw to (game-grown expansion h.root_open h.leaf_is);
+        game = rw to (game-grown expansion h.root_open h.alive);
         depth = ap (λ (n : Note). n.left) (old-note 0 h.searching.tree.linked.some) ∙ h.searching.depth;
         depth_fits = h.searching.depth_fits;
         budget_fits = h.searching.budget_fits;
         written = rw to written-now;
-        remembered = rw to (memo-kept (game_of rule s t) Now refl (disproved-grown expansion h.root_open h.leaf_is) rule (c ++ nodes)
+        remembered = rw to (memo-kept (game_of rule s t) Now refl (disproved-grown expansion h.alive) rule (c ++ nodes)
             v.settled table);
         counted = rw to counted-now;
+        spare = spare-less u s.spare spare-grown;
         compiled = compiled;
         few = few-now;
         wins = rw to (omega (
@@ -561,6 +584,7 @@ module _ {rule : RuleKind} {s v : Search} {t u : Tree} {c nodes : List Node} {le
         ∙ old-board expansion leaf h.in_tree;
     progress = let a = closed-grown expansion in omega (arith, a);
     longer = let a = long.sized in omega (arith, a);
+    spare = rw rest spare-grown;
   }
 
 -- a sum of nothing
@@ -604,22 +628,7 @@ module _ {rule : RuleKind} {s : Search} {t : Tree} {c : List Node} {leaf : ℕ} 
     -- the sum over all leaves is no more than there are nodes
     grown-sum : (kind : Kind) → finite_sum (map (sought kind) more) ≤ length more
         → leaf_sum kind (grown_links t.links leaf (length more)) (t.numbers ++ more) ≤ length t.links + length more
-    grown-sum kind low =
-        let grown = leaf_sum-grown kind t.links t.numbers more leaf here.searching.tree.numbered.count here.in_tree here.childless some in
-        by_size (cases_lt 1 (length t.links)) grown where
-          by_size : (1 < length t.links) ⊎ (length t.links ≤ 1)
-              → leaf_sum kind (grown_links t.links leaf (length more)) (t.numbers ++ more) + finite
-              (sought kind (numbers_at t.numbers leaf)) ≡ leaf_sum kind t.links t.numbers + finite_sum (map (sought kind) more)
-              → leaf_sum kind (grown_links t.links leaf (length more)) (t.numbers ++ more) ≤ length t.links + length more
-          by_size (inl several) grown = let before = here.searching.counted.leaves kind several in omega (arith, grown, low, before)
-          by_size (inr one) grown =
-              let inside = here.in_tree in
-              let single : length t.links ≡ 1 = omega (arith, one, inside) in
-              let root : leaf ≡ 0 = omega (arith, one, inside) in
-              let alone = one-leaf kind t.links t.numbers single (here.searching.tree.numbered.count ∙ single)
-              (ap (λ (m : ℕ). (link_at t.links m).count) (sym root) ∙ here.childless) in
-              let same = ap (λ (m : ℕ). finite (sought kind (numbers_at t.numbers m))) root in
-              omega (arith, grown, low, alone, same)
+    grown-sum kind low = let fits = grown-spare here kind more some low in omega (arith, fits)
 
     pub sums-there : All IsFresh more → (kind : Kind) → leaf_sum kind (grown_links t.links leaf (length more)) (t.numbers ++ more)
         < INFINITE

@@ -6,7 +6,7 @@ use Rattle.std.proofs.lemmas.Bool.{cases_eq, cases_lt, eq-eqb, ne_eqb}
 use Rattle.std.proofs.lemmas.List.{drop-append-le, get_or-append-add, get_or_append_left, length-append, length-drop, take-append-le}
 use Rattle.std.proofs.Math.Seq.{drop-append_seam, take-length}
 use Rattle.proof_number.proofs.Common.{GoesOn, RuleKind, Point, Grid, outcome, after, Kind, Link, Numbers, is_settled, no_numbers}
-use Rattle.proof_number.proofs.Common.{other_kind, IsTree, OthersStay, Tree, link_at, most_proving, numbers_at, settled_numbers, move_at}
+use Rattle.proof_number.proofs.Common.{other_kind, IsTree, OthersStay, Tree, link_at, IsAlive, numbers_at, settled_numbers, move_at}
 use Rattle.proof_number.proofs.Common.{nowhere, CanGrow, GameTree, HasTried, IsGameTree, TellsTruly, WinsAt, board_at, board_of, left_at}
 use Rattle.proof_number.proofs.Common.{left_before, moves_of, behind_at, behind_leaves, closed_nodes, is_open_leaf, sum_below, IsDisproved}
 use Rattle.proof_number.proofs.Common.{IsLostAt}
@@ -125,22 +125,21 @@ module _ {g : GameTree} {leaf : ℕ} {links : List Link} {numbers more : List Nu
   grown-moves = search (rules, drop-append_seam, take-length)
 
   -- a node that is disproved stays so
-  pub disproved-grown : is_settled (numbers_at g.tree.numbers 0) ≡ false → leaf ≡ most_proving g.tree → (n : ℕ) (b : Grid)
-      → IsDisproved g n b → IsDisproved Grown n b
-  disproved-grown root_open leaf_is n b is =
+  pub disproved-grown : IsAlive g.tree leaf → (n : ℕ) (b : Grid) → IsDisproved g n b → IsDisproved Grown n b
+  disproved-grown alive n b is =
       let low = is.inside in
       record {
         node = is.node;
         inside = (let e = long.sized in omega (arith, e, low));
         attack = old-kind is.node low ∙ is.attack;
-        disproved = expanded-stays g.tree ok root_open leaf leaf_is links numbers more old-parent inside others is.node low is.disproved;
+        disproved = expanded-stays g.tree ok leaf inside alive links numbers more old-parent others is.node low is.disproved;
         several = is.several;
         left_is = old-left is.node low ∙ is.left_is;
         board_is = old-board is.node low ∙ is.board_is;
       }
 
-  pub game-grown : is_settled (numbers_at g.tree.numbers 0) ≡ false → leaf ≡ most_proving g.tree → IsGameTree Grown
-  game-grown root_open leaf_is = record {
+  pub game-grown : is_settled (numbers_at g.tree.numbers 0) ≡ false → IsAlive g.tree leaf → IsGameTree Grown
+  game-grown root_open alive = record {
     moves = length-append g.moves ps ∙ (let a = game.moves in let b = long.sized in omega (arith, a, b, points));
     left = length-append g.left ns ∙ (let a = game.left in let b = long.sized in omega (arith, a, b, lefts));
     lawful = game.lawful;
@@ -239,7 +238,7 @@ module _ {g : GameTree} {leaf : ℕ} {links : List Link} {numbers more : List Nu
             lost-same (link_at links i).kind (link_at g.tree.links i).kind (left_at (g.left ++ ns) i) (left_at g.left i)
             (board_of links (g.moves ++ ps) g.start i) (board_at g i)
             (ap (λ (l : Link). l.kind) same) (old-left i old) (old-board i old)
-            (lost-kept g Grown refl (disproved-grown root_open leaf_is) (link_at g.tree.links i).kind (left_at g.left i) (board_at g i)
+            (lost-kept g Grown refl (disproved-grown alive) (link_at g.tree.links i).kind (left_at g.left i) (board_at g i)
             before)
       ]
       | inr child ↦ absurd ((each child.0 child.1).not_lost

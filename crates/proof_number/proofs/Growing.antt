@@ -1,7 +1,7 @@
 -- A step that settles the leaf: all holds again but on the way up from it.
-use Rattle.std.proofs.Common.{◌≡◌, ◌≢◌, inl, inr, ℕ, ◌+◌, ◌<◌, ◌≤◌, Bool, true, false, refl, sym, ap, rules}
-use Rattle.std.proofs.Common.{◌∙◌, arith, List, [], ◌++◌, length, ◌-◌, ◌*◌}
-use Rattle.std.proofs.lemmas.Bool.{cases_eq}
+use Rattle.std.proofs.Common.{◌≡◌, ◌≢◌, ◌⊎◌, inl, inr, ℕ, ◌+◌, ◌<◌, ◌≤◌, Bool, true, false, refl, sym, ap, rules}
+use Rattle.std.proofs.Common.{◌∙◌, arith, List, [], ◌++◌, length, ◌*◌}
+use Rattle.std.proofs.lemmas.Bool.{cases_eq, cases_lt}
 use Rattle.std.proofs.lemmas.List.{get_or-set_same, append-nil, get_or-set_other, length-append, length-map}
 use Rattle.proof_number.proofs.Common.{Grid, WinsByThreats, RuleKind, Node, WrittenWin, IsCompiled, IsWrittenWin, settled_numbers}
 use Rattle.proof_number.proofs.Common.{IsOnWayUp, Tree, link_at, Kind, Attack, Note, Search, no_note, note_at, win_of, GameTree, TellsTruly}
@@ -11,6 +11,11 @@ use Rattle.proof_number.proofs.Common.{IsBare, threat_wins, wins_behind, won_at}
 use Rattle.strategy_graph.proofs.Filling.{IsTable-lower}
 use Rattle.threat_game.proofs.TreeLaws.{one_where}
 use Rattle.proof_number.proofs.Compiling.{won-places}
+use Rattle.proof_tree.proofs.OpenWays.{alive-open}
+use Rattle.proof_tree.proofs.Settled.{settled-test}
+use Rattle.proof_number.proofs.Common.{HasSpare, is_settled, leaf_sum, numbers_at, one_more}
+use Rattle.proof_tree.proofs.Common.{sought}
+use Rattle.proof_number.proofs.Sparing.{open-counts, sought-more, spare-less}
 use Rattle.proof_number.proofs.Remembering.{memo-kept}
 use Rattle.proof_number.proofs.Settling.{closed-settled, counted-settled, disproved-settled, game-settled, written-grown, written-settled}
 use Rattle.proof_number.proofs.Settling.{behind-settled, unproved-settled, unwritten-less}
@@ -42,6 +47,38 @@ module _ {rule : RuleKind} {s : Search} {t : Tree} {c : List Node} {leaf : ℕ} 
   same-tree : u ≡ record { links = t.links; numbers = u.numbers }
   same-tree = λ i. record { links = st.links i; numbers = u.numbers }
 
+  -- the number of the leaf before is one more to spare
+  spare-grown : HasSpare (record { links = t.links; numbers = u.numbers }) (one_more s.spare)
+  spare-grown = record {
+    fits = λ kind. by_size kind (cases_lt 1 (length t.links));
+    leaves = with_more;
+    lone = λ kind one unsettled.
+        let inside = h.in_tree in
+        let root : leaf ≡ 0 = omega (arith, one, inside) in
+        let bad : true ≡ false = sym (ap is_settled st.settled ∙ settled-test p) ∙ ap (λ (i : ℕ). is_settled (numbers_at u.numbers i)) root
+        ∙ unsettled in cc;
+  } where
+    with_more : (kind : Kind) → 1 < length t.links
+        → leaf_sum kind t.links u.numbers + sought kind (one_more s.spare) ≤ length t.links
+    with_more kind many =
+        let before = h.searching.spare.leaves kind many in
+        let less = rw st.links at (st.leaves kind) in
+        let some = open-counts kind (numbers_at t.numbers leaf) (alive-open t h.searching.tree leaf h.in_tree h.alive leaf (0, refl)) in
+        let more_spare = sought-more kind s.spare in
+        omega (arith, before, less, some, more_spare)
+
+    by_size : (kind : Kind) → (1 < length t.links) ⊎ (length t.links ≤ 1) → sought kind (one_more s.spare) ≤ length t.links
+    by_size kind (inl many) = let fits = with_more kind many in omega (arith, fits)
+    by_size kind (inr few) =
+        let inside = h.in_tree in
+        let single : length t.links ≡ 1 = omega (arith, few, inside) in
+        let none = h.searching.spare.lone kind single h.root_open in
+        let more_spare = sought-more kind s.spare in
+        omega (arith, none, more_spare, single)
+
+  spare-kept : HasSpare (record { links = t.links; numbers = u.numbers }) s.spare
+  spare-kept = spare-less _ s.spare spare-grown
+
   searching-now : IsSearching rule (record s { board = v.board; notes = v.notes; settled = v.settled; attacked = v.attacked })
       (record { links = t.links; numbers = u.numbers }) (c ++ more) (IsOnWayUp t.links leaf)
   searching-now =
@@ -50,7 +87,7 @@ module _ {rule : RuleKind} {s : Search} {t : Tree} {c : List Node} {leaf : ℕ} 
       let to = places (record { links = t.links; numbers = u.numbers }) in
       record {
         tree = rw same-tree at st.tree;
-        game = rw to (game-settled g k.tree u.numbers leaf p h.in_tree h.childless h.leaf_open st.settled st.others h.root_open h.leaf_is
+        game = rw to (game-settled g k.tree u.numbers leaf p h.in_tree h.childless h.leaf_open st.settled st.others h.root_open h.alive
             k.game truth why bare);
         depth = depth ∙ k.depth;
         depth_fits = k.depth_fits;
@@ -59,12 +96,14 @@ module _ {rule : RuleKind} {s : Search} {t : Tree} {c : List Node} {leaf : ℕ} 
             v.notes.items (c ++ more) (written-grown g s.notes.items c more (λ i. ⊥) (IsTable-lower c k.compiled.table) k.written)
             other_notes own has);
         remembered = rw to (memo-kept g (game_of rule s (record { links = t.links; numbers = u.numbers })) refl
-            (disproved-settled g k.tree u.numbers leaf p h.in_tree h.childless h.leaf_open st.settled st.others h.root_open h.leaf_is) rule
+            (disproved-settled g k.tree u.numbers leaf p h.in_tree h.childless h.leaf_open st.settled st.others h.alive) rule
             (c ++ more) v.settled table);
         counted = rw to (counted-settled g k.tree u.numbers leaf p h.in_tree h.childless h.leaf_open st.settled st.others s.budget
             s.attacked s.defended v.attacked k.counted grows fits behind
-            (let less = unproved-settled g k.tree u.numbers leaf p h.in_tree h.childless h.leaf_open st.settled st.others h.root_open
-            h.leaf_is (λ e. (has e).0) in omega (arith, less, two)) (λ kind. rw st.links at (st.leaves kind)));
+            (let less = unproved-settled g k.tree u.numbers leaf p h.in_tree h.childless h.leaf_open st.settled st.others
+            h.alive (λ e. (has e).0) in omega (arith, less, two))
+            (λ kind. let less = rw st.links at (st.leaves kind) in omega (arith, less)));
+        spare = spare-kept;
         compiled = compiled;
         few = few;
         wins = rw to (let less = behind-settled g k.tree u.numbers leaf p h.in_tree h.childless h.leaf_open st.settled st.others
@@ -89,6 +128,7 @@ module _ {rule : RuleKind} {s : Search} {t : Tree} {c : List Node} {leaf : ℕ} 
         (let more_closed = closed-settled (game_of rule s t) h.searching.tree u.numbers leaf p h.in_tree h.childless h.leaf_open st.settled
         st.others in omega (arith, more_closed));
     longer = rw same-tree (omega arith);
+    spare = rw rest (rw same-tree spare-grown);
   }
 
 tells-won : (W : Type 0) → W → TellsTruly (settled_numbers true) W

@@ -16,9 +16,11 @@ mod Compiling
 mod LookLaws
 -- sums over nodes; a leaf is settled, or given children
 mod Sums
+mod Sparing
 mod Staying
 mod Settling
 mod Growing
+mod Following
 mod Expanding
 mod ExpandedCounts
 -- how many positions are won

@@ -1,5 +1,5 @@
 -- What is remembered of looks stays true while lists are added to those that are kept.
-use Rattle.std.proofs.Common.{◌≡◌, ℕ, ◌+◌, ◌≤◌, List, ◌++◌, ◌∙◌, Option, IfSome, rules}
+use Rattle.std.proofs.Common.{◌≡◌, ℕ, List, ◌++◌, Option, IfSome, rules}
 use Rattle.std.proofs.lemmas.List.{drop-append-le, length-append, length-drop, take-append-le}
 use Rattle.proof_number.proofs.Common.{Grid, IsPosition, RuleKind, Point, packed, Remembered, value_under, Child, IsAdded, IsPart}
 use Rattle.proof_number.proofs.Common.{AreChildrenOf, IsTrueLook}

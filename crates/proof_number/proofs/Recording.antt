@@ -1,7 +1,7 @@
 -- What holds of a search on the way back: which proved nodes may lack a win, what is kept, and what is remembered. The win of a proved node
 -- of the attacker, made of those after each reply to a proved move. The way back, in the words of the contracts.
 use Rattle.std.proofs.Common.{◌≡◌, ◌⊎◌, inl, inr, ℕ, zero, suc, ◌<◌, Bool, true, false, cond, refl, sym, ap, subst}
-use Rattle.std.proofs.Common.{◌∙◌, arith, List, Ok, Err, length, Option, Some, None, All, ◌+◌, ◌||◌, [], ◌∷◌, map}
+use Rattle.std.proofs.Common.{◌∙◌, arith, List, Ok, Err, length, Option, Some, None, All, ◌+◌, [], ◌∷◌, map}
 use Rattle.std.proofs.Common.{rules}
 use Rattle.std.specs.List.{find, AllByRecursion}
 use Rattle.std.proofs.lemmas.Bool.{cases_eq, ne_eqb}
@@ -67,6 +67,7 @@ way-changed rule s t c old new change h = record {
   };
   remembered = h.remembered;
   counted = h.counted;
+  spare = h.spare;
   compiled = h.compiled;
   few = h.few;
   wins = h.wins;
@@ -134,6 +135,7 @@ remembered-searching rule s u t c way rest table h =
       written = h.written;
       remembered = table;
       counted = h.counted;
+      spare = h.spare;
       compiled = h.compiled;
       few = h.few;
       wins = h.wins;

@@ -1,6 +1,7 @@
 -- What is remembered of positions stays true while the compiler grows, and where the tree changes and keeps its disproved nodes.
 use Rattle.std.proofs.Common.{◌≡◌, sym, subst, ℕ, List, ◌++◌, rules}
 use Rattle.proof_number.proofs.Common.{Grid, RuleKind, Remembered, Node, NamesLower, Kind, Attack, Defend, Settled, Won, Lost, IsLost}
+use Rattle.proof_number.specs.declared.notes.Settled.TheVariants.{Open}
 use Rattle.proof_number.proofs.Common.{GameTree, IsDisproved, IsLostAt, IsTrueOf, IsTrueMemo, IsRefuted}
 use Rattle.position_table.proofs.Remembering.{true-weaker}
 use Rattle.strategy_compiler.proofs.Growing.{growth_keeps-wins}
@@ -10,6 +11,7 @@ true-of-grown : (rule : RuleKind) (g : GameTree) (c more : List Node) → NamesL
     → IsTrueOf rule c g b n v → IsTrueOf rule (c ++ more) g b n v
 true-of-grown rule g c more lower b n (Won win) h = (growth_keeps-wins rule n b c more win lower h.0, h.1)
 true-of-grown rule g c more lower b n Lost h = h
+true-of-grown rule g c more lower b n (Open node) h = h
 
 pub memo-grown : (rule : RuleKind) (g : GameTree) (c more : List Node) (m : Remembered Settled) → NamesLower c → IsTrueMemo rule c g m
     → IsTrueMemo rule (c ++ more) g m
@@ -27,6 +29,7 @@ module _ (g u : GameTree) (same : u.rule ≡ g.rule) (stay : (n : ℕ) (b : Grid
   true-of-kept : (rule : RuleKind) (c : List Node) (b : Grid) (n : ℕ) (v : Settled) → IsTrueOf rule c g b n v → IsTrueOf rule c u b n v
   true-of-kept rule c b n (Won win) h = h
   true-of-kept rule c b n Lost h = (h.0, lost-kept Attack n b h.1)
+  true-of-kept rule c b n (Open node) h = h
 
   pub memo-kept : (rule : RuleKind) (c : List Node) (m : Remembered Settled) → IsTrueMemo rule c g m → IsTrueMemo rule c u m
   memo-kept rule c m memo = true-weaker rule (IsTrueOf rule c g) (IsTrueOf rule c u) (true-of-kept rule c) m memo

@@ -1,8 +1,8 @@
 -- How far a search has come: its tree, and where it runs out.
-use Rattle.std.proofs.Common.{◌≡◌, ℕ, ◌<◌, arith, List, map, rules}
+use Rattle.std.proofs.Common.{◌≡◌, ℕ, arith, List, map, rules}
 use Rattle.std.proofs.lemmas.List.{get_or-map, length-map}
 use Rattle.proof_number.proofs.Common.{Grid, RuleKind, Node, Tree, link_at, Kind, Note, Search, AtMostProving, HasRunOut, IsAtLeaf}
-use Rattle.proof_number.proofs.Common.{IsSameAim, IsSearching, IsSearchTree, StandsAt, note_at, PassesBudget}
+use Rattle.proof_number.proofs.Common.{IsSameAim, IsSearching, IsSearchTree, StandsAt, most_proving, note_at, PassesBudget}
 use Rattle.proof_number.proofs.GameTruths.{left-root}
 use Rattle.proof_number.proofs.Opening.{leaf-facts}
 
@@ -34,18 +34,19 @@ module _ {rule : RuleKind} {s : Search} {t : Tree} {c : List Node} {leaf : ℕ} 
   so-far = so-far-tree here.searching
 
   -- what holds of the leaf holds there
-  at-leaf : (k : Kind) → (link_at t.links leaf).kind ≡ k → (P : Kind → ℕ → Grid → Type 0) → P k (note_at s.notes.items leaf).left view
+  at-leaf : leaf ≡ most_proving t → (k : Kind) → (link_at t.links leaf).kind ≡ k → (P : Kind → ℕ → Grid → Type 0)
+      → P k (note_at s.notes.items leaf).left view
       → AtMostProving rule s.root t (map (λ n. n.at) s.notes.items) (map (λ n. n.left) s.notes.items) P
-  at-leaf k kind P h = search (rules, length-map, get_or-map)
+  at-leaf is k kind P h = search (rules, length-map, get_or-map)
 
   -- where to go on there passes the budget the search has run out
   pub runs-out : (k : Kind) → (link_at t.links leaf).kind ≡ k
       → PassesBudget rule s.budget s.attacked s.defended k (note_at s.notes.items leaf).left view
-      → HasRunOut rule s.depth s.budget s.root t
-  runs-out k kind over = record {
+      → leaf ≡ most_proving t → HasRunOut rule s.depth s.budget s.root t
+  runs-out k kind over is = record {
     so_far = so-far;
     undecided = here.root_open;
-    over = at-leaf k kind (PassesBudget rule s.budget s.attacked s.defended) over;
+    over = at-leaf is k kind (PassesBudget rule s.budget s.attacked s.defended) over;
   }
 
 -- ---- for the same aim

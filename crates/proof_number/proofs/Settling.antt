@@ -3,7 +3,7 @@ use Rattle.std.proofs.Common.{◌≡◌, ◌≢◌, ◌⊎◌, inl, inr, ℕ, �
 use Rattle.std.proofs.Common.{◌&&◌, refl, sym, ap, subst, ◌∙◌, arith, List, ◌++◌, length, nat_eq, ◌*◌, rules}
 use Rattle.std.proofs.lemmas.Bool.{cases_eq, eq-eqb, ne_eqb}
 use Rattle.proof_number.proofs.Common.{RuleKind, Node, is_settled, settled_numbers, IsOnWayUp, IsTree, OthersStay, leaf_sum, link_at}
-use Rattle.proof_number.proofs.Common.{most_proving, numbers_at, Tree, Kind, Attack, Defend, Numbers, Note, note_at, win_of, GameTree}
+use Rattle.proof_number.proofs.Common.{IsAlive, numbers_at, Tree, Kind, Attack, Defend, Numbers, Note, note_at, win_of, GameTree}
 use Rattle.proof_number.proofs.Common.{IsGameTree, TellsTruly, WinsAt, board_at, left_at, AreWritten, IsNotedWin, IsDisproved, IsLostAt}
 use Rattle.proof_number.proofs.Common.{IsCounted, attacks_behind, behind_at, behind_leaves, closed_nodes, is_open_leaf, is_attack}
 use Rattle.proof_number.proofs.Common.{sum_below, unproved, unwritten, IsBare, Grid, after, NamesLower}
@@ -62,19 +62,18 @@ module _ (g : GameTree) (ok : IsTree g.tree) (numbers : List Numbers) (leaf : �
   is-settled = ap is_settled here ∙ settled-test p
 
   -- a node that is disproved stays so
-  pub disproved-settled : is_settled (numbers_at g.tree.numbers 0) ≡ false → leaf ≡ most_proving g.tree → (n : ℕ) (b : Grid)
-      → IsDisproved g n b → IsDisproved After n b
-  disproved-settled root_open leaf_is n b is = search (rules, settled-stays)
+  pub disproved-settled : IsAlive g.tree leaf → (n : ℕ) (b : Grid) → IsDisproved g n b → IsDisproved After n b
+  disproved-settled alive n b is = search (rules, settled-stays)
 
   lost-test : (r : Bool) → settled_numbers r ≡ settled_numbers false → r ≡ false
   lost-test false e = refl
   lost-test true e = let bad : 0 ≡ 4294967295 = ap (λ (n : Numbers). n.proof) e in absurd (omega (arith, bad))
 
-  pub game-settled : is_settled (numbers_at g.tree.numbers 0) ≡ false → leaf ≡ most_proving g.tree → IsGameTree g
+  pub game-settled : is_settled (numbers_at g.tree.numbers 0) ≡ false → IsAlive g.tree leaf → IsGameTree g
       → TellsTruly (settled_numbers p) (WinsAt (link_at g.tree.links leaf).kind g.rule (left_at g.left leaf) (board_at g leaf))
       → (p ≡ false → IsLostAt (link_at g.tree.links leaf).kind g (left_at g.left leaf) (board_at g leaf))
       → (p ≡ false → leaf ≡ 0 → IsBare g.rule (left_at g.left 0) g.start) → IsGameTree After
-  game-settled root_open leaf_is game truth why bare = record {
+  game-settled root_open alive game truth why bare = record {
     moves = game.moves;
     left = game.left;
     lawful = game.lawful;
@@ -98,10 +97,10 @@ module _ (g : GameTree) (ok : IsTree g.tree) (numbers : List Numbers) (leaf : �
     lost = λ i low none gone. elim (cases_eq i leaf) [
       | inl same ↦
           subst (λ (k : ℕ). IsLostAt (link_at g.tree.links k).kind After (left_at g.left k) (board_at g k)) (sym same)
-          (lost-kept g After refl (disproved-settled root_open leaf_is) (link_at g.tree.links leaf).kind (left_at g.left leaf)
+          (lost-kept g After refl (disproved-settled alive) (link_at g.tree.links leaf).kind (left_at g.left leaf)
           (board_at g leaf) (why (lost-test p (sym here ∙ ap (numbers_at numbers) (sym same) ∙ gone))))
       | inr other ↦
-          lost-kept g After refl (disproved-settled root_open leaf_is) (link_at g.tree.links i).kind (left_at g.left i) (board_at g i)
+          lost-kept g After refl (disproved-settled alive) (link_at g.tree.links i).kind (left_at g.left i) (board_at g i)
           (game.lost i low none (sym (other-leaf i none other) ∙ gone))
     ];
     root = λ none gone. elim (cases_eq 0 leaf) [
@@ -111,15 +110,14 @@ module _ (g : GameTree) (ok : IsTree g.tree) (numbers : List Numbers) (leaf : �
   }
 
   -- where the leaf is proved one node fewer is unproved
-  pub unproved-settled : is_settled (numbers_at g.tree.numbers 0) ≡ false → leaf ≡ most_proving g.tree
-      → (p ≡ true → (link_at g.tree.links leaf).kind ≡ Attack)
+  pub unproved-settled : IsAlive g.tree leaf → (p ≡ true → (link_at g.tree.links leaf).kind ≡ Attack)
       → sum_below (length g.tree.links) (unproved After.tree) + one_where p ≤ sum_below (length g.tree.links) (unproved g.tree)
-  unproved-settled root_open leaf_is attack =
+  unproved-settled alive attack =
       sum-less (length g.tree.links) (unproved After.tree) (unproved g.tree) leaf (one_where p) inside (λ j low other. stays j)
       (at-leaf p refl)
     where
       stays : (j : ℕ) → unproved After.tree j ≤ unproved g.tree j
-      stays j = unproved-less g.tree After.tree j refl (λ none. others j (beside-proved g.tree ok root_open leaf leaf_is j none))
+      stays j = unproved-less g.tree After.tree j refl (λ none. others j (beside-proved g.tree ok leaf inside alive j none))
 
       at-leaf : (r : Bool) → p ≡ r → unproved After.tree leaf + one_where p ≤ unproved g.tree leaf
       at-leaf false e = let less = stays leaf in let zero_more = ap one_where e in omega (arith, less, zero_more)
@@ -130,7 +128,7 @@ module _ (g : GameTree) (ok : IsTree g.tree) (numbers : List Numbers) (leaf : �
           let was : unproved g.tree leaf ≡ 1 =
           ap (λ (k : Kind). one_where (is_attack k && not (nat_eq (numbers_at g.tree.numbers leaf).proof 0))) (attack e)
           ∙ ap (λ r. one_where (not r)) (ne_eqb (numbers_at g.tree.numbers leaf).proof 0
-          (λ none. beside-proved g.tree ok root_open leaf leaf_is leaf none (0, refl))) in
+          (λ none. beside-proved g.tree ok leaf inside alive leaf none (0, refl))) in
           omega (arith, one, now, was)
 
   pub written-settled : (notes more : List Note) (c : List Node) → AreWritten g notes c (λ i. ⊥)

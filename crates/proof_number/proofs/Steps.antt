@@ -1,14 +1,15 @@
 -- The steps of a search, in the words of its contracts. Steps at a leaf of the attacker whose win is compiled at once: what is counted
 -- fits, and so do the nodes.
-use Rattle.std.proofs.Common.{◌≡◌, ℕ, ◌+◌, ◌<◌, ◌≤◌, Bool, true, false, inl, sym, ap, subst, ◌∙◌, arith, List}
+use Rattle.std.proofs.Common.{◌≡◌, ℕ, ◌+◌, ◌<◌, ◌≤◌, true, false, inl, sym, ap, subst, ◌∙◌, arith, List}
 use Rattle.std.proofs.Common.{[], ◌++◌, append-nil, get_or, length, Some, Result, Ok, Err, refl, cond, ◌&&◌, not, rules}
 use Rattle.std.proofs.lemmas.List.{get_or-map, get_or_default, length-map}
 use Rattle.std.proofs.lemmas.Bool.{eq-eqb}
 use Rattle.proof_number.proofs.Common.{RuleKind, Grid, IsPosition, mover, WinsByThreats, has_five, Kind, Attack, is_settled, WinsAt}
-use Rattle.proof_number.proofs.Common.{settled_numbers, IsTree, OthersStay, Tree, leaf_sum, link_at, most_proving, numbers_at, packed}
+use Rattle.proof_number.proofs.Common.{IsTree, Tree, link_at, numbers_at, packed}
 use Rattle.proof_number.proofs.Common.{value_under, looked_up, Node, SearchError, WrittenWin, IsCompiled, GrowsBy, Writes, DoublePoint}
 use Rattle.proof_number.proofs.Common.{threat_tree, IsThreatWin, IsDoubleWin, answer_nodes, is_last_move, Step, Done, known_grown}
-use Rattle.proof_number.proofs.Common.{IsSameAim, IsTried, most_nodes, room_in, no_note, note_at, CanGrow, board_at, left_at}
+use Rattle.proof_number.proofs.Common.{IsGameTree, IsOpenLeaf, Searches, known_searching, IsSameAim, IsTried, most_nodes, room_in, no_note}
+use Rattle.proof_number.proofs.Common.{note_at, CanGrow, board_at, left_at}
 use Rattle.proof_number.proofs.Common.{IsTrueOf, IsTrueMemo, Grows, HasGrown, HasSpent, HasStayed, KeepsTree, OnStep, IsAtLeaf, IsNotedWin}
 use Rattle.proof_number.proofs.Common.{IsSettledAt, StandsAt, game_of, noted_won, GameTree, attacks_behind, behind_at, unwritten, IsLostAt}
 use Rattle.proof_number.proofs.Common.{IsBare, threat_wins, wins_behind, won_at, Note, Settled, Lost, Search, Point}
@@ -35,11 +36,31 @@ module _ {rule : RuleKind} {s : Search} {t : Tree} {c : List Node} {leaf : ℕ} 
   pub leaf-inside : leaf < length t.links
   leaf-inside = at-leaf.in_tree
 
-  pub root-open : is_settled (numbers_at t.numbers 0) ≡ false
-  root-open = at-leaf.root_open
+  pub leaf-childless : (link_at t.links leaf).count ≡ 0
+  leaf-childless = at-leaf.childless
 
-  pub leaf-is : leaf ≡ most_proving t
-  leaf-is = at-leaf.leaf_is
+  pub leaf-tree : IsTree t
+  leaf-tree = at-leaf.searching.tree
+
+  pub leaf-game : IsGameTree (game_of rule s t)
+  leaf-game = at-leaf.searching.game
+
+  -- the board of the search and that of the view are that of the leaf
+  pub leaf-view : view ≡ board_at (game_of rule s t) leaf
+  leaf-view = at-leaf.view_is
+
+  pub leaf-place : s.board ≡ board_at (game_of rule s t) leaf
+  leaf-place = at-leaf.board_is
+
+  -- it may be gone to
+  pub leaf-open : IsOpenLeaf t leaf
+  leaf-open = record { alive = at-leaf.alive; in_tree = at-leaf.in_tree; childless = at-leaf.childless }
+
+  pub leaf-root : is_settled (numbers_at t.numbers 0) ≡ false
+  leaf-root = at-leaf.root_open
+
+  pub leaf-searches : Searches rule s t c (λ i. ⊥)
+  leaf-searches = known_searching at-leaf.searching
 
   pub leaf-noted : leaf < length s.notes.items
   leaf-noted = let same = at-leaf.searching.game.moves in let long = length-map s.notes.items (λ (n : Note). n.at) in let low =
@@ -166,52 +187,40 @@ pub rest-of : (s mid v : Search) → mid ≡ record s { settled = mid.settled } 
     → v ≡ record s { board = v.board; notes = v.notes; settled = v.settled; attacked = v.attacked }
 rest-of s mid v first second = search rules
 
--- a leaf that is settled by the tree, as the leaf of a search
-pub settled-at : (t u : Tree) (leaf : ℕ) (p : Bool) → leaf ≡ most_proving t → u.links ≡ t.links
-    → numbers_at u.numbers (most_proving t) ≡ settled_numbers p → OthersStay t.links (most_proving t) t.numbers u.numbers
-    → ((kind : Kind) → leaf_sum kind u.links u.numbers ≤ leaf_sum kind t.links t.numbers) → IsTree u → IsSettledAt t u leaf p
-settled-at t u leaf p is links settled others leaves tree = record {
-  links = links;
-  settled = ap (numbers_at u.numbers) is ∙ settled;
-  others = rw is others;
-  leaves = leaves;
-  tree = tree;
-}
-
 module _ {rule : RuleKind} {s : Search} {t : Tree} {c : List Node} {leaf : ℕ} {view : Grid} (stands : StandsAt rule s t c leaf view)
-    (attack : (link_at t.links leaf).kind ≡ Attack)
     (mid : Search) (first : mid ≡ record s { settled = mid.settled }) (key : Packed × ℕ)
     (looked : mid.settled ≡ looked_up key s.settled) where
   table-now : IsTrueMemo rule c (game_of rule s t) mid.settled
   table-now = true-looked rule (IsTrueOf rule c (game_of rule s t)) s.settled mid.settled key (inl looked)
       (leaf-table stands)
 
-  -- what is remembered as won is settled so
-  pub recalled-won : (u : Tree) → IsSettledAt t u leaf true → (v : Search) → v ≡ record mid { notes = v.notes } → (win : WrittenWin)
-      → v.notes.items ≡ noted_won mid.notes.items leaf win
-      → IsNotedWin rule (note_at s.notes.items leaf).left view c win → Grows rule s v t u c leaf
-  recalled-won u st v second win items noted =
-      let count : v.attacked ≡ s.attacked = ap (λ (w : Search). w.attacked) second ∙ ap (λ (w : Search). w.attacked) first in
-      let board : v.board ≡ s.board = ap (λ (w : Search). w.board) second ∙ ap (λ (w : Search). w.board) first in
-      let fits = leaf-budget stands in
-      let positive = tree-positive rule (note_at s.notes.items leaf).left view in
-      won-step stands attack u st v [] (rest-of s mid v first second) board c (sym (append-nil c))
-      (leaf-compiled stands) win
-      (items ∙ ap (λ (w : Search). noted_won w.notes.items leaf win) first) noted (omega (arith, count)) (omega (arith, count, fits))
-      (omega (arith, count)) (omega (arith, count, positive)) (omega (arith, count)) (omega arith)
-      (rw (ap (λ (w : Search). w.settled) second) table-now)
-
-  -- and what is remembered as lost
-  pub recalled-lost : (u : Tree) → IsSettledAt t u leaf false
-      → IsTrueOf rule c (game_of rule s t) view (note_at s.notes.items leaf).left Lost → (leaf ≡ 0 → ⊥) → Grows rule s mid t u c leaf
-  recalled-lost u st none other =
-      lost-step stands attack u st mid
-      (first ∙ ap (λ (w : Search). record s { board = w.board; settled = mid.settled }) (sym first))
-      (ap (λ (w : Search). w.board) first) table-now none.0 none.1 (λ root. absurd (other root))
-
   -- the search stands at the leaf as before
   pub recalled-stands : StandsAt rule mid t c leaf view
   recalled-stands = search (rules, at-leaf, table-now)
+
+  module _ (attack : (link_at t.links leaf).kind ≡ Attack) where
+    -- what is remembered as won is settled so
+    pub recalled-won : (u : Tree) → IsSettledAt t u leaf true → (v : Search) → v ≡ record mid { notes = v.notes } → (win : WrittenWin)
+        → v.notes.items ≡ noted_won mid.notes.items leaf win
+        → IsNotedWin rule (note_at s.notes.items leaf).left view c win → Grows rule s v t u c leaf
+    recalled-won u st v second win items noted =
+        let count : v.attacked ≡ s.attacked = ap (λ (w : Search). w.attacked) second ∙ ap (λ (w : Search). w.attacked) first in
+        let board : v.board ≡ s.board = ap (λ (w : Search). w.board) second ∙ ap (λ (w : Search). w.board) first in
+        let fits = leaf-budget stands in
+        let positive = tree-positive rule (note_at s.notes.items leaf).left view in
+        won-step stands attack u st v [] (rest-of s mid v first second) board c (sym (append-nil c))
+        (leaf-compiled stands) win
+        (items ∙ ap (λ (w : Search). noted_won w.notes.items leaf win) first) noted (omega (arith, count)) (omega (arith, count, fits))
+        (omega (arith, count)) (omega (arith, count, positive)) (omega (arith, count)) (omega arith)
+        (rw (ap (λ (w : Search). w.settled) second) table-now)
+
+    -- and what is remembered as lost
+    pub recalled-lost : (u : Tree) → IsSettledAt t u leaf false
+        → IsTrueOf rule c (game_of rule s t) view (note_at s.notes.items leaf).left Lost → (leaf ≡ 0 → ⊥) → Grows rule s mid t u c leaf
+    recalled-lost u st none other =
+        lost-step stands attack u st mid
+        (first ∙ ap (λ (w : Search). record s { board = w.board; settled = mid.settled }) (sym first))
+        (ap (λ (w : Search). w.board) first) table-now none.0 none.1 (λ root. absurd (other root))
 
 -- ---- a step after a look at the table is one from before it
 
@@ -223,12 +232,12 @@ module _ (rule : RuleKind) (s mid v : Search) (t u : Tree) (d : List Node) (leaf
   keeps-from : KeepsTree (record s { settled = mid.settled }) v → KeepsTree s v
   keeps-from h = record { rest = h.rest; places = h.places }
 
-  step-from : (r : Result Step SearchError) → OnStep r (Grows rule mid v t u d leaf) (HasSpent rule mid v t u) (HasStayed mid v t u)
-      → OnStep r (Grows rule s v t u d leaf) (HasSpent rule s v t u) (HasStayed s v t u)
+  step-from : (r : Result Step SearchError) → OnStep r (Grows rule mid v t u d leaf) (HasSpent rule mid v t u d leaf) (HasStayed mid v t u)
+      → OnStep r (Grows rule s v t u d leaf) (HasSpent rule s v t u d leaf) (HasStayed s v t u)
   step-from (Ok Done) h = known_grown (grown-from (rw first at (grown-facts h)))
   step-from (Ok Spent) h =
       let k = rw first at h in
-      record { spent = k.spent; ran_out = k.ran_out; same = k.same; keeps = keeps-from k.keeps }
+      record { searching = k.searching; spent = k.spent; ran_out = k.ran_out; same = k.same; keeps = keeps-from k.keeps }
   step-from (Err e) h =
       let k = rw first at h in
       record { same = k.same; keeps = keeps-from k.keeps }
@@ -306,8 +315,10 @@ module _ {rule : RuleKind} {s : Search} {t : Tree} {c : List Node} {leaf : ℕ} 
     double-fits d wins = search (rules, counted-within, leaf-lawful, attack-no_five, attack-moves)
 
     -- where the budget does not reach, the game has more positions
-    pub spent-there : (d : DoublePoint) → IsDoubleWin rule view d → s.budget < s.attacked + answer_nodes rule view d → HasSpent rule s s t t
+    pub spent-there : (d : DoublePoint) → IsDoubleWin rule view d → s.budget < s.attacked + answer_nodes rule view d
+        → HasSpent rule s s t t c leaf
     spent-there d wins over = record {
+      searching = here.searching;
       spent = (let a = behind-fits in let few = double-fits d wins in omega (arith, a, over, few));
       ran_out = runs-out stands Attack attack (inl (d, wins, over));
       same = refl;

@@ -1,6 +1,6 @@
 -- How many positions of the game of threats are won: at a position, behind its moves, and behind the replies.
-use Rattle.std.proofs.Common.{◌≡◌, ℕ, zero, suc, ◌+◌, ◌≤◌, Bool, true, false, cond, ◌&&◌, ◌||◌, not, refl, ap}
-use Rattle.std.proofs.Common.{◌∙◌, arith, List, [], ◌∷◌, map, filter, sum_by, All, rules}
+use Rattle.std.proofs.Common.{◌≡◌, ℕ, zero, suc, ◌+◌, ◌≤◌, Bool, true, false, cond, ◌&&◌, not, refl, ap}
+use Rattle.std.proofs.Common.{arith, List, [], ◌∷◌, map, filter, sum_by, All, rules}
 use Rattle.std.specs.List.{list_any}
 use Rattle.std.proofs.lemmas.List.Sums.{sum_by-cons, sum_by-le-sum_by}
 use Rattle.proof_number.proofs.Common.{RuleKind, Outcome, GoesOn, Point, Grid, points_of, is_same_point, IsPosition, outcome, mover, after}

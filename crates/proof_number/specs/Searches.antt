@@ -12,8 +12,8 @@ use Rattle.strategy_graph.specs.declared.Node.{Node}
 use Rattle.strategy_compiler.specs.Nodes.{IsCompiled}
 use Rattle.strategy_compiler.specs.Wins.{IsWrittenWin}
 use Rattle.strategy_compiler.specs.Growth.{Writes}
-use Rattle.proof_tree.specs.Combining.{is_settled, settled_numbers}
-use Rattle.proof_tree.specs.Trees.{IsOnWayUp, IsTree, OthersStay, Tree, grown_links, leaf_sum, link_at, most_proving, numbers_at}
+use Rattle.proof_tree.specs.Combining.{finite, is_settled, no_numbers, settled_numbers, sought}
+use Rattle.proof_tree.specs.Trees.{IsAlive, IsOnWayUp, IsTree, OthersStay, Tree, grown_links, leaf_sum, link_at, most_proving, numbers_at}
 use Rattle.proof_tree.specs.declared.Link.{Link}
 use Rattle.proof_tree.specs.declared.Numbers.{Numbers}
 use Rattle.proof_tree.specs.declared.Kind.{Kind}
@@ -83,6 +83,17 @@ unwritten f t notes i = if is_attack (link_at t.links i).kind && nat_eq (note_at
 abbrev pub won_at : GameTree → ℕ → ℕ
 won_at g i = one_if (wins_by_threats g.rule (left_at g.left i) (board_at g i))
 
+-- Once the root has children the numbers of all leaves and these to spare add up to no more than there are nodes; a lone root has no
+-- more to spare than one, and none while it is open.
+pub record HasSpare (t : Tree) (spare : Numbers) : Type 0 where
+  pub fits : (kind : Kind) → sought kind spare ≤ length t.links
+  pub leaves : (kind : Kind) → 1 < length t.links → leaf_sum kind t.links t.numbers + sought kind spare ≤ length t.links
+  pub lone : (kind : Kind) → length t.links ≡ 1 → is_settled (numbers_at t.numbers 0) ≡ false → sought kind spare ≡ 0
+
+-- one more of each number
+abbrev pub one_more : Numbers → Numbers
+one_more n = record { proof = n.proof + 1; disproof = n.disproof + 1 }
+
 -- What holds of a search, its tree and the nodes of its compiler between steps, and on the way back from a leaf, where the nodes
 -- for which way holds may be proved and have no win yet. No more nodes were added to the compiler than positions are counted,
 -- beside one for each node of the attacker without a win; nor than positions of the game of threats are won, beside those that are not
@@ -96,6 +107,7 @@ pub record IsSearching (rule : RuleKind) (s : Search) (t : Tree) (c : List Node)
   pub written : AreWritten (game_of rule s t) s.notes.items c way
   pub remembered : IsTrueMemo rule c (game_of rule s t) s.settled
   pub counted : IsCounted (game_of rule s t) s.budget s.attacked s.defended
+  pub spare : HasSpare t s.spare
   pub compiled : IsCompiled c
   pub few : length c + sum_below (length t.links) (unwritten (λ i. 1) t s.notes.items) ≤ s.before + s.attacked
   pub wins : length c + sum_below (length t.links) (unwritten (won_at (game_of rule s t)) t s.notes.items)
@@ -114,11 +126,11 @@ pub record KeepsTree (old new : Search) : Type 0 where
 abbrev pub IsAbove : List Link → ℕ → ℕ → Type 0
 IsAbove links i j = IsOnWayUp links i j × (¬ (j ≡ i))
 
--- The search is at the most-proving leaf of its tree, which is open: the view and the board are that of the leaf.
+-- The search is at a leaf of its tree, and neither the leaf nor a node above it is settled: the view and the board are that of the leaf.
 pub record IsAtLeaf (rule : RuleKind) (s : Search) (t : Tree) (c : List Node) (leaf : ℕ) (view : Grid) : Type 0 where
   pub searching : IsSearching rule s t c (λ i. ⊥)
   pub root_open : is_settled (numbers_at t.numbers 0) ≡ false
-  pub leaf_is : leaf ≡ most_proving t
+  pub alive : IsAlive t leaf
   pub in_tree : leaf < length t.links
   pub childless : (link_at t.links leaf).count ≡ 0
   pub leaf_open : is_settled (numbers_at t.numbers leaf) ≡ false
@@ -129,8 +141,8 @@ pub record IsAtLeaf (rule : RuleKind) (s : Search) (t : Tree) (c : List Node) (l
 pub data StandsAt (rule : RuleKind) (s : Search) (t : Tree) (c : List Node) (leaf : ℕ) (view : Grid) : Type 0 where
   known_at_leaf : IsAtLeaf rule s t c leaf view → StandsAt rule s t c leaf view
 
--- The leaf is settled or has children: all holds again but that proved nodes from the leaf up to the root may have no win, and one
--- open leaf fewer is left to be closed.
+-- The leaf is settled or has children: all holds again but that proved nodes from the leaf up to the root may have no win, one
+-- open leaf fewer is left to be closed, and there is one more of each number to spare.
 pub record HasGrown (rule : RuleKind) (old new : Search) (t u : Tree) (d : List Node) (leaf : ℕ) : Type 0 where
   pub searching : IsSearching rule new u d (IsOnWayUp u.links leaf)
   pub in_tree : leaf < length u.links
@@ -139,15 +151,18 @@ pub record HasGrown (rule : RuleKind) (old new : Search) (t u : Tree) (d : List 
   pub place : board_at (game_of rule new u) leaf ≡ board_at (game_of rule old t) leaf
   pub progress : closed_nodes t < closed_nodes u
   pub longer : length t.links ≤ length u.links
+  pub spare : HasSpare u (one_more new.spare)
 
 -- the same as one word
 pub data Grows (rule : RuleKind) (old new : Search) (t u : Tree) (d : List Node) (leaf : ℕ) : Type 0 where
   known_grown : HasGrown rule old new t u d leaf → Grows rule old new t u d leaf
 
--- the budget is less than the game of threats has positions, the search has run out, and the tree is as it was
-pub record HasSpent (rule : RuleKind) (old new : Search) (t u : Tree) : Type 0 where
+-- the budget is less than the game of threats has positions, the search has run out if the leaf is the most-proving one, and it may go on
+-- with the tree as it was
+pub record HasSpent (rule : RuleKind) (old new : Search) (t u : Tree) (d : List Node) (leaf : ℕ) : Type 0 where
+  pub searching : IsSearching rule new u d (λ i. ⊥)
   pub spent : old.budget < threat_tree rule old.depth old.root
-  pub ran_out : HasRunOut rule old.depth old.budget old.root t
+  pub ran_out : leaf ≡ most_proving t → HasRunOut rule old.depth old.budget old.root t
   pub same : u ≡ t
   pub keeps : KeepsTree old new
 
@@ -177,7 +192,7 @@ nodes_so_far rule s = s.before + min s.attacked (threat_wins rule s.depth s.root
 -- what comes of a leaf that is to be settled or to get children, and what is written for it
 pub record IsTried (rule : RuleKind) (old new : Search) (t u : Tree) (c d : List Node) (leaf : ℕ) (result : Result Step SearchError) :
     Type 0 where
-  pub step : OnStep result (Grows rule old new t u d leaf) (HasSpent rule old new t u) (HasStayed old new t u)
+  pub step : OnStep result (Grows rule old new t u d leaf) (HasSpent rule old new t u d leaf) (HasStayed old new t u)
   pub writes : Writes c d (room_in (most_nodes rule old) c) result
 
 -- a step was done: all holds again, and one open leaf fewer is left to be closed
@@ -185,20 +200,56 @@ pub record HasStepped (rule : RuleKind) (new : Search) (t u : Tree) (d : List No
   pub searching : Searches rule new u d (λ i. ⊥)
   pub progress : closed_nodes t < closed_nodes u
 
--- the budget is spent, the search has run out, and the tree is as it was
-pub record IsOverBudget (rule : RuleKind) (s : Search) (t u : Tree) : Type 0 where
+-- the budget is spent at the leaf: the search has run out if it is the most-proving one, and may go on with the tree as it was
+pub record IsOverBudget (rule : RuleKind) (old new : Search) (t u : Tree) (d : List Node) (leaf : ℕ) : Type 0 where
+  pub searching : Searches rule new u d (λ i. ⊥)
   pub same : u ≡ t
-  pub spent : s.budget < threat_tree rule s.depth s.root
-  pub ran_out : HasRunOut rule s.depth s.budget s.root t
+  pub spent : old.budget < threat_tree rule old.depth old.root
+  pub ran_out : leaf ≡ most_proving t → HasRunOut rule old.depth old.budget old.root t
 
--- what a step from the root to a leaf and back comes to, and what it leaves
-pub record IsStep (rule : RuleKind) (old new : Search) (t u : Tree) (c d : List Node) (result : Result Step SearchError) : Type 0 where
-  pub came : OnStep result (HasStepped rule new t u d) (IsOverBudget rule old t u) (Unit {0})
+-- the budget is spent, and the search has run out
+pub record HasEnded (rule : RuleKind) (old new : Search) (u : Tree) (d : List Node) : Type 0 where
+  pub searching : Searches rule new u d (λ i. ⊥)
+  pub spent : old.budget < threat_tree rule old.depth old.root
+  pub ran_out : HasRunOut rule old.depth old.budget old.root u
+
+-- what a step from the root to a leaf and back comes to, where this holds if the budget is spent, and what it leaves
+pub record IsStep (rule : RuleKind) (old new : Search) (t u : Tree) (c d : List Node) (over : Type 0) (result : Result Step SearchError) :
+    Type 0 where
+  pub came : OnStep result (HasStepped rule new t u d) over (Unit {0})
   pub aim : IsSameAim old new
   pub board : new.board ≡ old.root
   pub tree : IsTree u
   pub longer : length t.links ≤ length u.links
   pub writes : Writes c d (room_in (most_nodes rule old) c) result
+
+-- Some leaves were given other numbers, and the search is at one of them, as after the moves to it: the tree has the same links, and as
+-- many open leaves.
+pub record IsThere (rule : RuleKind) (old new : Search) (t u : Tree) (c : List Node) (leaf : ℕ) (view : Grid) : Type 0 where
+  pub stands : StandsAt rule new u c leaf view
+  pub aim : IsSameAim old new
+  pub links : u.links ≡ t.links
+  pub closed : closed_nodes u ≡ closed_nodes t
+
+-- the leaf is one that the search may go to
+pub record IsOpenLeaf (t : Tree) (leaf : ℕ) : Type 0 where
+  pub alive : IsAlive t leaf
+  pub in_tree : leaf < length t.links
+  pub childless : (link_at t.links leaf).count ≡ 0
+
+-- a leaf that isn't the root may take the numbers of this node: neither the node nor one above it is settled
+pub record IsOther (t : Tree) (leaf node : ℕ) : Type 0 where
+  pub below_root : 0 < leaf
+  pub in_tree : node < length t.links
+  pub alive : IsAlive t node
+
+-- a leaf has other numbers, and the nodes above it follow: all holds as before
+pub record HasFollowed (rule : RuleKind) (old new : Search) (t u : Tree) (c : List Node) : Type 0 where
+  pub searching : Searches rule new u c (λ i. ⊥)
+  pub rest : new ≡ record old { spare = new.spare }
+  pub links : u.links ≡ t.links
+  pub closed : closed_nodes u ≡ closed_nodes t
+  pub alive : (i : ℕ) → i < length t.links → IsAlive t i → IsAlive u i
 
 -- A node is passed on the way back from a leaf: it has its win, if it is a proved node of the attacker. No more nodes are written than
 -- positions are counted, nor than are won.
@@ -220,7 +271,8 @@ pub record IsSettledAt (t u : Tree) (leaf : ℕ) (proved : Bool) : Type 0 where
   pub links : u.links ≡ t.links
   pub settled : numbers_at u.numbers leaf ≡ settled_numbers proved
   pub others : OthersStay t.links leaf t.numbers u.numbers
-  pub leaves : (kind : Kind) → leaf_sum kind u.links u.numbers ≤ leaf_sum kind t.links t.numbers
+  pub leaves : (kind : Kind) → leaf_sum kind u.links u.numbers + finite (sought kind (numbers_at t.numbers leaf))
+      ≤ leaf_sum kind t.links t.numbers
   pub tree : IsTree u
 
 -- the leaf of the tree is given children with these numbers, and only the numbers above it changed
@@ -246,6 +298,7 @@ pub record IsNew (depth budget before : ℕ) (b : Grid) (s : Search) : Type 0 wh
   pub left : (note_at s.notes.items 0).left ≡ depth
   pub unwon : (note_at s.notes.items 0).moves ≡ 0
   pub none : s.settled.entries ≡ []
+  pub none_to_spare : s.spare ≡ no_numbers
   pub attacked_is : s.attacked ≡ 1
   pub defended_is : s.defended ≡ 0
 

@@ -74,7 +74,7 @@ impl Search {
                 Ok(())
             }
             None => {
-                tree.settle(false);
+                tree.settle_at(0, false);
                 Ok(())
             }
         }

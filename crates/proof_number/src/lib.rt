@@ -12,6 +12,7 @@
 mod answer;
 mod begin;
 mod denials;
+mod follow;
 mod looks;
 mod notes;
 mod record;

@@ -59,9 +59,11 @@ impl Note {
     }
 }
 
-/// What is remembered of a position of the attacker within some moves: its win, or that there is none.
+/// What is remembered of a position of the attacker within some moves: its win, that there is none, or the node that was last given
+/// children there.
 #[derive(Clone, Copy)]
 pub(crate) enum Settled {
     Won(WrittenWin),
     Lost,
+    Open(u32),
 }

@@ -6,7 +6,7 @@
 //! settled, won or not, is remembered under its position and the moves that were left.
 #![tactic(auto)]
 
-ghost use Rattle.std.specs.Prelude.{◌≡◌, ◌⊎◌, All, ◌<◌, ◌≤◌, ◌+◌, true, map, take, drop, length, IfOk, IfSome};
+ghost use Rattle.std.specs.Prelude.{◌≡◌, ◌⊎◌, ◌↔◌, IsTrue, All, ◌<◌, ◌≤◌, ◌+◌, true, map, take, drop, length, IfOk, IfSome};
 ghost use Rattle.game_rules.specs.Grid.{points_of};
 ghost use Rattle.position_table.specs.Packing.{packed};
 ghost use Rattle.position_table.specs.Remembering.{kept};
@@ -76,7 +76,10 @@ impl Search {
             Kind::Attack => {
                 let numbers = tree.numbers(node);
                 if !numbers.is_settled() {
-                    return Ok(None);
+                    if !is_newest(tree, node) {
+                        return Ok(None);
+                    }
+                    return Ok(Some(Settled::Open(node)));
                 }
                 if numbers.proof != 0 {
                     return Ok(Some(Settled::Lost));
@@ -160,6 +163,18 @@ impl Search {
             .settled
             .keep(PackedPosition::of(view.board()), moves, value);
     }
+}
+
+/// Whether the node is the one that was given children last.
+fn is_newest(tree: &ProofTree, node: u32) -> bool
+    requires in_tree { node < length tree.now.links }
+    ensures newest { IsTrue result ↔ (0 < (link_at tree.now.links node).count)
+        × ((link_at tree.now.links node).first + (link_at tree.now.links node).count ≡ length tree.now.links) }
+{
+    // This tells what holds of every tree.
+    let len = tree.len();
+    let link = tree.link(node);
+    link.count > 0 && link.first + link.count == len
 }
 
 /// Compiles the node that plays this attack and answers each point of the board with the node of the note for it.

@@ -12,14 +12,15 @@ ghost use Rattle.position_table.specs.Packing.{packed};
 ghost use Rattle.position_table.specs.Remembering.{value_under, looked_up};
 ghost use Rattle.proof_tree.specs.Combining.{AreNumbers, is_settled};
 ghost use Rattle.proof_tree.specs.declared.TheConstants.{INFINITE};
-ghost use Rattle.proof_tree.specs.Trees.{grown_links, leaf_sum, link_at, most_proving, numbers_at};
+ghost use Rattle.proof_tree.specs.Trees.{grown_links, leaf_sum, link_at, numbers_at};
 ghost use Rattle.proof_tree.specs.declared.Kind.{Kind as AnyKind};
 ghost use Rattle.threat_game.specs.Attacks.{IsDoubleWin, OthersFail, is_last_move, tried_moves};
 ghost use Rattle.strategy_compiler.specs.Growth.{Writes};
 ghost use Rattle.threat_game.specs.Replies.{IsChild, nodes_for};
 ghost use Rattle.proof_number.specs.Children.{AreSettled, child_note, child_numbers};
 ghost use Rattle.proof_number.specs.Notes.{note_at};
-ghost use Rattle.proof_number.specs.Searches.{Searches, StandsAt, IsTried, IsStep, IsSettledAt, IsExpandedAt, IsNew, noted_won};
+ghost use Rattle.proof_number.specs.Searches.{HasEnded, IsOverBudget, Searches, StandsAt, IsTried, IsStep, IsSettledAt, IsExpandedAt};
+ghost use Rattle.proof_number.specs.Searches.{IsNew, noted_won};
 
 use crate::REMEMBERED;
 use crate::looks::Looks;
@@ -58,6 +59,8 @@ pub(crate) struct Search {
     pub(crate) board: Board,
     pub(crate) notes: Vec<Note>,
     pub(crate) settled: WholeTable<Settled>,
+    /// By so much the numbers of leaves may still rise.
+    pub(crate) spare: Numbers,
     pub(crate) attacked: u64,
     pub(crate) defended: u64,
 }
@@ -84,12 +87,17 @@ impl Search {
             board: board.copy()?,
             notes,
             settled: WholeTable::new(alloc, REMEMBERED)?,
+            spare: Numbers {
+                proof: 0,
+                disproof: 0,
+            },
             attacked: 1,
             defended: 0,
         })
     }
 
-    /// Goes to the most-proving leaf, settles it or gives it its children, and comes back.
+    /// Goes to the most-proving leaf, or to one below the node that it stands for, settles it or gives it its children, and comes back.
+    /// Only the most-proving leaf itself ends the search where the budget is spent.
     pub(crate) fn step<R: Rule, V: Seen<R>>(
         &mut self,
         looks: &mut Looks<R>,
@@ -101,13 +109,58 @@ impl Search {
         requires open { is_settled (numbers_at tree.old.numbers 0) ≡ false }
         requires view { V.position view.old ≡ self.old.root }
         requires board { self.old.board ≡ self.old.root }
-        ensures step { IsStep R.KIND self.old self.new tree.old tree.new compiler.old compiler.new result }
+        ensures step { IsStep R.KIND self.old self.new tree.old tree.new compiler.old compiler.new
+            (HasEnded R.KIND self.old self.new tree.new compiler.new) result }
+        ensures view { V.position view.new ≡ self.old.root }
+    {
+        let leaf = tree.most_proving();
+        let there = self.go_on::<R, V>(view, tree, compiler, leaf, self.depth);
+        match self.try_leaf::<R, V>(looks, view, tree, compiler, there) {
+            Ok(Step::Done) => Ok(Step::Done),
+            Ok(Step::Spent) => self.try_most_proving::<R, V>(looks, view, tree, compiler),
+            Err(error) => Err(error),
+        }
+    }
+
+    /// Goes to the most-proving leaf, settles it or gives it its children, and comes back.
+    fn try_most_proving<R: Rule, V: Seen<R>>(
+        &mut self,
+        looks: &mut Looks<R>,
+        view: &mut V,
+        tree: &mut ProofTree,
+        compiler: &mut Compiler,
+    ) -> Result<Step, SearchError>
+        requires searching { Searches R.KIND self.old tree.old compiler.old (λ i. ⊥) }
+        requires open { is_settled (numbers_at tree.old.numbers 0) ≡ false }
+        requires view { V.position view.old ≡ self.old.root }
+        requires board { self.old.board ≡ self.old.root }
+        ensures step { IsStep R.KIND self.old self.new tree.old tree.new compiler.old compiler.new
+            (HasEnded R.KIND self.old self.new tree.new compiler.new) result }
         ensures view { V.position view.new ≡ self.old.root }
     {
         let leaf = tree.most_proving();
         self.go_to::<R, V>(view, tree, leaf);
+        self.try_leaf::<R, V>(looks, view, tree, compiler, leaf)
+    }
+
+    /// Settles the leaf at which the view is or gives it its children, and comes back to the root.
+    fn try_leaf<R: Rule, V: Seen<R>>(
+        &mut self,
+        looks: &mut Looks<R>,
+        view: &mut V,
+        tree: &mut ProofTree,
+        compiler: &mut Compiler,
+        leaf: u32,
+    ) -> Result<Step, SearchError>
+        requires at_leaf { StandsAt R.KIND self.old tree.old compiler.old leaf (V.position view.old) }
+        ensures step { IsStep R.KIND self.old self.new tree.old tree.new compiler.old compiler.new
+            (IsOverBudget R.KIND self.old self.new tree.old tree.new compiler.new leaf) result }
+        ensures view { V.position view.new ≡ self.old.root }
+    {
         match self.grow::<R, V>(looks, view, tree, compiler, leaf) {
             Ok(Step::Done) => {
+                self.spare.proof += 1;
+                self.spare.disproof += 1;
                 self.go_back::<R, V>(view, tree, compiler, leaf)?;
                 Ok(Step::Done)
             }
@@ -122,7 +175,7 @@ impl Search {
         }
     }
 
-    /// Settles the most-proving leaf or gives it its children.
+    /// Settles an open leaf or gives it its children.
     fn grow<R: Rule, V: Seen<R>>(
         &mut self,
         looks: &mut Looks<R>,
@@ -143,8 +196,8 @@ impl Search {
 
     /// Settles a leaf of the attacker as won.
     pub(crate) fn settle_won(&mut self, tree: &mut ProofTree, leaf: u32, win: WrittenWin)
-        requires open { is_settled (numbers_at tree.old.numbers 0) ≡ false }
-        requires leaf { leaf ≡ most_proving tree.old }
+        requires in_tree { leaf < length tree.old.links }
+        requires childless { (link_at tree.old.links leaf).count ≡ 0 }
         requires noted { leaf < length self.old.notes.items }
         requires few { win.moves < 256 }
         ensures settled { IsSettledAt tree.old tree.new leaf true }
@@ -152,7 +205,7 @@ impl Search {
         ensures rest { self.new ≡ record self.old { notes = self.new.notes } }
     {
         self.note_win(leaf, win);
-        tree.settle(true);
+        tree.settle_at(leaf, true);
     }
 
     /// Settles a leaf of the attacker, who has no five point and two moves or more, or gives it its children.
@@ -179,15 +232,15 @@ impl Search {
                 Ok(Step::Done)
             }
             Some(Settled::Lost) => {
-                tree.settle(false);
+                tree.settle_at(leaf, false);
                 Ok(Step::Done)
             }
-            None => self.try_attacks::<R, V>(looks, view, tree, compiler, leaf),
+            _ => self.try_attacks::<R, V>(looks, view, tree, compiler, leaf),
         }
     }
 
     /// What is remembered of the position of the view within the moves that are left at the leaf.
-    fn recall<R: Rule, V: Seen<R>>(&mut self, view: &V, leaf: u32) -> Option<Settled>
+    pub(crate) fn recall<R: Rule, V: Seen<R>>(&mut self, view: &V, leaf: u32) -> Option<Settled>
         requires noted { leaf < length self.old.notes.items }
         ensures found { result ≡ value_under (packed (V.position view.now), (note_at self.old.notes.items leaf).left) self.old.settled }
         ensures entries { self.new.settled ≡ looked_up (packed (V.position view.now), (note_at self.old.notes.items leaf).left) self.old.settled }
@@ -280,7 +333,7 @@ impl Search {
         ensures tried { IsTried R.KIND self.old self.new tree.old tree.new compiler.now compiler.now leaf result }
     {
         if moves.len() == 0 {
-            tree.settle(false);
+            tree.settle_at(leaf, false);
             return Ok(Step::Done);
         }
         let count = self.defended + moves.len() as u64;
@@ -295,7 +348,7 @@ impl Search {
         Ok(Step::Done)
     }
 
-    /// Gives the most-proving leaf children with these numbers and notes. After an `Err` the tree and the notes are as before.
+    /// Gives a leaf children with these numbers and notes. After an `Err` the tree and the notes are as before.
     fn expand(
         &mut self,
         tree: &mut ProofTree,
@@ -303,8 +356,8 @@ impl Search {
         numbers: &[Numbers],
         notes: &[Note],
     ) -> Result<(), AllocError>
-        requires open { is_settled (numbers_at tree.old.numbers 0) ≡ false }
-        requires leaf { leaf ≡ most_proving tree.old }
+        requires in_tree { leaf < length tree.old.links }
+        requires childless { (link_at tree.old.links leaf).count ≡ 0 }
         requires some { 0 < length numbers.now }
         requires each { All AreNumbers numbers.now }
         requires short { length tree.old.links + length numbers.now ≤ INFINITE }
@@ -318,7 +371,7 @@ impl Search {
     {
         let len = self.notes.len();
         self.notes.extend_from_slice(notes)?;
-        if tree.expand(numbers).is_err() {
+        if tree.expand_at(leaf, numbers).is_err() {
             self.notes.truncate(len);
             return Err(AllocError);
         }
@@ -342,7 +395,7 @@ impl Search {
         let left = self.notes[leaf as usize].left;
         let denied = looks.is_denied::<V>(view, u32::from(left))?;
         if denied {
-            tree.settle(false);
+            tree.settle_at(leaf, false);
             return Ok(Step::Done);
         }
         self.answer_replies::<R, V>(looks, view, tree, compiler, leaf)
@@ -365,7 +418,7 @@ impl Search {
         let left = self.notes[leaf as usize].left;
         match looks.judge_replies::<V>(view, &mut self.board, u32::from(left))? {
             None => {
-                tree.settle(false);
+                tree.settle_at(leaf, false);
                 Ok(Step::Done)
             }
             Some(children) => {

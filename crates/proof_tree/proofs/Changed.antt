@@ -1,6 +1,6 @@
 -- What becomes of a tree when its leaf is settled or given children.
-use Rattle.std.proofs.Common.{◌≡◌, ◌≢◌, ℕ, zero, suc, ◌+◌, ◌-◌, ◌<◌, ◌≤◌, List, ◌++◌, length, take, drop, set, replicate, get_or, true, inl}
-use Rattle.std.proofs.Common.{inr, refl, sym, ◌∙◌, ap, subst, arith, All, rules}
+use Rattle.std.proofs.Common.{◌≡◌, ◌≢◌, ℕ, zero, suc, ◌+◌, ◌-◌, ◌<◌, ◌≤◌, Bool, List, ◌++◌, length, take, drop, set, replicate, get_or}
+use Rattle.std.proofs.Common.{inl, inr, refl, sym, ◌∙◌, ap, subst, arith, All, rules}
 use Rattle.std.proofs.lemmas.Bool.{cases_eq, cases_lt}
 use Rattle.std.proofs.lemmas.List.{drop-append-le, get_or-append_right, get_or-replicate, get_or-set_other, get_or-set_same}
 use Rattle.std.proofs.lemmas.List.{get_or_append_left, length-append, length-drop, length-replicate, length-set, set-append_left}
@@ -11,41 +11,37 @@ use Rattle.proof_tree.specs.declared.Kind.{Kind}
 use Rattle.proof_tree.specs.declared.Kind.TheVariants.{Attack}
 use Rattle.proof_tree.specs.declared.Numbers.{Numbers}
 use Rattle.proof_tree.specs.declared.Link.{Link}
-use Rattle.proof_tree.proofs.Common.{AreNumbers, combined, finite, is_settled, no_numbers, other_kind, sought, IsChild, IsCombinedAt}
+use Rattle.proof_tree.proofs.Common.{AreNumbers, combined, finite, no_numbers, other_kind, sought, IsChild, IsCombinedAt}
 use Rattle.proof_tree.proofs.Common.{IsLinked, IsNumbered, IsOnWayUp, IsTree, OthersStay, Tree, ancestor, children_of, grown_links}
-use Rattle.proof_tree.proofs.Common.{leaf_link, leaf_sum, link_at, most_proving, numbers_at}
-use Rattle.proof_tree.proofs.Combined.{finite-infinite, finite-le, settled-pair}
-use Rattle.proof_tree.proofs.LeafSums.{leaf_sum-set}
+use Rattle.proof_tree.proofs.Common.{leaf_link, leaf_sum, link_at, numbers_at, settled_numbers}
+use Rattle.proof_tree.proofs.Combined.{finite-infinite, finite-le}
 use Rattle.proof_tree.proofs.Updated.{IsRightBut, stays-combined, written-each}
 use Rattle.proof_tree.proofs.Walks.{read-at}
-
--- numbers that are 0 and infinity count nothing in a sum over leaves
-pub record CountNothing (x : Numbers) : Type 0 where
-  pub good : AreNumbers x
-  pub nothing : (kind : Kind) → finite (sought kind x) ≡ 0
 
 -- a leaf has no children's numbers
 leaf-combined : (links : List Link) (numbers : List Numbers) (i : ℕ) → (link_at links i).count ≡ 0 → IsCombinedAt links numbers i
 leaf-combined links numbers i z b = absurd (omega arith)
 
--- where the root is a leaf and is settled, all are right
-pub settled-root : (links : List Link) (numbers : List Numbers) (x : Numbers) → IsLinked links → IsNumbered links numbers
-    → (link_at links 0).count ≡ 0 → CountNothing x → IsNumbered links (set numbers 0 x)
-settled-root links numbers x w r z s = grind (arith, length-set, written-each, cases_eq, leaf-combined, stays-combined, leaf_sum-set)
+-- where the root is a leaf and gets other numbers, all are right
+pub renumbered-root : (links : List Link) (numbers : List Numbers) (x : Numbers) → IsLinked links → IsNumbered links numbers
+    → (link_at links 0).count ≡ 0 → AreNumbers x → ((kind : Kind) → leaf_sum kind links (set numbers 0 x) < INFINITE)
+    → IsNumbered links (set numbers 0 x)
+renumbered-root links numbers x w r z good sums = grind (arith, length-set, written-each, cases_eq, leaf-combined, stays-combined)
 
--- where another leaf is settled, its parent alone is left
-pub settled-leaf : (links : List Link) (numbers : List Numbers) (i : ℕ) (x : Numbers) → IsLinked links → IsNumbered links numbers → 0 < i
-    → i < length links → (link_at links i).count ≡ 0 → CountNothing x → IsRightBut links (set numbers i x) (link_at links i).parent
-settled-leaf links numbers i x w r b h z s = record {
+-- where another leaf gets other numbers, its parent alone is left
+pub renumbered-leaf : (links : List Link) (numbers : List Numbers) (i : ℕ) (x : Numbers) → IsLinked links → IsNumbered links numbers → 0 < i
+    → i < length links → (link_at links i).count ≡ 0 → AreNumbers x → ((kind : Kind) → leaf_sum kind links (set numbers i x) < INFINITE)
+    → IsRightBut links (set numbers i x) (link_at links i).parent
+renumbered-leaf links numbers i x w r b h z good sums = record {
   count = length-set numbers i x ∙ r.count;
   has_children = omega (arith, (w.children i b h).from_first, (w.children i b h).below_end);
-  each = written-each links numbers i x (omega (arith, r.count)) s.good r.each;
+  each = written-each links numbers i x (omega (arith, r.count)) good r.each;
   combined_at = λ j k other. elim (cases_eq j i) [
     | inl q ↦ let P : ℕ → Type 0 = λ m. IsCombinedAt links (set numbers i x) m in
         subst P (sym q) (leaf-combined links (set numbers i x) i z)
     | inr n ↦ stays-combined links numbers i j x n (λ child. other (sym (w.parents j i k child))) (r.combined_at j k)
   ];
-  sums = λ kind. omega (arith, r.sums kind, leaf_sum-set kind links numbers i x (inr (s.nothing kind)));
+  sums = sums;
 }
 
 -- the links of a tree whose leaf i is given children
@@ -196,9 +192,9 @@ right-grown links numbers more i w r h z some good sums =
 pub grown-length : (links : List Link) (i count : ℕ) → i < length links → length (grown_links links i count) ≡ length links + count
 grown-length links i count h = (grown links i count h).sized
 
--- numbers that are 0 and infinity count nothing
-pub settled-nothing : (x : Numbers) → is_settled x ≡ true → CountNothing x
-settled-nothing x h = search (rules, settled-pair, finite-le, finite-infinite)
+-- a settled leaf counts nothing in a sum over leaves
+pub settled-nothing : (kind : Kind) (p : Bool) → finite (sought kind (settled_numbers p)) ≡ 0
+settled-nothing kind p = search (rules, finite-le, finite-infinite)
 
 -- the way up
 
@@ -262,22 +258,21 @@ expanded t more links numbers leaf w h z some good sums l n =
 
 -- the same by the steps of the code: the leaf's link is read, leaves are added to both lists, and the link is written
 pub expanded-by : (t inside : Tree) (leaf len : ℕ) (link : Link) (kind : Kind) (more : List Numbers) (longer links : List Link)
-    (numbers : List Numbers) → inside ≡ t → IsTree inside → leaf ≡ most_proving t → leaf < length t.links → (link_at t.links leaf).count ≡ 0
+    (numbers : List Numbers) → inside ≡ t → IsTree inside → leaf < length t.links → (link_at t.links leaf).count ≡ 0
     → 0 < length more → All AreNumbers more
-    → ((k : Kind) → leaf_sum k (grown_links t.links (most_proving t) (length more)) (t.numbers ++ more) < INFINITE)
+    → ((k : Kind) → leaf_sum k (grown_links t.links leaf (length more)) (t.numbers ++ more) < INFINITE)
     → link ≡ get_or inside.links leaf link → len ≡ length inside.links → kind ≡ other_kind link.kind
     → longer ≡ inside.links ++ replicate (length more) (leaf_link kind leaf)
     → links ≡ set longer leaf (record { kind = link.kind; parent = link.parent; first = len; count = length more })
     → numbers ≡ inside.numbers ++ more → IsExpanded t more links numbers leaf
-expanded-by t inside leaf len link kind more longer links numbers view tree leaf-is h z some good sums read len-is kind-is longer-is
+expanded-by t inside leaf len link kind more longer links numbers view tree h z some good sums read len-is kind-is longer-is
     links-is numbers-is =
     let child : Link = leaf_link kind leaf in
     let L : inside.links ≡ t.links = ap (λ v. v.links) view in
     let N : inside.numbers ≡ t.numbers = ap (λ v. v.numbers) view in
     let here : link_at t.links leaf ≡ link = ap (λ v. link_at v leaf) (sym L)
     ∙ read-at inside.links leaf (leaf_link Attack 0) link (omega (arith, ap length L, h)) read in
-    let S : ℕ → Type 0 = λ v. (k : Kind) → leaf_sum k (grown_links t.links v (length more)) (t.numbers ++ more) < INFINITE in
-    expanded t more links numbers leaf (subst IsTree view tree) h z some good (subst S (sym leaf-is) sums)
+    expanded t more links numbers leaf (subst IsTree view tree) h z some good sums
     (links-is ∙ grown-by t.links longer leaf (length more) len link child (longer-is ∙ ap (λ v. v ++ replicate (length more) child) L)
     (len-is ∙ ap length L) h here (ap (λ v. leaf_link v leaf) kind-is))
     (numbers-is ∙ ap (λ v. v ++ more) N)

@@ -12,5 +12,7 @@ pub mod Changed
 pub mod SumLaws
 -- numbers that are settled, and the nodes above a node
 pub mod Settled
--- the nodes above the most-proving leaf of an open root
+-- the nodes up to the root from one that is alive
 pub mod OpenWays
+-- what is settled where a leaf gets other numbers
+pub mod Renumbered

@@ -1,6 +1,6 @@
 -- The nodes above a node. Numbers that are settled, least ones and sums that are zero.
 use Rattle.std.proofs.Common.{◌≡◌, ◌⊎◌, inl, inr, ℕ, zero, suc, ◌<◌, ◌≤◌, ap, ◌∙◌, arith, List, length, refl, ◌≢◌, sym, subst, true, false}
-use Rattle.std.proofs.Common.{[], ◌∷◌, map, get_or, ◌+◌, Bool, ◌||◌, ◌&&◌, rules}
+use Rattle.std.proofs.Common.{[], ◌∷◌, map, get_or, Bool, rules}
 use Rattle.std.proofs.lemmas.Bool.{cases_eq, and_parts, or_cases}
 use Rattle.std.proofs.lemmas.Bool.Decides.{Decides-eqb}
 use Rattle.std.proofs.lemmas.List.{length-take, length-drop}

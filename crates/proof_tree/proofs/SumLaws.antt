@@ -1,5 +1,5 @@
 -- How the sum over the leaves goes on when a leaf gets children: its own number goes, and theirs come.
-use Rattle.std.proofs.Common.{◌≡◌, ℕ, zero, suc, ◌+◌, ◌<◌, List, [], ◌∷◌, ◌++◌, map, length, replicate, set, refl, ◌∙◌, arith}
+use Rattle.std.proofs.Common.{◌≡◌, ℕ, zero, suc, ◌+◌, ◌<◌, List, [], ◌∷◌, ◌++◌, map, length, replicate, set, refl, arith}
 use Rattle.std.proofs.Common.{◌⊎◌, ◌≤◌, nat_eq, true, All, rules}
 use Rattle.std.proofs.lemmas.Bool.{eq-eqb, ne_eqb}
 use Rattle.std.proofs.lemmas.List.{length-set}
@@ -30,6 +30,18 @@ leaf_sum-inner kind (k ∷ links) [] i l s h z b = absurd (omega arith)
 leaf_sum-inner kind (k ∷ links) (n ∷ numbers) zero l s h z b = search (rules, eq-eqb, ne_eqb)
 leaf_sum-inner kind (k ∷ links) (n ∷ numbers) (suc i) l s h z b =
     omega (arith, leaf_sum-inner kind links numbers i l (omega arith) (omega arith) z b)
+
+-- a number that is written at a leaf takes the place of the old one in the sum
+pub leaf_sum-moved : (kind : Kind) (links : List Link) (numbers : List Numbers) (i : ℕ) (x : Numbers) → length numbers ≡ length links
+    → i < length links → (link_at links i).count ≡ 0
+    → leaf_sum kind links (set numbers i x) + finite (sought kind (numbers_at numbers i)) ≡ leaf_sum kind links numbers + finite
+    (sought kind x)
+leaf_sum-moved kind [] numbers i x s h z = absurd (omega arith)
+leaf_sum-moved kind (k ∷ links) [] i x s h z = absurd (omega arith)
+leaf_sum-moved kind (k ∷ links) (n ∷ numbers) zero x s h z =
+    let none : nat_eq k.count 0 ≡ true = eq-eqb k.count 0 z in rw none (omega arith)
+leaf_sum-moved kind (k ∷ links) (n ∷ numbers) (suc i) x s h z =
+    omega (arith, leaf_sum-moved kind links numbers i x (omega arith) (omega arith) z)
 
 -- after leaf i is given children, its own number counts no longer in the sum over the leaves, and those of the children do
 pub leaf_sum-grown : (kind : Kind) (links : List Link) (numbers more : List Numbers) (i : ℕ) → length numbers ≡ length links

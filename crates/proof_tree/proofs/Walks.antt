@@ -6,10 +6,11 @@ use Rattle.std.proofs.lemmas.List.{length-take-le, length-drop}
 use Rattle.std.specs.List.{position_or_len}
 use Rattle.proof_tree.specs.declared.TheConstants.{INFINITE}
 use Rattle.proof_tree.specs.declared.Kind.{Kind}
+use Rattle.proof_tree.specs.declared.Kind.TheVariants.{Attack}
 use Rattle.proof_tree.specs.declared.Numbers.{Numbers}
 use Rattle.proof_tree.specs.declared.Link.{Link}
 use Rattle.proof_tree.proofs.Common.{AreNumbers, IsOpen, combined, no_numbers, is_settled, least, sought, IsTree, Tree, children_of, chosen}
-use Rattle.proof_tree.proofs.Common.{link_at, most_proving, numbers_at, walk_end, IsChild}
+use Rattle.proof_tree.proofs.Common.{link_at, numbers_at, walk_end, IsChild}
 use Rattle.proof_tree.proofs.Updated.{child-number, slice-children}
 
 -- the first place that passes, if there is one
@@ -40,6 +41,12 @@ sought-open k n o = search rules
 
 not-settled : (k : Kind) (n : Numbers) → 0 < sought k n → sought k n < INFINITE → is_settled n ≡ true → ⊥
 not-settled k n a b s = search rules
+
+pub open-unsettled : (n : Numbers) → IsOpen n → is_settled n ≡ false
+open-unsettled n o = by (is_settled n) refl where
+  by : (r : Bool) → is_settled n ≡ r → is_settled n ≡ false
+  by false e = e
+  by true e = absurd (not-settled Attack n o.proof_above o.proof_below e)
 
 open-again : (k : Kind) (n : Numbers) → AreNumbers n → 0 < sought k n → sought k n < INFINITE → IsOpen n
 open-again k n h a b = search (rules, not-settled)
@@ -77,15 +84,16 @@ chosen-child t i w h b o =
           (omega (arith, same, above.0)) (omega (arith, same, above.1));
     }
 
--- the walk from node i, which has steps enough, ends where the whole walk ends
-abbrev pub LeadsOn : Tree → ℕ → Type 0
-LeadsOn t i = (steps : ℕ) × (length t.links ≤ steps + i) × (walk_end steps t i ≡ most_proving t)
+-- the walk from node i, which has steps enough, ends where the whole walk from the start ends
+abbrev pub LeadsOn : Tree → ℕ → ℕ → Type 0
+LeadsOn t start i = (steps : ℕ) × (length t.links ≤ steps + i) × (walk_end steps t i ≡ walk_end (length t.links) t start)
 
-pub LeadsOn-chosen : (t : Tree) (i : ℕ) → IsTree t → i < length t.links → 0 < (link_at t.links i).count → IsOpen (numbers_at t.numbers i)
-    → LeadsOn t i → LeadsOn t (chosen t i)
-LeadsOn-chosen t i w h b o on = one on.0 on.1 on.2
+pub LeadsOn-chosen : (t : Tree) (start i : ℕ) → IsTree t → i < length t.links → 0 < (link_at t.links i).count
+    → IsOpen (numbers_at t.numbers i) → LeadsOn t start i → LeadsOn t start (chosen t i)
+LeadsOn-chosen t start i w h b o on = one on.0 on.1 on.2
   where
-    one : (steps : ℕ) → length t.links ≤ steps + i → walk_end steps t i ≡ most_proving t → LeadsOn t (chosen t i)
+    one : (steps : ℕ) → length t.links ≤ steps + i → walk_end steps t i ≡ walk_end (length t.links) t start
+        → LeadsOn t start (chosen t i)
     one zero few e = absurd (omega arith)
     one (suc steps) few e = (
       steps,
@@ -93,8 +101,8 @@ LeadsOn-chosen t i w h b o on = one on.0 on.1 on.2
       rw (ne_eqb (link_at t.links i).count 0 (λ q. omega arith)) at e,
     )
 
-pub LeadsOn-leaf : (t : Tree) (i : ℕ) → (link_at t.links i).count ≡ 0 → LeadsOn t i → i ≡ most_proving t
-LeadsOn-leaf t i z on = search (rules, eq-eqb)
+pub LeadsOn-leaf : (t : Tree) (start i : ℕ) → (link_at t.links i).count ≡ 0 → LeadsOn t start i → i ≡ walk_end (length t.links) t start
+LeadsOn-leaf t start i z on = search (rules, eq-eqb)
 
 -- an element that is read is the one that stands there
 pub read-at : {X : Type 0} (xs : List X) (i : ℕ) (d x : X) → i < length xs → x ≡ get_or xs i x → get_or xs i d ≡ x
@@ -111,16 +119,17 @@ sliced_place link m numbers = position_or_len (λ n. nat_eq (sought link.kind n)
     (take (link.first + link.count - link.first) (drop link.first numbers))
 
 -- the next node of the walk after node i
-pub record IsNext (t : Tree) (i next : ℕ) : Type 0 where
+pub record IsNext (t : Tree) (start i next : ℕ) : Type 0 where
   pub after : i < next
   pub inside : next < length t.links
   pub open_node : IsOpen (numbers_at t.numbers next)
-  pub leads : LeadsOn t next
+  pub leads : LeadsOn t start next
 
-pub next-child : (t : Tree) (i : ℕ) (link : Link) (m : ℕ) (n : Numbers) (xs : List Numbers) (place : ℕ) → IsTree t → i < length t.links
-    → IsOpen (numbers_at t.numbers i) → LeadsOn t i → link_at t.links i ≡ link → link.count ≢ 0 → numbers_at t.numbers i ≡ n
-    → m ≡ sought link.kind n → xs ≡ t.numbers → place ≡ sliced_place link m xs → IsNext t i (link.first + place)
-next-child t i link m n xs place w h o on l b q m-is x place-is =
+pub next-child : (t : Tree) (start i : ℕ) (link : Link) (m : ℕ) (n : Numbers) (xs : List Numbers) (place : ℕ) → IsTree t
+    → i < length t.links
+    → IsOpen (numbers_at t.numbers i) → LeadsOn t start i → link_at t.links i ≡ link → link.count ≢ 0 → numbers_at t.numbers i ≡ n
+    → m ≡ sought link.kind n → xs ≡ t.numbers → place ≡ sliced_place link m xs → IsNext t start i (link.first + place)
+next-child t start i link m n xs place w h o on l b q m-is x place-is =
     let some : 0 < (link_at t.links i).count = omega (arith, ap (λ k. k.count) l) in
     let m-here : m ≡ sought link.kind (numbers_at t.numbers i) = m-is ∙ ap (sought link.kind) (sym q) in
     let one : link.first + place ≡ link.first + position_or_len
@@ -136,10 +145,10 @@ next-child t i link m n xs place w h o on l b q m-is x place-is =
     (sym l) in
     let is : link.first + place ≡ chosen t i = one ∙ two in
     let child : IsChosen t i = chosen-child t i w h some o in
-    let P : ℕ → Type 0 = λ k. IsNext t i k in
+    let P : ℕ → Type 0 = λ k. IsNext t start i k in
     subst P (sym is) (record {
       after = child.after;
       inside = child.inside;
       open_node = child.open_child;
-      leads = LeadsOn-chosen t i w h some o on;
+      leads = LeadsOn-chosen t start i w h some o on;
     })

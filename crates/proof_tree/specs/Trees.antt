@@ -1,5 +1,6 @@
 -- Trees of proof numbers: how the nodes are joined, what holds of their numbers, the walk to the most-proving leaf, and growth.
-use Rattle.std.specs.Prelude.{◌≡◌, ℕ, zero, suc, ◌+◌, ◌<◌, ◌≤◌, if◌then◌else◌, nat_eq, List, [], ◌∷◌, ◌++◌, length, take, drop, replicate}
+use Rattle.std.specs.Prelude.{◌≡◌, ℕ, zero, suc, ◌+◌, ◌<◌, ◌≤◌, false, if◌then◌else◌, nat_eq, List, [], ◌∷◌, ◌++◌, length, take, drop}
+use Rattle.std.specs.Prelude.{replicate}
 use Rattle.std.specs.Prelude.{slice_index_or, slice_set}
 use Rattle.std.specs.List.{position_or_len}
 use Rattle.proof_tree.specs.declared.TheConstants.{INFINITE}
@@ -7,7 +8,7 @@ use Rattle.proof_tree.specs.declared.Kind.{Kind}
 use Rattle.proof_tree.specs.declared.Kind.TheVariants.{Attack}
 use Rattle.proof_tree.specs.declared.Numbers.{Numbers}
 use Rattle.proof_tree.specs.declared.Link.{Link}
-use Rattle.proof_tree.specs.Combining.{AreNumbers, combined, no_numbers, finite, other_kind, sought}
+use Rattle.proof_tree.specs.Combining.{AreNumbers, combined, no_numbers, finite, is_settled, other_kind, sought}
 
 -- a tree: how each node is joined to the others, and each node's numbers
 pub record Tree : Type 0 where
@@ -98,6 +99,10 @@ ancestor links (suc steps) i = (link_at links (ancestor links steps i)).parent
 -- node j is node i, or one above it
 abbrev pub IsOnWayUp : List Link → ℕ → ℕ → Type 0
 IsOnWayUp links i j = (steps : ℕ) × (ancestor links steps i ≡ j)
+
+-- neither node i nor one above it is settled
+abbrev pub IsAlive : Tree → ℕ → Type 0
+IsAlive t i = (j : ℕ) → IsOnWayUp t.links i j → is_settled (numbers_at t.numbers j) ≡ false
 
 -- all nodes but i and those above it have the numbers that they had
 abbrev pub OthersStay : List Link → ℕ → List Numbers → List Numbers → Type 0

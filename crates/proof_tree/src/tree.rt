@@ -1,15 +1,17 @@
-//! The tree: it grows at its most-proving leaf alone, and its numbers are right after every change.
+//! The tree: it grows at its leaves, and its numbers are right after every change.
 //!
 //! The numbers stand apart from the links, so that those of the children of a node are a slice.
 #![tactic(auto)]
 
-ghost use Rattle.std.specs.Prelude.{◌≡◌, ◌<◌, ◌≤◌, ◌+◌, ℕ, [], ◌∷◌, ◌++◌, false, length, IfOk, OnOk, OnErr, nat_eq, replicate, vec_len};
+ghost use Rattle.std.specs.Prelude.{◌≡◌, ◌<◌, ◌≤◌, ◌+◌, ℕ, [], ◌∷◌, ◌++◌, false, length, IsTrue, ◌↔◌, IfOk, OnOk, OnErr, nat_eq};
+ghost use Rattle.std.specs.Prelude.{replicate, slice_set, vec_len};
 ghost use Rattle.std.specs.List.{All, position_or_len};
-ghost use Rattle.proof_tree.specs.Combining.{AreNumbers, is_settled, settled_numbers, sought};
-ghost use Rattle.proof_tree.specs.Trees.{IsTree, OthersStay, grown_links, leaf_link, leaf_sum, link_at, most_proving as most_proving_lem, numbers_at};
+ghost use Rattle.proof_tree.specs.Combining.{AreNumbers, finite, is_settled, settled_numbers, sought};
+ghost use Rattle.proof_tree.specs.Trees.{IsAlive, IsTree, OthersStay, grown_links, leaf_link, leaf_sum, link_at, numbers_at, walk_end};
+ghost use Rattle.proof_tree.specs.Trees.{most_proving as most_proving_lem};
 ghost use Rattle.proof_tree.specs.declared.Kind.{Kind as AnyKind};
 
-use crate::updating::{settle_leaf, update_from};
+use crate::updating::{renumber_leaf, update_from};
 use crate::{INFINITE, Kind, Link, Numbers};
 use std::alloc::{AllocError, Global};
 use std::marker::Model;
@@ -86,7 +88,21 @@ impl ProofTree {
         ensures childless { (link_at self.now.links result).count ≡ 0 }
         ensures open { is_settled (numbers_at self.now.numbers result) ≡ false }
     {
-        let mut number: u32 = 0;
+        // This tells what holds of every tree.
+        self.len();
+        self.most_proving_below(0)
+    }
+
+    /// The leaf to which the same walk leads from node `start`, which is not settled.
+    pub fn most_proving_below(&self, start: u32) -> u32
+        requires in_tree { start < length self.now.links }
+        requires open { is_settled (numbers_at self.now.numbers start) ≡ false }
+        ensures leaf { result ≡ walk_end (length self.now.links) self.now start }
+        ensures in_tree { result < length self.now.links }
+        ensures childless { (link_at self.now.links result).count ≡ 0 }
+        ensures open { is_settled (numbers_at self.now.numbers result) ≡ false }
+    {
+        let mut number = start;
         loop {
             let link = self.links[number as usize];
             if link.count == 0 {
@@ -97,6 +113,21 @@ impl ProofTree {
             let children = &self.numbers.as_slice()[first..first + link.count as usize];
             number = (first + first_with(children, link.kind, least)) as u32;
         }
+    }
+
+    /// Whether neither this node nor one above it is settled.
+    pub fn is_alive(&self, start: u32) -> bool
+        requires in_tree { start < length self.now.links }
+        ensures alive { IsTrue result ↔ IsAlive self.now start }
+    {
+        let mut number = start;
+        while !self.numbers[number as usize].is_settled() {
+            if number == 0 {
+                return true;
+            }
+            number = self.links[number as usize].parent;
+        }
+        false
     }
 
     /// Settles the most-proving leaf: it is proved, or else disproved. The numbers of the nodes above it follow, and
@@ -113,12 +144,43 @@ impl ProofTree {
         ensures tree { IsTree self.new }
     {
         let leaf = self.most_proving();
-        let settled = Numbers::settled(proved);
-        settle_leaf(
+        self.settle_at(leaf, proved);
+    }
+
+    /// Settles any leaf in the same way.
+    pub fn settle_at(&mut self, leaf: u32, proved: bool)
+        requires in_tree { leaf < length self.old.links }
+        requires childless { (link_at self.old.links leaf).count ≡ 0 }
+        ensures links { self.new.links ≡ self.old.links }
+        ensures settled { numbers_at self.new.numbers leaf ≡ settled_numbers proved }
+        ensures others { OthersStay self.old.links leaf self.old.numbers self.new.numbers }
+        ensures leaves { (kind : AnyKind) → leaf_sum kind self.new.links self.new.numbers
+            + finite (sought kind (numbers_at self.old.numbers leaf)) ≤ leaf_sum kind self.old.links self.old.numbers }
+        ensures tree { IsTree self.new }
+    {
+        // This tells what holds of every tree.
+        self.len();
+        self.renumber(leaf, Numbers::settled(proved));
+    }
+
+    /// Gives a leaf other numbers. Those of the nodes above it follow, and all other nodes stay.
+    pub fn renumber(&mut self, leaf: u32, numbers: Numbers)
+        requires in_tree { leaf < length self.old.links }
+        requires childless { (link_at self.old.links leaf).count ≡ 0 }
+        requires numbers { AreNumbers numbers }
+        requires sums { (kind : AnyKind) → leaf_sum kind self.old.links (slice_set self.old.numbers leaf numbers) < INFINITE }
+        ensures links { self.new.links ≡ self.old.links }
+        ensures numbers { numbers_at self.new.numbers leaf ≡ numbers }
+        ensures others { OthersStay self.old.links leaf self.old.numbers self.new.numbers }
+        ensures leaves { (kind : AnyKind) → leaf_sum kind self.new.links self.new.numbers
+            ≤ leaf_sum kind self.old.links (slice_set self.old.numbers leaf numbers) }
+        ensures tree { IsTree self.new }
+    {
+        renumber_leaf(
             self.links.as_slice(),
             self.numbers.as_mut_slice(),
             leaf,
-            settled,
+            numbers,
         );
     }
 
@@ -146,6 +208,28 @@ impl ProofTree {
         ensures tree { IsTree self.new }
     {
         let leaf = self.most_proving();
+        self.expand_at(leaf, children)
+    }
+
+    /// Gives any leaf children in the same way.
+    pub fn expand_at(&mut self, leaf: u32, children: &[Numbers]) -> Result<u32, AllocError>
+        requires in_tree { leaf < length self.old.links }
+        requires childless { (link_at self.old.links leaf).count ≡ 0 }
+        requires some { 0 < length children.now }
+        requires each { All AreNumbers children.now }
+        requires short { length self.old.links + length children.now ≤ INFINITE }
+        requires sums { (kind : AnyKind) → leaf_sum kind
+            (grown_links self.old.links leaf (length children.now)) (self.old.numbers ++ children.now) < INFINITE }
+        ensures number { IfOk result (λ i. i ≡ length self.old.links) }
+        ensures links { OnOk result (self.new.links ≡ grown_links self.old.links leaf (length children.now)) }
+        ensures others { OnOk result (OthersStay self.new.links leaf (self.old.numbers ++ children.now) self.new.numbers) }
+        ensures children { OnOk result ((j : ℕ) → j < length children.now
+            → numbers_at self.new.numbers (length self.old.links + j) ≡ numbers_at children.now j) }
+        ensures leaves { OnOk result ((kind : AnyKind) → leaf_sum kind self.new.links self.new.numbers
+            ≤ leaf_sum kind self.new.links (self.old.numbers ++ children.now)) }
+        ensures unchanged { OnErr result (self.new ≡ self.old) }
+        ensures tree { IsTree self.new }
+    {
         let link = self.links[leaf as usize];
         let len = self.links.len() as u32;
         let child = Link {

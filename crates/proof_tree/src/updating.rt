@@ -4,8 +4,8 @@
 //! node has the numbers that it had, since nothing above it changes then.
 #![tactic(auto)]
 
-ghost use Rattle.std.specs.Prelude.{◌≡◌, ◌≢◌, ◌<◌, ◌≤◌, ℕ, true, length};
-ghost use Rattle.proof_tree.specs.Combining.{AreNumbers, is_settled};
+ghost use Rattle.std.specs.Prelude.{◌≡◌, ◌≢◌, ◌<◌, ◌≤◌, ℕ, length, slice_set};
+ghost use Rattle.proof_tree.specs.Combining.{AreNumbers};
 ghost use Rattle.proof_tree.specs.Trees.{IsCombinedAt, IsLinked, IsNumbered, OthersStay, leaf_sum, link_at, numbers_at};
 ghost use Rattle.proof_tree.specs.declared.Kind.{Kind as AnyKind};
 ghost use Rattle.proof_tree.specs.declared.TheConstants.{INFINITE};
@@ -44,20 +44,21 @@ pub(crate) fn update_from(links: &[Link], numbers: &mut [Numbers], start: u32)
     }
 }
 
-/// Gives a leaf the numbers of a settled node, and brings those of the nodes above it up to date.
-pub(crate) fn settle_leaf(links: &[Link], numbers: &mut [Numbers], leaf: u32, settled: Numbers)
+/// Gives a leaf these numbers, and brings those of the nodes above it up to date.
+pub(crate) fn renumber_leaf(links: &[Link], numbers: &mut [Numbers], leaf: u32, found: Numbers)
     requires linked { IsLinked links.now }
     requires numbered { IsNumbered links.now numbers.old }
     requires leaf { leaf < length links.now }
     requires childless { (link_at links.now leaf).count ≡ 0 }
-    requires settled { is_settled settled ≡ true }
+    requires found { AreNumbers found }
+    requires sums { (kind : AnyKind) → leaf_sum kind links.now (slice_set numbers.old leaf found) < INFINITE }
     ensures numbered { IsNumbered links.now numbers.new }
-    ensures settled { numbers_at numbers.new leaf ≡ settled }
+    ensures found { numbers_at numbers.new leaf ≡ found }
     ensures others { OthersStay links.now leaf numbers.old numbers.new }
     ensures leaves { (kind : AnyKind) → leaf_sum kind links.now numbers.new
-        ≤ leaf_sum kind links.now numbers.old }
+        ≤ leaf_sum kind links.now (slice_set numbers.old leaf found) }
 {
-    numbers[leaf as usize] = settled;
+    numbers[leaf as usize] = found;
     if leaf == 0 {
         return;
     }

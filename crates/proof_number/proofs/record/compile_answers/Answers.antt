@@ -1,4 +1,4 @@
-use Rattle.std.proofs.Common.{◌≡◌, ◌∙◌, ◌<◌, List, ap, map, length}
+use Rattle.std.proofs.Common.{◌∙◌, ◌<◌, List, ap, map, length}
 use Rattle.std.proofs.lemmas.List.Elements.{All-from_recursion}
 use Rattle.proof_number.proofs.Common.{points_of, Note, all_notes, answer_of}
 use Rattle.strategy_graph.specs.declared.Reply.{Reply}

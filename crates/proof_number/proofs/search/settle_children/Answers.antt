@@ -1,4 +1,4 @@
-use Rattle.std.proofs.Common.{rules, ◌≡◌, ◌≤◌, ◌∙◌, refl, ap, arith, [], ◌∷◌, ◌++◌}
+use Rattle.std.proofs.Common.{rules, ◌∙◌, refl, ap, arith, [], ◌∷◌, ◌++◌}
 use Rattle.std.proofs.lemmas.List.{take_all}
 use Rattle.proof_number.proofs.Common.{Grid, after, Note, Child, moves_for, child_at, child_note, no_child}
 use Rattle.strategy_graph.specs.declared.TheConstants.{MAX_NODES}

@@ -1,4 +1,4 @@
-use Rattle.std.proofs.Common.{rules, ◌≡◌, ◌∙◌, ◌<◌, ℕ, refl, sym, ap, arith, length}
+use Rattle.std.proofs.Common.{rules, ◌∙◌, ◌<◌, ℕ, refl, sym, ap, arith, length}
 use Rattle.proof_number.proofs.Common.{Grid, IsOnWayUp, IsTree, Link, Search, GameTree, board_at, game_of}
 use Rattle.proof_number.proofs.GameTruths.{board-root}
 use Rattle.proof_number.proofs.Recording.{board-searches, parent-searches, way-game, way-tree}

@@ -1,8 +1,8 @@
-use Rattle.std.proofs.Common.{rules, ◌≡◌, ◌∙◌, ◌+◌, ◌≤◌, ℕ, false, sym, ap, arith, List, get_or, Option, sum_by}
+use Rattle.std.proofs.Common.{rules, ◌≡◌, ◌∙◌, ◌+◌, ℕ, sym, ap, arith, List, get_or, Option, sum_by}
 use Rattle.proof_number.proofs.Common.{Grid, RuleKind, Tree, Node, Note, Child, Children, Search, note_at, StandsAt, nodes_for}
 use Rattle.proof_tree.proofs.SumLaws.{fresh-numbers}
 use Rattle.threat_game.proofs.Common.{AreReplies}
-use Rattle.proof_number.proofs.Steps.{attacked-few, leaf-board, leaf-is, leaf-noted, leaf-left, root-open, settled-at, writes-no_memory}
+use Rattle.proof_number.proofs.Steps.{attacked-few, leaf-board, leaf-childless, leaf-inside, leaf-noted, leaf-left, writes-no_memory}
 use Rattle.proof_number.proofs.Steps.{writes-none}
 use Rattle.proof_number.proofs.Defending.{all-fresh, defend-moves, defend-no_five, defend-reply, each-is, each-same, escape-grows, few-new}
 use Rattle.proof_number.proofs.Defending.{replies-few, replies-grow, replies-room, replies-spent, settled-same, some-new}
@@ -29,9 +29,10 @@ judge_replies-requires-clause-reply g c = defend-reply c.requires.at_leaf c.requ
 pub judge_replies-requires-clause-copy : goal.judge_replies-requires-clause-copy
 judge_replies-requires-clause-copy g c = leaf-board c.requires.at_leaf
 
-pub settle-requires : goal.settle-requires
-settle-requires g c = record {
-  «open» = root-open c.requires.at_leaf;
+pub settle_at-requires : goal.settle_at-requires
+settle_at-requires g c = record {
+  in_tree = leaf-inside c.requires.at_leaf;
+  childless = leaf-childless c.requires.at_leaf;
 }
 
 pub judge_replies-requires-clause-some_moves : goal.judge_replies-requires-clause-some_moves
@@ -52,11 +53,15 @@ returns-in-None-clause-tried g c =
     let left_is = c.from.ensures ∙ leaf-left c.requires.at_leaf c.index.result.now c.index.ensures in
     let escape = judged c.requires.at_leaf c.index.ensures c.from.ensures c.in-None.is c.in_ok-judge_replies.ensures.replies in
     let early = rw c.in-None.is at c.in_ok-judge_replies.ensures.early in
-    let is = leaf-is c.requires.at_leaf in
     record {
-      step = escape-grows c.requires.at_leaf c.requires.defend escape (omega (arith, early, left_is)) c.settle.new.self
-          (settled-at c.args.tree.now c.settle.new.self c.args.leaf false is c.settle.ensures.links c.settle.ensures.settled
-          c.settle.ensures.others c.settle.ensures.leaves c.settle.ensures.tree) c.judge_replies.new.board
+      step = escape-grows c.requires.at_leaf c.requires.defend escape (omega (arith, early, left_is)) c.settle_at.new.self
+          (record {
+            links = c.settle_at.ensures.links;
+            settled = c.settle_at.ensures.settled;
+            others = c.settle_at.ensures.others;
+            leaves = c.settle_at.ensures.leaves;
+            tree = c.settle_at.ensures.tree;
+          }) c.judge_replies.new.board
           c.judge_replies.ensures.same_board;
       writes = writes-none c.requires.at_leaf _;
     }
@@ -112,8 +117,8 @@ expand-requires g c =
     let some = some-new c.requires.at_leaf c.requires.defend c.in-Some.children are _ _ _ settled in
     let fresh = all-fresh c.requires.at_leaf c.requires.defend c.in-Some.children are _ _ _ settled in
     record {
-      «open» = root-open c.requires.at_leaf;
-      leaf = leaf-is c.requires.at_leaf;
+      in_tree = leaf-inside c.requires.at_leaf;
+      childless = leaf-childless c.requires.at_leaf;
       some = some;
       each = fresh-numbers c.as_slice-in-Some.result.now fresh;
       short = short-there c.requires.at_leaf c.as_slice-in-Some.result.now some (omega (arith, all, few));

@@ -1,8 +1,8 @@
-use Rattle.std.proofs.Common.{rules, ◌≡◌, ◌∙◌, refl, sym, ap, arith}
+use Rattle.std.proofs.Common.{rules, ◌∙◌, refl, sym, ap, arith}
 use Rattle.proof_number.proofs.Common.{Grid, mover, Search, IsThreatWin, nowhere}
 use Rattle.game_rules.proofs.Common.{five_points}
 use Rattle.game_rules.proofs.Fives.{first_listed, none_listed}
-use Rattle.proof_tree.proofs.SumLaws.{lone-leaf}
+use Rattle.proof_tree.proofs.SumLaws.{lone-childless}
 use Rattle.strategy_compiler.proofs.Growing.{grows-not, writes-fails, writes-memory}
 use Rattle.threat_game.proofs.TreeLaws.{few-moves}
 use Rattle.proof_number.proofs.Beginning.{begun-open, begun-refused, begun-won, some-won}
@@ -45,8 +45,11 @@ returns-in_err-win-in-len1-up-clause-begun g c =
     (first_listed g.R.Rule.KIND b (mover b) c.as_slice.result.now nowhere are c.in-len1-up.len_at_least) c.requires.begins.some_depth))
     (search rules))
 
-pub settle_won-requires-clause-leaf : goal.settle_won-requires-clause-leaf
-settle_won-requires-clause-leaf g c = lone-leaf c.args.tree.now c.len.ensures.tree c.requires.begins.one_node
+pub settle_won-requires-clause-in_tree : goal.settle_won-requires-clause-in_tree
+settle_won-requires-clause-in_tree g c = let one = c.requires.begins.one_node in omega (arith, one)
+
+pub settle_won-requires-clause-childless : goal.settle_won-requires-clause-childless
+settle_won-requires-clause-childless g c = lone-childless c.args.tree.now c.len.ensures.tree c.requires.begins.one_node
 
 pub settle_won-requires-clause-noted : goal.settle_won-requires-clause-noted
 settle_won-requires-clause-noted g c = let one = c.requires.begins.new.one in omega (arith, one)

@@ -1,4 +1,4 @@
-use Rattle.std.proofs.Common.{◌≡◌, ◌∙◌, sym, ap, arith}
+use Rattle.std.proofs.Common.{◌∙◌, sym, ap, arith}
 use Rattle.std.proofs.lemmas.List.{get_or_default}
 use Rattle.proof_number.specs.Notes.{no_note, note_at, noted_win}
 use Rattle.proof_number.proofs.Recording.{noted-inside, noted-none, noted-searches, noted-written, passed-idle}

@@ -1,17 +1,18 @@
-use Rattle.std.proofs.Common.{rules, ◌≡◌, ◌∙◌, false, ◌+◌, ◌-◌, ℕ, inl, refl, sym, ap, arith, List, length, map}
+use Rattle.std.proofs.Common.{rules, ◌∙◌, ◌+◌, ◌-◌, ℕ, inl, refl, sym, ap, arith, List, length, map}
 use Rattle.std.proofs.Common.{replicate}
 use Rattle.std.proofs.lemmas.List.{length-replicate, nil_from_length}
 use Rattle.std.proofs.lemmas.List.Elements.{All-replicate}
 use Rattle.proof_number.proofs.Common.{Point, Search, note_at}
 use Rattle.proof_tree.proofs.SumLaws.{IsFresh}
-use Rattle.proof_number.proofs.Steps.{attack-moves, leaf-is, leaf-noted, leaf-left, root-open, settled-at, writes-no_memory, writes-none}
+use Rattle.proof_number.proofs.Steps.{attack-moves, leaf-childless, leaf-inside, leaf-noted, leaf-left, writes-no_memory, writes-none}
 use Rattle.proof_number.proofs.Attacking.{moves-grow, moves-spent, none-grows, open_note, open_one}
 use Rattle.proof_number.proofs.ExpandedCounts.{budget-few, defended-few, short-there, sums-there}
 use Rattle.proof_number.proofs.search.Search.expand_attack.Goals as goal
 
-pub settle-requires : goal.settle-requires
-settle-requires g c = record {
-  «open» = root-open c.requires.at_leaf;
+pub settle_at-requires : goal.settle_at-requires
+settle_at-requires g c = record {
+  in_tree = leaf-inside c.requires.at_leaf;
+  childless = leaf-childless c.requires.at_leaf;
 }
 
 pub overflow_add-count : goal.overflow_add-count
@@ -26,11 +27,11 @@ overflow_sub-left g c =
     let two = attack-moves c.requires.at_leaf c.requires.attack in
     omega (arith, same, two)
 
-pub expand-requires-clause-open : goal.expand-requires-clause-open
-expand-requires-clause-open g c = root-open c.requires.at_leaf
+pub expand-requires-clause-in_tree : goal.expand-requires-clause-in_tree
+expand-requires-clause-in_tree g c = leaf-inside c.requires.at_leaf
 
-pub expand-requires-clause-leaf : goal.expand-requires-clause-leaf
-expand-requires-clause-leaf g c = leaf-is c.requires.at_leaf
+pub expand-requires-clause-childless : goal.expand-requires-clause-childless
+expand-requires-clause-childless g c = leaf-childless c.requires.at_leaf
 
 pub expand-requires-clause-short : goal.expand-requires-clause-short
 expand-requires-clause-short g c =
@@ -53,13 +54,17 @@ expand-requires-clause-sums g c =
 
 pub returns-then-moves-eq0 : goal.returns-then-moves-eq0
 returns-then-moves-eq0 g c =
-    let is = leaf-is c.requires.at_leaf in
     record {
       tried = record {
         step = none-grows c.requires.at_leaf c.requires.attack
             c.requires.others (sym c.requires.moves ∙ nil_from_length c.args.moves.now c.if-moves-eq0.true)
-            c.settle.new.self (settled-at c.args.tree.now c.settle.new.self c.args.leaf false is c.settle.ensures.links
-            c.settle.ensures.settled c.settle.ensures.others c.settle.ensures.leaves c.settle.ensures.tree);
+            c.settle_at.new.self (record {
+              links = c.settle_at.ensures.links;
+              settled = c.settle_at.ensures.settled;
+              others = c.settle_at.ensures.others;
+              leaves = c.settle_at.ensures.leaves;
+              tree = c.settle_at.ensures.tree;
+            });
         writes = writes-none c.requires.at_leaf _;
       };
     }

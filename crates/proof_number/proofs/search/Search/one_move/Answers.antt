@@ -1,15 +1,17 @@
-use Rattle.std.proofs.Common.{rules, ◌∙◌, refl, sym, ap, arith, false}
-use Rattle.proof_tree.proofs.SumLaws.{lone-leaf}
+use Rattle.std.proofs.Common.{rules, ◌∙◌, refl, sym, ap, arith}
+use Rattle.proof_tree.proofs.SumLaws.{lone-childless}
 use Rattle.strategy_compiler.proofs.Growing.{writes-fails}
 use Rattle.proof_number.proofs.Common.{Search, IsThreatWin}
 use Rattle.threat_game.proofs.TreeLaws.{few-moves}
 use Rattle.proof_number.proofs.Beginning.{begun-lost, begun-refused, begun-won, some-won}
 use Rattle.threat_game.proofs.AttackLaws.{last-wins}
-use Rattle.proof_number.proofs.Steps.{settled-at}
 use Rattle.proof_number.proofs.search.Search.one_move.Goals as goal
 
-pub settle_won-requires-clause-leaf : goal.settle_won-requires-clause-leaf
-settle_won-requires-clause-leaf g c = lone-leaf c.args.tree.now c.requires.tree c.requires.begins.one_node
+pub settle_won-requires-clause-in_tree : goal.settle_won-requires-clause-in_tree
+settle_won-requires-clause-in_tree g c = let one = c.requires.begins.one_node in omega (arith, one)
+
+pub settle_won-requires-clause-childless : goal.settle_won-requires-clause-childless
+settle_won-requires-clause-childless g c = lone-childless c.args.tree.now c.requires.tree c.requires.begins.one_node
 
 pub settle_won-requires-clause-noted : goal.settle_won-requires-clause-noted
 settle_won-requires-clause-noted g c = let one = c.requires.begins.new.one in omega (arith, one)
@@ -49,6 +51,17 @@ pub returns-in-None-clause-begun : goal.returns-in-None-clause-begun
 returns-in-None-clause-begun g c =
     begun-lost c.requires.begins c.requires.lawful c.requires.tree {v = record c.args.self.now { board = c.last_move.new.board }} refl
     c.last_move.ensures.same_board
-    (settled-at c.args.tree.now c.settle.new.self 0 false (lone-leaf c.args.tree.now c.requires.tree c.requires.begins.one_node)
-    c.settle.ensures.links c.settle.ensures.settled c.settle.ensures.others c.settle.ensures.leaves c.settle.ensures.tree)
+    (record {
+      links = c.settle_at.ensures.links;
+      settled = c.settle_at.ensures.settled;
+      others = c.settle_at.ensures.others;
+      leaves = c.settle_at.ensures.leaves;
+      tree = c.settle_at.ensures.tree;
+    })
     c.requires.compiled c.requires.one_move c.in-None.ensures.no_win
+
+pub settle_at-requires-clause-in_tree : goal.settle_at-requires-clause-in_tree
+settle_at-requires-clause-in_tree g c = let one = c.requires.begins.one_node in omega (arith, one)
+
+pub settle_at-requires-clause-childless : goal.settle_at-requires-clause-childless
+settle_at-requires-clause-childless g c = lone-childless c.args.tree.now c.requires.tree c.requires.begins.one_node

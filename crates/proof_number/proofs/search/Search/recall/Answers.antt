@@ -1,4 +1,4 @@
-use Rattle.std.proofs.Common.{◌≡◌, ◌∙◌, ap}
+use Rattle.std.proofs.Common.{◌∙◌, ap}
 use Rattle.std.proofs.lemmas.List.{get_or_default}
 use Rattle.proof_number.proofs.Common.{packed, looked_up, value_under, Note, no_note}
 use Rattle.proof_number.proofs.search.Search.recall.Goals as goal

@@ -1,9 +1,9 @@
-use Rattle.std.proofs.Common.{rules, ◌≡◌, ◌∙◌, ◌*◌, ◌≤◌, ℕ, sym, ap, arith}
-use Rattle.proof_number.proofs.Common.{is_settled, Tree, numbers_at, threat_tree, HasStepped, IsOverBudget}
+use Rattle.std.proofs.Common.{rules, ◌≡◌, ◌∙◌, ℕ, sym, ap, arith}
+use Rattle.proof_number.proofs.Common.{is_settled, threat_tree, HasEnded, HasStepped}
 use Rattle.strategy_compiler.proofs.Growing.{writes-fails, writes-tells}
 use Rattle.proof_number.proofs.Ending.{begun-room, closed-few, leaves-told, root-noted, steps-write, told-denial, told-lost, told-none}
 use Rattle.proof_number.proofs.Ending.{told-proved, told-tree, told-win, told-disproved}
-use Rattle.proof_number.proofs.StepLaws.{on-done, on-spent, searched-tree}
+use Rattle.proof_number.proofs.StepLaws.{aim-then, on-done, on-spent, searched-tree}
 use Rattle.proof_number.proofs.Opening.{searching-facts}
 use Rattle.proof_number.proofs.RunningOut.{out-aim, so-far-tree, tree-aim}
 use Rattle.proof_number.proofs.search.Search.run.Goals as goal
@@ -49,7 +49,7 @@ loop-self-preserved g c =
     let inv = c.loop-self.invariant in
     let step = c.in_ok-step.ensures.step in
     let came = on-done c.in_ok-step.field-0 (HasStepped g.R.Rule.KIND c.step.new.self c.loop-self.tree c.step.new.tree c.step.new.compiler)
-    (IsOverBudget g.R.Rule.KIND c.loop-self.self c.loop-self.tree c.step.new.tree) (Unit {0}) c.in-Done.is step.came in
+    (HasEnded g.R.Rule.KIND c.loop-self.self c.step.new.self c.step.new.tree c.step.new.compiler) (Unit {0}) c.in-Done.is step.came in
     let longer = step.longer in
     let before = inv.longer in
     record {
@@ -70,7 +70,7 @@ pub loop-self-smaller : goal.loop-self-smaller
 loop-self-smaller g c =
     let step = c.in_ok-step.ensures.step in
     let came = on-done c.in_ok-step.field-0 (HasStepped g.R.Rule.KIND c.step.new.self c.loop-self.tree c.step.new.tree c.step.new.compiler)
-    (IsOverBudget g.R.Rule.KIND c.loop-self.self c.loop-self.tree c.step.new.tree) (Unit {0}) c.in-Done.is step.came in
+    (HasEnded g.R.Rule.KIND c.loop-self.self c.step.new.self c.step.new.tree c.step.new.compiler) (Unit {0}) c.in-Done.is step.came in
     let more = came.progress in
     let few = closed-few came.searching in
     let same = step.aim.budget in
@@ -103,9 +103,10 @@ returns-in-Spent-clause-told g c =
     let inv = c.loop-self.invariant in
     let step = c.in_ok-step.ensures.step in
     let came = on-spent c.in_ok-step.field-0 (HasStepped rule c.step.new.self c.loop-self.tree c.step.new.tree c.step.new.compiler)
-    (IsOverBudget rule c.loop-self.self c.loop-self.tree c.step.new.tree) (Unit {0}) c.in-Spent.is step.came in
+    (HasEnded rule c.loop-self.self c.step.new.self c.step.new.tree c.step.new.compiler) (Unit {0}) c.in-Spent.is step.came in
     let longer = step.longer in
     let before = inv.longer in
+    let aim = aim-then s c.loop-self.self c.step.new.self inv.aim step.aim in
     let positions : threat_tree rule c.loop-self.self.depth c.loop-self.self.root ≡ threat_tree rule s.depth s.root =
     ap (λ (n : ℕ). threat_tree rule n c.loop-self.self.root) inv.aim.depth ∙ ap (threat_tree rule s.depth) inv.aim.root in
     let budget = inv.aim.budget in
@@ -113,14 +114,13 @@ returns-in-Spent-clause-told g c =
     record {
       true_answer = (
         omega (arith, spent, positions, budget),
-        rw came.same (out-aim inv.aim came.ran_out),
+        out-aim inv.aim came.ran_out,
       );
-      root = ap (λ (t : Tree). is_settled (numbers_at t.numbers 0)) came.same ∙ ap is_settled (sym c.numbers.ensures.numbers)
-          ∙ sym c.is_settled.ensures.settled ∙ c.loop-self-test.true;
+      root = came.ran_out.undecided;
       leaves = leaves-told g.R.Rule.KIND c.args.self.now c.requires.begins.new.before_is step.tree (omega (arith, longer, before))
-          (rw came.same (told-tree inv.searching s.depth s.budget s.root inv.aim.depth inv.aim.budget inv.aim.root))
+          (told-tree came.searching s.depth s.budget s.root aim.depth aim.budget aim.root)
           (writes-tells _ _ _ _ c.in_ok-step.field-0 _ (steps-write rule inv.aim inv.writes step.writes) (omega arith));
-      searched = rw came.same (tree-aim inv.aim (so-far-tree (searching-facts inv.searching)));
+      searched = tree-aim aim (so-far-tree (searching-facts came.searching));
     }
 
 pub returns-in-Spent-clause-same : goal.returns-in-Spent-clause-same

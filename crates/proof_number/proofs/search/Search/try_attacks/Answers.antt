@@ -1,4 +1,4 @@
-use Rattle.std.proofs.Common.{rules, ◌≡◌, ◌∙◌, sym, ap}
+use Rattle.std.proofs.Common.{rules, ◌∙◌, sym, ap}
 use Rattle.threat_game.specs.Attacks.{tried_moves}
 use Rattle.proof_number.proofs.Steps.{attack-no_five, board-stands, leaf-board, tried-on-board, writes-no_memory}
 use Rattle.proof_number.proofs.search.Search.try_attacks.Goals as goal

@@ -1,6 +1,7 @@
 use Rattle.std.proofs.Common.{rules, ◌≡◌, ◌+◌, ℕ, ap, subst, arith}
 use Rattle.proof_number.proofs.Common.{Grid, answer_nodes, GrowsBy, note_at}
-use Rattle.proof_number.proofs.Steps.{attack-moves, leaf-is, leaf-noted, root-open, attacked-few, counted-step, double-fits, double-room}
+use Rattle.proof_number.proofs.Steps.{attack-moves, leaf-childless, leaf-inside, leaf-noted, attacked-few, counted-step, double-fits}
+use Rattle.proof_number.proofs.Steps.{double-room}
 use Rattle.proof_number.proofs.Steps.{spent-there, double-won, win-few, writes-none}
 use Rattle.proof_number.proofs.WinLaws.{answers-few}
 use Rattle.strategy_compiler.proofs.Growing.{writes-fails, writes-tells}
@@ -30,11 +31,11 @@ returns-in_err-win-clause-tried g c =
           c.answers_of.ensures.same c.answers_of.ensures.nodes c.requires.double (omega (arith, within))) (search rules);
     }
 
-pub settle_won-requires-clause-open : goal.settle_won-requires-clause-open
-settle_won-requires-clause-open g c = root-open c.requires.at_leaf
+pub settle_won-requires-clause-in_tree : goal.settle_won-requires-clause-in_tree
+settle_won-requires-clause-in_tree g c = leaf-inside c.requires.at_leaf
 
-pub settle_won-requires-clause-leaf : goal.settle_won-requires-clause-leaf
-settle_won-requires-clause-leaf g c = leaf-is c.requires.at_leaf
+pub settle_won-requires-clause-childless : goal.settle_won-requires-clause-childless
+settle_won-requires-clause-childless g c = leaf-childless c.requires.at_leaf
 
 pub settle_won-requires-clause-noted : goal.settle_won-requires-clause-noted
 settle_won-requires-clause-noted g c = leaf-noted c.requires.at_leaf

@@ -1,6 +1,7 @@
 use Rattle.std.proofs.Common.{rules, ◌≡◌, ◌∙◌, ◌+◌, ℕ, ap, arith}
 use Rattle.proof_number.specs.Notes.{note_at}
-use Rattle.proof_number.proofs.Steps.{attack-moves, leaf-budget, leaf-is, leaf-lawful, leaf-noted, root-open, counted-step, last-room}
+use Rattle.proof_number.proofs.Steps.{attack-moves, leaf-budget, leaf-childless, leaf-inside, leaf-lawful, leaf-noted, counted-step}
+use Rattle.proof_number.proofs.Steps.{last-room}
 use Rattle.proof_number.proofs.Steps.{last-won, win-few}
 use Rattle.threat_game.proofs.TreeLaws.{tree-positive}
 use Rattle.strategy_compiler.proofs.Growing.{writes-fails, writes-tells}
@@ -15,11 +16,11 @@ returns-in_err-win g c = record {
   };
 }
 
-pub settle_won-requires-clause-open : goal.settle_won-requires-clause-open
-settle_won-requires-clause-open g c = root-open c.requires.at_leaf
+pub settle_won-requires-clause-in_tree : goal.settle_won-requires-clause-in_tree
+settle_won-requires-clause-in_tree g c = leaf-inside c.requires.at_leaf
 
-pub settle_won-requires-clause-leaf : goal.settle_won-requires-clause-leaf
-settle_won-requires-clause-leaf g c = leaf-is c.requires.at_leaf
+pub settle_won-requires-clause-childless : goal.settle_won-requires-clause-childless
+settle_won-requires-clause-childless g c = leaf-childless c.requires.at_leaf
 
 pub settle_won-requires-clause-noted : goal.settle_won-requires-clause-noted
 settle_won-requires-clause-noted g c = leaf-noted c.requires.at_leaf
