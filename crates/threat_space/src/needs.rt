@@ -11,8 +11,8 @@ ghost use Rattle.threat_space.specs.Lines.{HasPairsAfter};
 ghost use Rattle.threat_space.specs.Barren.{HasLastGain, IsNearAfter, CannotEnd, HasNoFinal};
 
 use crate::boards::{played, without};
-use crate::pairs::{has_point, may_make_pairs};
-use row_shapes::{Rule, has_five, is_five_point};
+use crate::pairs::{has_point, pair_points};
+use row_shapes::{Rule, is_five_point};
 use std::alloc::AllocError;
 use stone_board::{Board, Point, Side};
 use threat_moves::{Threat, is_double_point, is_new_double_point, is_threat};
@@ -52,14 +52,14 @@ pub(crate) fn finals_of<R: Rule>(
     ensures barren { IfOk result (λ found. found.barren ≡ true → HasNoFinal R.KIND side board.old threats.now) }
     ensures same { board.new ≡ board.old }
 {
-    let some_five = has_five::<R>(board, side);
+    let may_make = pair_points::<R>(board, side);
     let ends = Ends {
-        some_five,
-        last_gain: last_gain::<R>(board, side, threats, some_five, far),
+        some_five: may_make.some_five,
+        last_gain: last_gain::<R>(board, side, threats, may_make.some_five, far),
         far,
     };
     let mut barren = true;
-    for p in may_make_pairs::<R>(board, side, some_five).points(board) {
+    for p in may_make.points.points(board) {
         if can_end::<R>(board, side, p, &ends) {
             barren = false;
             if all_needed::<R>(start, side, threats, p)? {

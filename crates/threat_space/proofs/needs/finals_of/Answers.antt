@@ -8,8 +8,8 @@ loop-p-init g c =
     let points = c.into_iter-p-iterator.ensures.into_iter_gives ∙ c.points-p-items.ensures.points in
     record {
       same = refl;
-      first = first-among _ _ _ _ _ _ _ c.requires.played c.may_make_pairs.ensures.pairs points;
-      none = λ barren start us alike is. first-among _ _ _ _ _ _ _ is c.may_make_pairs.ensures.pairs points;
+      first = first-among _ _ _ _ _ _ _ c.requires.played c.pair_points-may_make.ensures.pairs points;
+      none = λ barren start us alike is. first-among _ _ _ _ _ _ _ is c.pair_points-may_make.ensures.pairs points;
     }
 
 pub returns-then-branch-clause-least : goal.returns-then-branch-clause-least

@@ -9,4 +9,4 @@ loop-p-init g c =
     c.new-found.ensures.empty
     ∙ ap (filter (may_make_two g.R.Rule.KIND c.args.board.now c.args.side))
     (c.into_iter-p-iterator.ensures.into_iter_gives ∙ c.points-p-items.ensures.points)
-    ∙ filter-among _ _ c.may_make_pairs.ensures.pairs _
+    ∙ filter-among _ _ c.pair_points-may_make.ensures.pairs _
