@@ -11,6 +11,7 @@ ghost use Rattle.brain_session.specs.Kept.{IsFound};
 use crate::{OWN_MOVES, OWN_POSITIONS};
 use foul_judge::Position;
 use four_search::{FourTable, fewest_win};
+use line_tables::LineTables;
 use row_shapes::Rule;
 use std::alloc::{AllocError, Global};
 use stone_board::Board;
@@ -24,7 +25,8 @@ pub(crate) fn own_win<R: Rule>(
     requires lawful { IsPosition R.KIND board.now }
     ensures found { IfOk result (IsFound R.KIND board.now) }
 {
-    let mut position = Position::<R>::new(board.copy()?);
-    let found = fewest_win::<R, Position<R>>(alloc, &mut position, OWN_MOVES, OWN_POSITIONS)?;
+    let position = Position::<R>::new(board.copy()?);
+    let mut view = LineTables::over(alloc, position);
+    let found = fewest_win::<R, LineTables<R>>(alloc, &mut view, OWN_MOVES, OWN_POSITIONS)?;
     Ok(found.win())
 }
