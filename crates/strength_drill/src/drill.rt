@@ -16,6 +16,7 @@ use crate::positions::{SIDE, drawn_position, rule_at};
 use brain_session::BRAIN_WORK;
 use foul_judge::Position;
 use four_search::{FewestWin, FourTable, fewest_win};
+use line_tables::LineTables;
 use row_shapes::{Rule, RuleKind, under_rule};
 use std::alloc::{AllocError, Global};
 use strategy_checker::{Held, HeldError};
@@ -58,9 +59,10 @@ fn share_under<R: Rule>(alloc: Global, draws: &mut Draws) -> Result<Counts, Allo
     ensures share { IfOk result (λ c. IsShare R.KIND draws.old.number c draws.new.number) }
     ensures within { IfOk result (AreWithin 1) }
 {
-    let mut position = drawn_position::<R>(alloc, draws)?;
-    let found = fewest_win::<R, Position<R>>(alloc, &mut position, DEPTH, BUDGET)?;
-    share_found(alloc, position, found, draws)
+    let position = drawn_position::<R>(alloc, draws)?;
+    let mut view = LineTables::over(alloc, position);
+    let found = fewest_win::<R, LineTables<R>>(alloc, &mut view, DEPTH, BUDGET)?;
+    share_found(alloc, view.into_position(), found, draws)
 }
 
 /// What the position adds to the counts, where this is found.
