@@ -96,7 +96,7 @@ def liked(ask, held, by, table):
     node = like.nodes[place]
     like.nodes[place] = Node(node.attack, False, node.rest, [])
     Path(folder, "bare.txt").write_text(like.text())
-    words = ["--jobs", "1", "--deeper", "1", "--most", "100000", "--like", "bare.txt"]
+    words = ["--jobs", "1", "--deeper", "1", "--most", "20000", "--like", "bare.txt"]
     status, _, errors = ask(*words, "bare", "2,3", "-", text=QUIET, env=by("late"))
     is_told = f"5,0 (f9) is taken apart by {spelled(node.attack)} ({named(node.attack, 9)})\n" in errors
     expect("openings.py: a part that is refused", (status, "5,0 like-1-5,0 4 " in tried("bare"), is_told), (0, True, True))
@@ -105,7 +105,7 @@ def liked(ask, held, by, table):
     Path(folder, "bad.txt").write_text(like.text())
     status, _, errors = ask(*words[:-1], "bad.txt", "bad", "2,3", "-", text=QUIET, env=by("spent"))
     expect("openings.py: a first move that is none", (status, "5,0 (f9) is taken apart by 8,0 (i9)\n" in errors), (5, True))
-    expect("openings.py: it is given up", tried("bad/deeper/5,0-8,0").count("quiet-40-100000 5"), 3)
+    expect("openings.py: it is given up", tried("bad/deeper/5,0-8,0").count("quiet-40-20000 5"), 3)
     Path(folder, "start.txt").write_text(FOUR_AND_REPLY)
     Path(folder, "two.txt").write_text(TABLE)
     for name, words, said in [
@@ -140,7 +140,7 @@ def opened(ask, held, by, covered, begun):
     folder = held("few/replies")[left[0]].parent
     subprocess.run(["sh", "-c", "\n".join(lines)], cwd=folder.parents[1], timeout=SECONDS)
     # The first attack of a table falls on a stone, and one line didn't come to its end.
-    spoilt, empty = folder / f"{left[0]}.12.100000.answer", folder / f"{left[1]}.1.1.answer"
+    spoilt, empty = folder / f"{left[0]}.12.20000.answer", folder / f"{left[1]}.1.1.answer"
     spoilt.write_text(re.sub(r"\n\d+,\d+( .*\n)$", r"\n2,3\1", spoilt.read_text()))
     empty.write_text("")
     status, told, errors = ask("--cover", "few")

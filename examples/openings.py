@@ -58,8 +58,8 @@ from solving import DEPTHS, NODES, SECONDS_OF_SILENCE, Clock, add_jobs, ranged
 HEAD = re.compile(r"renju-opening 1\nattack (\d+,\d+)\n")
 # The most files that `renju join` and `cover` take, and the most arrivals that `check` and `cover` take.
 MOST_FILES, MOST_ARRIVALS = 1_000, 1_000_000_000_000
-# How many tables are tried at a reply each time, and with how many arrivals.
-TRIES, FEW_ARRIVALS = 8, 10_000_000_000
+# How many tables that have served are tried at a reply each time, and how many others, and with how many arrivals.
+TRIES, OTHERS, FEW_ARRIVALS = 8, 3, 10_000_000_000
 TIMES = 10
 # How many attacks are tried at a reply that is left, before a search with more nodes and in the end, and by how many of them it is taken
 # apart in turn.
@@ -208,7 +208,8 @@ class Opening:
         """The replies whose tables are to be tried at this one: those that served most before, and then near ones."""
         with self.lock:
             found = sorted(self.found, key=lambda it: (-self.uses[it], apart(it, reply), it))
-        return [it for it in found if not self.is_lost(reply, f"table-{spelled(it)}")][:TRIES]
+        left = [it for it in found if not self.is_lost(reply, f"table-{spelled(it)}")]
+        return [*[it for it in left if self.uses[it]][:TRIES], *[it for it in left if not self.uses[it]][:OTHERS]]
 
     def fit(self, reply, attacks):
         """The attacks that leave something to take apart after a reply, each once."""
@@ -533,7 +534,7 @@ def memory_of(given):
 def main():
     words = argparse.ArgumentParser(description=__doc__, formatter_class=argparse.RawDescriptionHelpFormatter)
     words.add_argument("--depth", type=ranged(*DEPTHS, "DEPTH"), default=40, metavar="D", help="the most moves after a reply; 40")
-    words.add_argument("--nodes", type=ranged(*NODES, "NODES"), default=100_000, metavar="N", help="NODES at first; 100,000")
+    words.add_argument("--nodes", type=ranged(*NODES, "NODES"), default=20_000, metavar="N", help="NODES at first; 20,000")
     words.add_argument("--most", type=ranged(*NODES, "NODES"), default=1_000_000, metavar="M", help="the most of NODES; 1,000,000")
     words.add_argument("--like", action="append", default=[], metavar="FILE", help="a table of a like opening")
     words.add_argument("--deeper", type=ranged(0, 10, "LEVELS"), default=0, metavar="L", help="levels below; 0")
