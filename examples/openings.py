@@ -50,7 +50,7 @@ sys.dont_write_bytecode = True
 from boards import ENDING, PROGRAM, Table, Wrong, answered, asked, bytes_of, end_runs, numbers, other, read_file, saying, spelled, tell
 from foul import an
 from outputs import replace
-from parts import answer
+from parts import part
 from position import EXCHANGING, IMAGES, image, points, rule_of, size_of, understood
 from solutions import all_of, both
 from solving import DEPTHS, NODES, SECONDS_OF_SILENCE, Clock, add_jobs, ranged
@@ -164,13 +164,12 @@ class Opening:
                 replace(self.folder / "like" / f"{number}.txt", table.text())
 
     def alike(self, reply):
-        """The parts of like tables for a reply, each with what is told of it in tried.txt."""
-        after = self.after.after(reply)
+        """The parts of like tables for a reply: what is told of each in tried.txt, its table, and its root there."""
         for number, table in self.like.items():
             for it in meant(reply, self.after, table.position.after(self.attack)):
-                part = answer(table, it, after)
-                if part:
-                    yield f"like-{number}-{spelled(it)}", part
+                place = table.root().answer(it)
+                if place is not None:
+                    yield f"like-{number}-{spelled(it)}", table, place
 
     def path(self, kind, reply):
         return self.folder / kind / f"{spelled(reply)}.txt"
@@ -219,7 +218,7 @@ class Opening:
 
     def hints(self, reply):
         """The first moves of the parts of like tables for a reply."""
-        return self.fit(reply, [part.root().attack for _, part in self.alike(reply)])
+        return self.fit(reply, [table.nodes[place].attack for _, table, place in self.alike(reply)])
 
     def attacks(self, reply):
         """By which attacks a reply may be taken apart: what keeps the other side from a five, or else the first moves of tables, those
@@ -248,7 +247,8 @@ class Opening:
         found = Opening(folder)
         others = sorted(self.found, key=lambda it: (-self.uses[it], apart(it, reply), it))
         others = [self.path("tables", it) for it in others if first_move(self.path("tables", it)) == attack][:LIKES]
-        parts = [part for _, part in self.alike(reply) if part.root().attack == attack]
+        alike = [it for it in self.alike(reply) if it[1].nodes[it[2]].attack == attack]
+        parts = [part(table, place, self.after.after(reply)) for _, table, place in alike]
         found.add_like([*parts, *map(read_file, others)])
         return found
 
@@ -371,8 +371,9 @@ class Work:
     def serve(self, reply):
         """Tries the parts of like tables at a reply, and the tables found so far. It says whether one is accepted there."""
         opening = self.opening
-        for what, part in opening.alike(reply):
-            if not opening.is_lost(reply, what) and self.is_accepted(reply, what, "tables", part.text()):
+        after = opening.after.after(reply)
+        for what, table, place in opening.alike(reply):
+            if not opening.is_lost(reply, what) and self.is_accepted(reply, what, "tables", part(table, place, after).text()):
                 return True
         for source in opening.sources(reply):
             text = opening.under(reply, opening.path("tables", source).read_text())

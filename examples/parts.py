@@ -15,15 +15,12 @@ from boards import Position, Table, Wrong, bytes_of, named, reached, read, sayin
 from position import points
 
 
-def answer(table, reply, position):
-    """What a table answers to a reply, as a table of a position, or None where it answers nothing."""
-    place = table.root().answer(reply)
-    if place is None:
-        return None
+def part(table, place, position):
+    """The table of a position whose root is a node of another table."""
     nodes, _ = reached(table.nodes, [place])
-    part = Table(position, 0, nodes)
-    part.moves = part.depths()[-1]
-    return part
+    found = Table(position, 0, nodes)
+    found.moves = found.depths()[-1]
+    return found
 
 
 def after(table, reply):
@@ -32,22 +29,22 @@ def after(table, reply):
     position = (position.after(root.attack) if root.attack else position).after(reply)
     if position.won_at():
         raise Wrong(f"with {spelled(reply)} ({named(reply, position.height)}) the game is over")
-    part = None if root.wins else answer(table, reply, position)
-    if part is None:
+    place = root.answer(reply)
+    if place is None:
         raise Wrong(f"the table answers nothing to {spelled(reply)} ({named(reply, position.height)})")
-    return part
+    return part(table, place, position)
 
 
 def main():
     words = argparse.ArgumentParser(description=__doc__, formatter_class=argparse.RawDescriptionHelpFormatter)
     words.add_argument("file", metavar="FILE"), words.add_argument("replies", nargs="+", metavar="X,Y")
     given = words.parse_args()
-    part = read(bytes_of(given.file))
-    if not isinstance(part, Table):
-        raise Wrong(f"the text is a {'position' if isinstance(part, Position) else 'book'}, and no table")
-    for reply in points(" ".join(given.replies), part.position):
-        part = after(part, reply)
-    sys.stdout.write(part.text())
+    table = read(bytes_of(given.file))
+    if not isinstance(table, Table):
+        raise Wrong(f"the text is a {'position' if isinstance(table, Position) else 'book'}, and no table")
+    for reply in points(" ".join(given.replies), table.position):
+        table = after(table, reply)
+    sys.stdout.write(table.text())
 
 
 if __name__ == "__main__":
