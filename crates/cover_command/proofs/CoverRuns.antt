@@ -17,7 +17,6 @@ use Rattle.strategy_graph.proofs.Soundness.{accepted-wins}
 use Rattle.position_files.specs.declared.TableFile.{TableFile}
 use Rattle.position_files.specs.declared.PositionFile.{PositionFile}
 use Rattle.renju_io.specs.Files.{Files}
-use Rattle.renju_io.specs.Told.{Takes}
 use Rattle.reply_cover.specs.Covers.{cover_of}
 use Rattle.reply_cover.specs.Laws.{CoverWins, IsWonPart}
 use Rattle.reply_cover.specs.declared.Part.{Part}
@@ -25,20 +24,18 @@ use Rattle.reply_cover.specs.declared.Cover.{Cover}
 use Rattle.reply_cover.specs.declared.Cover.TheVariants.{Covered, Open}
 use Rattle.reply_cover.proofs.CoverLaws.{covers-exact, covers-win, won-boards}
 use Rattle.command_base.specs.declared.status.Status.{Status}
-use Rattle.command_base.specs.declared.status.Status.TheVariants.{Done, NotFound, RefusedText, RefusedTable, ShelfFault, Spent, TooLong}
+use Rattle.command_base.specs.declared.status.Status.TheVariants.{Done, NotFound}
 use Rattle.command_base.specs.Statuses.{status_number}
-use Rattle.command_base.specs.Runs.{Change, Run, IsDelivered, IsUnbegun}
-use Rattle.command_base.specs.Told.{AnswersTold, EndsTold, IsYielded}
-use Rattle.command_base.specs.Positions.{SaysOfPosition, of_position}
-use Rattle.command_base.proofs.ToldLaws.{IsWhole, answers-by, by-end, every-told, given-told, where-told}
-use Rattle.command_base.proofs.PositionLaws.{said-of-position}
-use Rattle.file_loading.specs.TableFiles.{IsRefusedTable, IsSpentWork}
-use Rattle.file_loading.specs.HeldFiles.{IsUnheld, IsUnhinderedShelf, TableFileSays}
+use Rattle.command_base.specs.Runs.{Run}
+use Rattle.command_base.specs.Told.{AnswersTold}
+use Rattle.command_base.specs.Positions.{of_position}
+use Rattle.command_base.proofs.ToldLaws.{where-told}
+use Rattle.file_loading.specs.HeldFiles.{IsUnhinderedShelf}
 use Rattle.file_loading.specs.ManyFiles.{AreTableFiles}
-use Rattle.file_loading.proofs.ManyFileLaws.{fit-not_refused, same-files}
+use Rattle.file_loading.proofs.FileRunLaws.{Speaks, files-answer, files-shown, shows-then}
 use Rattle.cover_command.specs.PartFiles.{part_by, parts_of}
-use Rattle.cover_command.specs.Covers.{AttackLacks, AttackSays, CoverLacks, CoverSays, CoversByFiles, IsCoverRun, IsCoverShown}
-use Rattle.cover_command.specs.Covers.{IsToldCover, IsWonAsTold, TellsOpen, TellsPart, cover_line, covers_command}
+use Rattle.cover_command.specs.Covers.{AttackLacks, AttackSays, CoverLacks, CoverSays, IsCoverRun, IsCoverShown}
+use Rattle.cover_command.specs.Covers.{IsToldCover, IsWonAsTold, TellsOpen, cover_line, covers_command}
 
 -- ---- what is kept of accepted tables
 
@@ -136,123 +133,25 @@ said-answers attack parts file status text said = by-attack attack said where
   by-attack None told = by-cover 0 _ told
   by-attack (Some p) told = by-outcome p _ told
 
--- ---- answers
-
-module _ (work : ℕ) (attack : Option Point) (names : List (List ℕ)) (run : Run) (files : List TableFile)
-    (free : IsUnhinderedShelf (λ shelf. AreTableFiles work (Some shelf) names files) run) where
-  told-of : (P : Option Files → Type 0) → P run.shelf.before → P (Some free.files)
-  told-of P h = subst P free.told h
-
-  -- the files of the run are those that fit
-  by-files : (by : CoversByFiles work attack names run)
-      → EndsTold (SaysOfPosition (CoverSays attack (parts_of files))) run.input run.output run.status
-  by-files by =
-      let same = same-files work free.files names files by.files free.fit (told-of (λ shelf. AreTableFiles work shelf names by.files)
-      by.accepted) in
-      subst (λ (fs : List TableFile). EndsTold (SaysOfPosition (CoverSays attack (parts_of fs))) run.input run.output run.status) same
-      by.ends
-
-  answers-end : CoversByFiles work attack names run ⊎ TellsPart work names run ⊎ IsUnbegun run.input run.output run.status
-      → AnswersTold (of_position (covers_command work attack names files)) run
-  answers-end (inl by) bytes un =
-      answers-by (of_position (covers_command work attack names files)) (λ input can status text says.
-      said-answers attack (parts_of files) can.0 status text
-      (said-of-position (CoverSays attack (parts_of files)) input can.0 can.1 status text says)) run bytes un (by-files by)
-  answers-end (inr (inl tells)) bytes un =
-      absurd (free.shelf_sound (fit-not_refused work names run free.files free.told files free.fit tells.status tells.text tells.why))
-  answers-end (inr (inr unbegun)) bytes un = inr (record { ends = unbegun.ends; silent = unbegun.silent })
+-- ---- answers, and what is shown
 
 pub cover-answers : (work : ℕ) (attack : Option Point) (names : List (List ℕ)) (run : Run) → IsCoverRun work attack names run
     → (files : List TableFile) → IsUnhinderedShelf (λ shelf. AreTableFiles work (Some shelf) names files) run
     → AnswersTold (of_position (covers_command work attack names files)) run
-cover-answers work attack names run is files free = answers-end work attack names run files free is.ends
-
--- ---- what is shown
-
--- the number speaks of a cover
-abbrev pub Speaks : ℕ → Type 0
-Speaks n = (n ≡ status_number Done) ⊎ (n ≡ status_number NotFound)
-
-pub silent-by : (status told : Status) → status ≡ told → (Speaks (status_number told) → ⊥) → Speaks (status_number status) → ⊥
-silent-by status told is silent speaks = silent (subst (λ (s : Status). Speaks (status_number s)) is speaks)
-
--- what is told of a file that is not accepted speaks of none
-part-silent : (work : ℕ) (bytes : List ℕ) (status : Status) (text : List ℕ) → TableFileSays work bytes status text
-    → Speaks (status_number status) → ⊥
-part-silent work bytes status text (inl refused) = silent-by status RefusedText refused.ends (λ s. grind arith)
-part-silent work bytes status text (inr said) = by-verdict said.2 where
-  by-verdict : IsRefusedTable said.0 status text ⊎ IsSpentWork work said.0 status text → Speaks (status_number status) → ⊥
-  by-verdict (inl refused) = silent-by status RefusedTable refused.ends (λ s. grind arith)
-  by-verdict (inr spent) = silent-by status Spent spent.ends (λ s. grind arith)
-
-pub unheld-silent : (work : ℕ) (shelf : Change (Option Files)) (name : List ℕ) (status : Status) (text : List ℕ)
-    → IsUnheld (TableFileSays work) shelf name status text → Speaks (status_number status) → ⊥
-unheld-silent work shelf name status text (inl refused) = part-silent work refused.bytes status text refused.says
-unheld-silent work shelf name status text (inr (inl long)) = silent-by status TooLong long.ends (λ s. grind arith)
-unheld-silent work shelf name status text (inr (inr fault)) = silent-by status ShelfFault fault.ends (λ s. grind arith)
-
-pub delivered-silent : (status : Status) (text : List ℕ) (output : Change (Option (List ℕ))) (number : ℕ)
-    → (Speaks (status_number status) → ⊥) → IsDelivered status text output number → Speaks number → ⊥
-delivered-silent status text output number silent (inl whole) = subst (λ (n : ℕ). Speaks n → ⊥) (sym whole.0) silent
-delivered-silent status text output number silent (inr failed) = subst (λ (n : ℕ). Speaks n → ⊥) (sym failed.0) (λ s. grind arith)
-
--- nor does a status that stands in place of others
-pub yields-silent : (n : ℕ) → IsYielded n → Speaks n → ⊥
-yields-silent n yielded speaks = grind arith
-
-module _ (work : ℕ) (attack : Option Point) (names : List (List ℕ)) (run : Run) (shelf : Files)
-    (told : run.shelf.before ≡ Some shelf) where
-  -- nothing is shown where the status speaks of no cover
-  silent-shown : (Speaks run.status → ⊥) → (input : List ℕ) → IsCoverShown work attack names shelf input run
-  silent-shown silent input =
-      record { covered = λ done. absurd (silent (inl done)); lacking = λ lacks. absurd (silent (inr lacks)) }
-
-  by-says : (by : CoversByFiles work attack names run) (bytes : List ℕ) (status : Status) (text : List ℕ)
-      → run.status ≡ status_number status → Takes run.output.before text run.output.after
-      → SaysOfPosition (CoverSays attack (parts_of by.files)) bytes status text → IsCoverShown work attack names shelf bytes run
-  by-says by bytes status text ends whole (inl refused) = silent-shown (λ speaks.
-      silent-by status RefusedText refused.ends (λ s. grind arith) (subst Speaks ends speaks)) bytes
-  by-says by bytes status text ends whole (inr said) =
-      let accepted = subst (λ (o : Option Files). AreTableFiles work o names by.files) told by.accepted in
-      let won = kept-won work (Some shelf) names by.files accepted in
-      let board = said.1.lawful.board in
-      record {
-        covered = λ done. record {
-          files = by.files;
-          accepted = accepted;
-          position = said.0;
-          at = said.1;
-          text = text;
-          whole = whole;
-          holds = said-won by.files won said.0 board status text attack (sym ends ∙ done) said.2;
-        };
-        lacking = λ lacks. record {
-          files = by.files;
-          accepted = accepted;
-          position = said.0;
-          at = said.1;
-          text = text;
-          whole = whole;
-          holds = said-lacks by.files won said.0 board status text attack (sym ends ∙ lacks) said.2;
-        };
-      }
-
-  shown-by : CoversByFiles work attack names run ⊎ TellsPart work names run ⊎ IsUnbegun run.input run.output run.status
-      → IfSome run.input.before (λ input. IsCoverShown work attack names shelf input run)
-  shown-by (inl by) = by-ends (by-end (SaysOfPosition (CoverSays attack (parts_of by.files))) run by.ends) where
-    by-ends : IsWhole (SaysOfPosition (CoverSays attack (parts_of by.files))) run ⊎ IsYielded run.status
-        → IfSome run.input.before (λ input. IsCoverShown work attack names shelf input run)
-    by-ends (inl w) = given-told (λ input. IsCoverShown work attack names shelf input run) run.input.before w.bytes w.given
-        (by-says by w.bytes w.status w.text w.ends w.whole w.says)
-    by-ends (inr yielded) = every-told (λ input. IsCoverShown work attack names shelf input run) run.input.before
-        (silent-shown (yields-silent run.status yielded))
-  shown-by (inr (inl tells)) = every-told (λ input. IsCoverShown work attack names shelf input run) run.input.before
-      (silent-shown (delivered-silent tells.status tells.text run.output run.status
-      (unheld-silent work run.shelf tells.why.stop.name tells.status tells.why.line tells.why.why) tells.delivered))
-  shown-by (inr (inr unbegun)) = every-told (λ input. IsCoverShown work attack names shelf input run) run.input.before
-      (silent-shown (subst (λ (n : ℕ). Speaks n → ⊥) (sym unbegun.ends) (λ s. grind arith)))
+cover-answers work attack names run is files free =
+    files-answer (covers_command work attack names)
+    (λ fs file status text says. said-answers attack (parts_of fs) file status text says) work names run files free is
 
 -- what statuses 0 and 9 of `cover` show
 pub cover-shown : (work : ℕ) (attack : Option Point) (names : List (List ℕ)) (run : Run) → IsCoverRun work attack names run
     → IfSome run.shelf.before (λ shelf. IfSome run.input.before (λ input. IsCoverShown work attack names shelf input run))
-cover-shown work attack names run is = where-told run.shelf.before (λ shelf told. shown-by work attack names run shelf told is.ends)
+cover-shown work attack names run is = where-told run.shelf.before (λ shelf told. where-told run.input.before (λ input given.
+    let shown = λ (speaks : Speaks run.status). files-shown _ work names run shelf told input given speaks is in
+    record {
+      covered = λ done. shows-then _ _ work names shelf input run (λ files file text accepted at said.
+          said-won files (kept-won work (Some shelf) names files accepted) file at.lawful.board said.0 text attack
+          (sym said.1 ∙ done) said.2) (shown (inl done));
+      lacking = λ lacks. shows-then _ _ work names shelf input run (λ files file text accepted at said.
+          said-lacks files (kept-won work (Some shelf) names files accepted) file at.lawful.board said.0 text attack
+          (sym said.1 ∙ lacks) said.2) (shown (inr lacks));
+    }))

@@ -7,9 +7,9 @@ use Rattle.renju_io.specs.Files.{Files}
 use Rattle.reply_cover.specs.declared.Part.{Part}
 use Rattle.reply_cover.specs.declared.TheConstants.{MAX_PARTS}
 use Rattle.command_base.specs.Runs.{Change}
+use Rattle.file_loading.specs.ManyFiles.{AreKept}
 use Rattle.file_loading.proofs.ManyFileLaws.{files-count}
 use Rattle.cover_command.specs.PartFiles.{ArePartNames, part_by, parts_of}
-use Rattle.cover_command.specs.Loading.{AreKept}
 
 one-more : (o : Option Part) (parts : List Part) (n : ℕ) → length parts ≤ n → length (cons_option o parts) ≤ suc n
 one-more (Some part) parts n few = omega (arith, few)
@@ -20,8 +20,8 @@ parts-few [] = omega arith
 parts-few (f ∷ files) = one-more (part_by f.root f) (parts_of files) (length files) (parts-few files)
 
 -- no more is kept than there are names
-pub kept-few : (work : ℕ) (names : List (List ℕ)) (shelf : Change (Option Files)) (parts : List Part) → AreKept work names shelf parts
-    → ArePartNames names → length parts ≤ MAX_PARTS
+pub kept-few : (work : ℕ) (names : List (List ℕ)) (shelf : Change (Option Files)) (parts : List Part)
+    → AreKept (λ files. parts ≡ parts_of files) work names shelf → ArePartNames names → length parts ≤ MAX_PARTS
 kept-few work names shelf parts h are =
     let size = ap length h.kept in
     let few = parts-few h.files in

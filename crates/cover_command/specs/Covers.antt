@@ -1,5 +1,5 @@
 -- The command `cover`: its words, what it says of a position, what it does in a run, and what its runs show.
-use Rattle.std.specs.Prelude.{◌≡◌, ◌⊎◌, ℕ, ◌+◌, ◌≤◌, List, [], ◌∷◌, ◌++◌, codes, length, Option, Some, None, IfSome}
+use Rattle.std.specs.Prelude.{◌≡◌, ◌⊎◌, ℕ, ◌+◌, ◌≤◌, List, [], ◌∷◌, ◌++◌, codes, Option, Some, None, IfSome}
 use Rattle.std.specs.Fmt.{decimal}
 use Rattle.game_rules.specs.Grid.{Grid}
 use Rattle.game_rules.specs.Play.{after, outcome}
@@ -16,7 +16,6 @@ use Rattle.game_referee.specs.Verdicts.{verdict}
 use Rattle.game_referee.specs.Lines.{verdict_line}
 use Rattle.position_files.specs.declared.PositionFile.{PositionFile}
 use Rattle.position_files.specs.declared.TableFile.{TableFile}
-use Rattle.renju_io.specs.Told.{Takes}
 use Rattle.renju_io.specs.Files.{Files}
 use Rattle.reply_cover.specs.Covers.{cover_of}
 use Rattle.reply_cover.specs.Laws.{IsFirstOpen}
@@ -26,13 +25,14 @@ use Rattle.reply_cover.specs.declared.Cover.TheVariants.{Covered, Open}
 use Rattle.command_base.specs.declared.status.Status.{Status}
 use Rattle.command_base.specs.declared.status.Status.TheVariants.{Done, NotFound}
 use Rattle.command_base.specs.Statuses.{status_number}
-use Rattle.command_base.specs.Runs.{Run, HasNoFault, IsAskedNoMore, IsDelivered, IsUnasked, IsUnbegun}
+use Rattle.command_base.specs.Runs.{Run}
 use Rattle.command_base.specs.Forms.{Command}
-use Rattle.command_base.specs.Told.{AnswersTold, EndsTold}
-use Rattle.command_base.specs.Positions.{IsPositionAt, PositionCommand, SaysOfPosition, of_position}
+use Rattle.command_base.specs.Told.{AnswersTold}
+use Rattle.command_base.specs.Positions.{PositionCommand, of_position}
 use Rattle.file_loading.specs.HeldFiles.{IsUnhinderedShelf}
 use Rattle.file_loading.specs.declared.TheConstants.{MAX_WORK}
-use Rattle.file_loading.specs.ManyFiles.{AreTableFiles, IsFileRefused}
+use Rattle.file_loading.specs.ManyFiles.{AreTableFiles}
+use Rattle.file_loading.specs.RunsByFiles.{IsRunByFiles, ShowsByFiles}
 use Rattle.cover_command.specs.PartFiles.{ArePartNames, parts_of}
 
 -- the word of the attack: a point, or `-` where there is none
@@ -88,26 +88,9 @@ abbrev pub CoverSays : Option Point → List Part → PositionFile → Status �
 CoverSays None parts file status text = IsToldCover 0 (cover_of file.kind parts file.board) status text
 CoverSays (Some p) parts file status text = AttackSays file.kind parts file.board p (outcome file.kind file.board p) status text
 
--- each file is accepted, and only then the input is read, and said what the tables are to it
-pub record CoversByFiles (work : ℕ) (attack : Option Point) (names : List (List ℕ)) (run : Run) : Type 0 where
-  pub files : List TableFile
-  pub accepted : AreTableFiles work run.shelf.before names files
-  pub sound : HasNoFault run.shelf
-  pub ends : EndsTold (SaysOfPosition (CoverSays attack (parts_of files))) run.input run.output run.status
-
--- a file is not accepted: why is told, and the input is left unasked
-pub record TellsPart (work : ℕ) (names : List (List ℕ)) (run : Run) : Type 0 where
-  pub status : Status
-  pub text : List ℕ
-  pub why : IsFileRefused work names run.shelf status text
-  pub input : IsUnasked run.input
-  pub delivered : IsDelivered status text run.output run.status
-
--- What `cover` does in a run: it asks the shelf no more often than there are files, and says what their tables are to the input, or tells
--- which is not accepted and leaves the input unasked, or memory ran out before.
-pub record IsCoverRun (work : ℕ) (attack : Option Point) (names : List (List ℕ)) (run : Run) : Type 0 where
-  pub each : IsAskedNoMore (length names) run.shelf
-  pub ends : CoversByFiles work attack names run ⊎ TellsPart work names run ⊎ IsUnbegun run.input run.output run.status
+-- what `cover` does in a run: it says what the tables of the files are to the input, once each is accepted
+abbrev pub IsCoverRun : ℕ → Option Point → List (List ℕ) → Run → Type 0
+IsCoverRun work attack names = IsRunByFiles (λ files. CoverSays attack (parts_of files)) work names
 
 -- `cover` as a command that is told a position, once the files are accepted: it answers for each lawful position
 abbrev pub covers_command : ℕ → Option Point → List (List ℕ) → List TableFile → PositionCommand
@@ -152,18 +135,6 @@ abbrev pub CoverLacks : Option Point → List Part → PositionFile → List ℕ
 CoverLacks None parts file text = TellsOpen file.kind parts file.board text
 CoverLacks (Some p) parts file text = AttackLacks file.kind parts file.board p (outcome file.kind file.board p) text
 
--- The files under the names are the texts of accepted tables, the input is that of a lawful position, and the output took this text,
--- whole, of which the fact holds.
-pub record ShowsOfCover (Holds : List TableFile → PositionFile → List ℕ → Type 0) (work : ℕ) (names : List (List ℕ)) (shelf : Files)
-    (input : List ℕ) (run : Run) : Type 0 where
-  pub files : List TableFile
-  pub accepted : AreTableFiles work (Some shelf) names files
-  pub position : PositionFile
-  pub at : IsPositionAt position input
-  pub text : List ℕ
-  pub whole : Takes run.output.before text run.output.after
-  pub holds : Holds files position text
-
 -- a cover is told, and what it claims holds
 abbrev pub IsWonAsTold : Option Point → List TableFile → PositionFile → List ℕ → Type 0
 IsWonAsTold attack files position text =
@@ -172,9 +143,9 @@ IsWonAsTold attack files position text =
 -- What statuses 0 and 9 show: a cover is told, and the position is won so; or what it lacks is told.
 pub record IsCoverShown (work : ℕ) (attack : Option Point) (names : List (List ℕ)) (shelf : Files) (input : List ℕ) (run : Run) :
     Type 0 where
-  pub covered : run.status ≡ status_number Done → ShowsOfCover (IsWonAsTold attack) work names shelf input run
+  pub covered : run.status ≡ status_number Done → ShowsByFiles (IsWonAsTold attack) work names shelf input run
   pub lacking : run.status ≡ status_number NotFound
-      → ShowsOfCover (λ files position text. CoverLacks attack (parts_of files) position text) work names shelf input run
+      → ShowsByFiles (λ files position text. CoverLacks attack (parts_of files) position text) work names shelf input run
 
 -- The headline of `cover`: what its statuses 0 and 9 show, where the shelf tells its files and the input its bytes.
 abbrev pub ShowsCover : Run → Type 0

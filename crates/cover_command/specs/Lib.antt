@@ -1,4 +1,3 @@
--- the files of a cover and what comes of them; the command
+-- the files of a cover and what is kept of them; the command
 pub mod PartFiles
-pub mod Loading
 pub mod Covers

@@ -9,8 +9,9 @@ ghost use Rattle.command_base.specs.Runs.{KeepsDevices, change, program_run};
 ghost use Rattle.cover_command.specs.PartFiles.{ArePartNames};
 ghost use Rattle.cover_command.specs.Covers.{AttackSays, IsCoverRun, IsToldCover, cover_line, no_table_line};
 
-use crate::parts::{Parts, load_parts};
+use crate::parts::Parts;
 use command_base::{Answer, AtPosition, OfPosition, Status, deliver, tell};
+use file_loading::load_files;
 use foul_judge::{Outcome, Position, Seen};
 use game_referee::{judge, write_verdict};
 use renju_io::{Shelf, Sink, Source};
@@ -74,15 +75,16 @@ pub fn cover_with<I: Source, O: Sink, F: Shelf>(
         (program_run words (change I.left I.faults I.asked input.old input.new) (change O.written O.faults O.asked output.old output.new)
         (change F.files F.faults F.asked shelf.old shelf.new) (I.last input.new) (status_number result)) }
 {
-    match load_parts(alloc, covering.names, covering.work, shelf) {
-        Ok(Parts::Kept(parts)) => {
+    let mut parts = Parts::new(alloc);
+    match load_files(alloc, covering.names, covering.work, &mut parts, shelf) {
+        Ok(None) => {
             let command = OfPosition(CoverBy {
                 attack: covering.attack,
-                parts: parts.as_slice(),
+                parts: parts.items.as_slice(),
             });
             tell(alloc, &command, input, output)
         }
-        Ok(Parts::Tells(answer)) => deliver(answer.status, answer.text.as_slice(), output),
+        Ok(Some(answer)) => deliver(answer.status, answer.text.as_slice(), output),
         Err(_) => Status::Memory,
     }
 }

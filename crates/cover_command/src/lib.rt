@@ -1,7 +1,7 @@
 //! The command `cover`: whether a position is won by many tables.
 //!
-//! `parts` loads the tables of the files and keeps of each what a cover needs, `covering` says what they are to the position of the
-//! input, and `words` tells the attack and the names among the words.
+//! `parts` keeps of the table of each file what a cover needs, `covering` says what they are to the position of the input, and `words`
+//! tells the attack and the names among the words.
 #![tactic(auto)]
 
 mod covering;

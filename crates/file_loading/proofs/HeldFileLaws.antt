@@ -132,14 +132,18 @@ loaded-from TableOrBook shelf name bytes given fits (Tells answer) is =
     inl (record { bytes = bytes; loaded = given; fits = fits; says = is })
 
 -- where the status of what is told of a file is that of no fault, the shelf has counted none
+pub unheld-sound : (Says : List ℕ → Status → List ℕ → Type 0) (shelf : Change (Option Files)) (name : List ℕ) (status : Status)
+    (text : List ℕ) → IsUnheld Says shelf name status text → status ≢ ShelfFault → HasNoFault shelf
+unheld-sound Says shelf name status text (inl refused) other = refused.loaded.sound
+unheld-sound Says shelf name status text (inr (inl long)) other = long.loaded.sound
+unheld-sound Says shelf name status text (inr (inr fault)) other = absurd (other fault.ends)
+
 pub told-sound : (Says : List ℕ → Status → List ℕ → Type 0) (shelf : Change (Option Files)) (name : List ℕ) (status : Status)
     (text : List ℕ) (output : Change (Option (List ℕ))) (number : ℕ) → IsUnheld Says shelf name status text
     → IsDelivered status text output number → number ≢ status_number ShelfFault → number ≢ status_number WriteFault → HasNoFault shelf
 told-sound Says shelf name status text output number why (inr part) other whole = absurd (whole part.0)
-told-sound Says shelf name status text output number (inl refused) (inl took) other whole = refused.loaded.sound
-told-sound Says shelf name status text output number (inr (inl long)) (inl took) other whole = long.loaded.sound
-told-sound Says shelf name status text output number (inr (inr fault)) (inl took) other whole =
-    absurd (other (took.0 ∙ ap status_number fault.ends))
+told-sound Says shelf name status text output number why (inl took) other whole =
+    unheld-sound Says shelf name status text why (λ is. other (took.0 ∙ ap status_number is))
 
 module _ (name : List ℕ) (run : Run) (files : Files) (told : run.shelf.before ≡ Some files) where
   pub found-under : (bytes : List ℕ) → IsLoaded run.shelf name bytes → file_under name files ≡ Some bytes

@@ -4,3 +4,4 @@ pub mod TableFileLaws
 pub mod BookFileLaws
 pub mod HeldFileLaws
 pub mod ManyFileLaws
+pub mod FileRunLaws

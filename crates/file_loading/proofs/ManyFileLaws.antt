@@ -1,21 +1,23 @@
 -- Files that are loaded one after another: one of them, those under names, and how far they are accepted.
-use Rattle.std.proofs.Common.{◌≡◌, inl, inr, refl, sym, ap, subst, ◌∙◌, ℕ, zero, suc, ◌<◌, ◌≤◌, ◌+◌, List, [], ◌∷◌, ◌++◌, length, take}
+use Rattle.std.proofs.Common.{◌≡◌, ◌≢◌, inl, inr, refl, sym, ap, subst, ◌∙◌, ℕ, zero, suc, ◌<◌, ◌≤◌, ◌+◌, List, [], ◌∷◌, ◌++◌, length, take}
 use Rattle.std.proofs.Common.{drop, get_or, map, arith, rules, Result, Ok, Err, IfOk, Option, Some}
 use Rattle.std.specs.List.{AllByRecursion}
 use Rattle.std.proofs.lemmas.Option.{same_Some}
-use Rattle.std.proofs.lemmas.List.{length-map, length-take-le, map_more}
+use Rattle.std.proofs.lemmas.List.{length-map, length-take-le, map_more, take_all}
 use Rattle.position_files.specs.declared.TableFile.{TableFile}
 use Rattle.renju_io.specs.Files.{Files}
 use Rattle.renju_io.specs.declared.TheConstants.{MAX_INPUT_BYTES}
 use Rattle.command_base.specs.declared.status.Status.{Status}
+use Rattle.command_base.specs.declared.status.Status.TheVariants.{ShelfFault, WriteFault}
+use Rattle.command_base.specs.Statuses.{status_number}
 use Rattle.command_base.specs.declared.answer.Answer.{Answer}
-use Rattle.command_base.specs.Runs.{Change, Run, HasFailed, HasNoFault}
+use Rattle.command_base.specs.Runs.{Change, Run, HasFailed, HasNoFault, IsDelivered}
 use Rattle.file_loading.proofs.Common.{IsFileName, IsLoaded, IsTableFile, IsUnheld, TableFileSays}
-use Rattle.file_loading.specs.ManyFiles.{AreTableFiles, IsFileRefused, IsFittedFile, IsFittedOf, StopsAt, TellsOfFile, of_file}
+use Rattle.file_loading.specs.ManyFiles.{AreKept, AreLoaded, AreTableFiles, IsFileRefused, IsFittedFile, IsFittedOf, StopsAt, TellsOfFile, of_file}
 use Rattle.file_loading.specs.declared.fitting.Fitted.{Fitted}
 use Rattle.file_loading.specs.declared.fitting.Fitted.TheVariants.{Fits, Tells}
 use Rattle.file_loading.proofs.TableFileLaws.{one-table}
-use Rattle.file_loading.proofs.HeldFileLaws.{not-told, table-not_told}
+use Rattle.file_loading.proofs.HeldFileLaws.{not-told, table-not_told, unheld-sound}
 
 -- ---- one file
 
@@ -144,6 +146,12 @@ module _ {X : Type 0} (f : X → List ℕ) (xs : List X) (i : ℕ) (x : X) (name
   pub names-are : map f xs ≡ map f (take i xs) ++ name ∷ map f (drop (suc i) xs)
   names-are = names-at f xs i x l ∙ ap (λ (w : List ℕ). map f (take i xs) ++ w ∷ map f (drop (suc i) xs)) here
 
+  -- there are as many as words before it
+  pub up-to-count : (shelf : Option Files) (Old : List TableFile → Type 0) (h : AcceptedUpTo work shelf (map f (take i xs)) Old)
+      → length h.files ≡ i
+  up-to-count shelf Old h =
+      files-count work shelf (map f (take i xs)) h.files h.accepted ∙ length-map (take i xs) f ∙ length-take-le i xs (omega arith)
+
   -- one more file is accepted
   pub up-to-more : (shelf : Option Files) (Old New : List TableFile → Type 0) (file : TableFile)
       → AcceptedUpTo work shelf (map f (take i xs)) Old → IsTableFile work shelf name file
@@ -181,3 +189,26 @@ module _ {X : Type 0} (f : X → List ℕ) (xs : List X) (i : ℕ) (x : X) (name
         },
         h.holds,
       )
+
+-- once all are accepted, they are kept
+pub up-to-all : {X : Type 0} (f : X → List ℕ) (xs : List X) (i : ℕ) (work : ℕ) (shelf : Change (Option Files))
+    (Kept : List TableFile → Type 0) → length xs ≤ i → HasNoFault shelf → AcceptedUpTo work shelf.before (map f (take i xs)) Kept
+    → AreKept Kept work (map f xs) shelf
+up-to-all f xs i work shelf Kept l sound h =
+    let all = rw (ap (map f) (take_all i xs l)) at h in
+    record { files = all.files; accepted = all.accepted; sound = sound; kept = all.holds }
+
+-- where nothing is told in place of a file that is accepted, what is told is told of one that is not
+pub unfit-told : (Kept : List TableFile → Type 0) (work : ℕ) (names : List (List ℕ)) (shelf : Change (Option Files)) (answer : Answer)
+    → AreLoaded Kept (λ files file status text. ⊥) work names shelf (Some answer) → IsFileRefused work names shelf answer.status answer.text
+unfit-told Kept work names shelf answer (inl refused) = refused.0
+unfit-told Kept work names shelf answer (inr other) = absurd other.tells
+
+-- where the status of a run is that of no fault, the shelf has counted none
+pub refused-sound : (work : ℕ) (names : List (List ℕ)) (shelf : Change (Option Files)) (status : Status) (text : List ℕ)
+    (output : Change (Option (List ℕ))) (number : ℕ) → IsFileRefused work names shelf status text → IsDelivered status text output number
+    → number ≢ status_number ShelfFault → number ≢ status_number WriteFault → HasNoFault shelf
+refused-sound work names shelf status text output number refused (inr part) other whole = absurd (whole part.0)
+refused-sound work names shelf status text output number refused (inl took) other whole =
+    unheld-sound (TableFileSays work) shelf refused.stop.name status refused.line refused.why
+    (λ is. other (took.0 ∙ ap status_number is))

@@ -1,5 +1,5 @@
 -- Tables of files that are loaded one after another: which are accepted, and what is told of the earliest that is not.
-use Rattle.std.specs.Prelude.{◌≡◌, ◌⊎◌, ℕ, ◌+◌, ◌≤◌, List, [], ◌∷◌, ◌++◌, codes, length, Option}
+use Rattle.std.specs.Prelude.{◌≡◌, ◌⊎◌, ℕ, ◌+◌, ◌≤◌, List, [], ◌∷◌, ◌++◌, codes, length, Option, Some, None}
 use Rattle.std.specs.List.{AllByRecursion}
 use Rattle.std.specs.Fmt.{decimal}
 use Rattle.position_files.specs.declared.TableFile.{TableFile}
@@ -45,6 +45,30 @@ pub record IsFileRefused (work : ℕ) (names : List (List ℕ)) (shelf : Change 
   pub line : List ℕ
   pub why : IsUnheld (TableFileSays work) shelf stop.name status line
   pub told : text ≡ of_file (length stop.before + 1) line
+
+-- the files are accepted, and this holds of what is kept of them
+pub record AreKept (Kept : List TableFile → Type 0) (work : ℕ) (names : List (List ℕ)) (shelf : Change (Option Files)) : Type 0 where
+  pub files : List TableFile
+  pub accepted : AreTableFiles work shelf.before names files
+  pub sound : HasNoFault shelf
+  pub kept : Kept files
+
+-- a file is accepted and not kept, and this is told in place of it; those before it are kept
+pub record IsNotKept (Instead : List TableFile → TableFile → Status → List ℕ → Type 0) (work : ℕ) (names : List (List ℕ))
+    (shelf : Change (Option Files)) (status : Status) (text : List ℕ) : Type 0 where
+  pub stop : StopsAt work names shelf.before
+  pub file : TableFile
+  pub last : IsTableFile work shelf.before stop.name file
+  pub sound : HasNoFault shelf
+  pub tells : Instead stop.files file status text
+
+-- what comes of files that are kept one after another: all are, or what is told of the earliest that is not accepted, or not kept
+abbrev pub AreLoaded : (List TableFile → Type 0) → (List TableFile → TableFile → Status → List ℕ → Type 0) → ℕ → List (List ℕ)
+    → Change (Option Files) → Option Answer → Type 0
+AreLoaded Kept Instead work names shelf None = AreKept Kept work names shelf
+AreLoaded Kept Instead work names shelf (Some answer) =
+    ((refused : IsFileRefused work names shelf answer.status answer.text) × Kept refused.stop.files)
+    ⊎ IsNotKept Instead work names shelf answer.status answer.text
 
 -- ---- what comes of one
 

@@ -1,6 +1,4 @@
 //! A FILE of several: its table is handed on once it is accepted, or it is told why not, after the number of the file.
-//!
-//! `bind` binds what is handed on, and `cover` keeps a part of each. The earliest FILE that is not accepted decides what is told.
 #![tactic(auto)]
 
 ghost use Rattle.std.specs.Prelude.{◌≡◌, ◌↔◌, true, length, map, IfOk, IsTrue, OnErr, string_bytes};
@@ -20,7 +18,7 @@ use strategy_checker::check_root;
 
 /// What comes of a FILE that is not to be held: its table is accepted, or it is told why not.
 #[derive(Drop)]
-pub enum Fitted {
+pub(crate) enum Fitted {
     /// What was read.
     Fits(TableFile),
     /// What is told in place of it.
@@ -44,9 +42,9 @@ pub fn are_file_names(names: &[String], most: usize) -> bool
 
 /// What comes of file `number`, which stands under the name: its table is accepted with at most so many arrivals, or it is told why
 /// not.
-pub fn fit_file<F: Shelf>(
+pub(crate) fn fit_file<F: Shelf>(
     alloc: Global,
-    number: u32,
+    number: usize,
     name: &str,
     work: u64,
     shelf: &mut F,
@@ -71,7 +69,7 @@ pub fn fit_file<F: Shelf>(
 }
 
 /// What comes of the bytes of file `number`.
-fn fit_numbered(alloc: Global, number: u32, bytes: &[u8], work: u64) -> Result<Fitted, AllocError>
+fn fit_numbered(alloc: Global, number: usize, bytes: &[u8], work: u64) -> Result<Fitted, AllocError>
     ensures fitted { IfOk result (IsFittedOf work number bytes.now) }
 {
     match fit_text(alloc, bytes, work)? {

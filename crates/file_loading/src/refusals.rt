@@ -123,7 +123,7 @@ fn front(alloc: Global, number: u32) -> Result<String, AllocError>
 /// The answer with this status that tells this text of file `number`.
 pub(crate) fn of_file(
     alloc: Global,
-    number: u32,
+    number: usize,
     status: Status,
     text: &[u8],
 ) -> Result<Answer, AllocError>

@@ -28,16 +28,17 @@ use Rattle.renju_io.specs.Files.{Files}
 use Rattle.command_base.specs.declared.status.Status.{Status}
 use Rattle.command_base.specs.declared.status.Status.TheVariants.{Done, NotFound, Full}
 use Rattle.command_base.specs.Statuses.{status_number}
-use Rattle.command_base.specs.Runs.{Run, HasNoFault, IsAskedNoMore, IsUnbegun}
+use Rattle.command_base.specs.Runs.{Run}
 use Rattle.command_base.specs.Texts.{full_line}
 use Rattle.command_base.specs.Forms.{Command}
-use Rattle.command_base.specs.Told.{AnswersTold, EndsTold}
-use Rattle.command_base.specs.Positions.{PositionCommand, SaysOfPosition, of_position}
+use Rattle.command_base.specs.Told.{AnswersTold}
+use Rattle.command_base.specs.Positions.{PositionCommand, of_position}
 use Rattle.file_loading.specs.HeldFiles.{IsUnhinderedShelf}
 use Rattle.file_loading.specs.declared.TheConstants.{MAX_WORK}
 use Rattle.file_loading.specs.ManyFiles.{AreTableFiles}
+use Rattle.file_loading.specs.RunsByFiles.{IsRunByFiles, ShowsByFiles}
 use Rattle.cover_command.specs.PartFiles.{ArePartNames}
-use Rattle.cover_command.specs.Covers.{IsJudged, ShowsOfCover, TellsPart}
+use Rattle.cover_command.specs.Covers.{IsJudged}
 use Rattle.join_command.specs.Answering.{AnswersAt, IsOpenReply, IsTableOf, OpenOr}
 use Rattle.join_command.specs.Making.{table_at}
 
@@ -107,18 +108,9 @@ AttackJoins files file p Draws status text = IsJudged file.kind file.board p sta
 abbrev pub JoinSays : Point → List TableFile → PositionFile → Status → List ℕ → Type 0
 JoinSays p files file status text = AttackJoins files file p (outcome file.kind file.board p) status text
 
--- each file is accepted, and only then the input is read, and said what the tables make of it
-pub record JoinsFiles (p : Point) (names : List (List ℕ)) (run : Run) : Type 0 where
-  pub files : List TableFile
-  pub accepted : AreTableFiles MAX_WORK run.shelf.before names files
-  pub sound : HasNoFault run.shelf
-  pub ends : EndsTold (SaysOfPosition (JoinSays p files)) run.input run.output run.status
-
--- What `join` does in a run: it asks the shelf no more often than there are files, and says what their tables make of the input, or tells
--- which is not accepted and leaves the input unasked, or memory ran out before.
-pub record IsJoinRun (p : Point) (names : List (List ℕ)) (run : Run) : Type 0 where
-  pub each : IsAskedNoMore (length names) run.shelf
-  pub ends : JoinsFiles p names run ⊎ TellsPart MAX_WORK names run ⊎ IsUnbegun run.input run.output run.status
+-- what `join` does in a run: it says what the tables of the files make of the input, once each is accepted
+abbrev pub IsJoinRun : Point → List (List ℕ) → Run → Type 0
+IsJoinRun p = IsRunByFiles (JoinSays p) MAX_WORK
 
 -- `join` as a command that is told a position, once the files are accepted: it answers for each lawful position
 abbrev pub joins_command : Point → List (List ℕ) → List TableFile → PositionCommand
@@ -168,8 +160,8 @@ LacksJoin p files file text = JoinLacks p (outcome file.kind file.board p) files
 
 -- What statuses 0 and 9 show: a table is told, by which the side to move wins; or what is lacking is told.
 pub record IsJoinShown (p : Point) (names : List (List ℕ)) (shelf : Files) (input : List ℕ) (run : Run) : Type 0 where
-  pub joined : run.status ≡ status_number Done → ShowsOfCover (IsWonByFiles p) MAX_WORK names shelf input run
-  pub lacking : run.status ≡ status_number NotFound → ShowsOfCover (LacksJoin p) MAX_WORK names shelf input run
+  pub joined : run.status ≡ status_number Done → ShowsByFiles (IsWonByFiles p) MAX_WORK names shelf input run
+  pub lacking : run.status ≡ status_number NotFound → ShowsByFiles (LacksJoin p) MAX_WORK names shelf input run
 
 -- The headline of `join`: what its statuses 0 and 9 show, where the shelf tells its files and the input its bytes.
 abbrev pub ShowsJoin : Run → Type 0

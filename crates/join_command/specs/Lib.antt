@@ -4,5 +4,4 @@ pub mod Asking
 pub mod Adopting
 pub mod Meeting
 pub mod Making
-pub mod Loading
 pub mod Joins

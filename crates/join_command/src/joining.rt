@@ -23,9 +23,9 @@ ghost use Rattle.join_command.specs.Joins.{IsJoinRun, JoinedSays, no_answer_line
 ghost use Rattle.join_command.specs.Making.{IsNodeTold, IsTextOfNode};
 
 use crate::adopting::adopt_files;
-use crate::loading::{Loaded, load_files};
 use crate::meeting::{Met, meet_each};
 use command_base::{Answer, AtPosition, OfPosition, Status, deliver, full, tell};
+use file_loading::{MAX_WORK, load_files};
 use foul_judge::{Outcome, Position, Seen};
 use game_referee::{judge, write_verdict};
 use position_files::{TableFile, write_table};
@@ -105,15 +105,16 @@ pub fn join_with<I: Source, O: Sink, F: Shelf>(
     ensures loads { status_number result ≢ status_number Status.ShelfFault → status_number result ≢ status_number Status.WriteFault
         → HasStayed (F.faults shelf.old) (F.faults shelf.new) }
 {
-    match load_files(alloc, joining.names, shelf) {
-        Ok(Loaded::Kept(files)) => {
+    let mut files = Vec::new(alloc);
+    match load_files(alloc, joining.names, MAX_WORK, &mut files, shelf) {
+        Ok(None) => {
             let command = OfPosition(JoinFiles {
                 attack: joining.attack,
                 files: files.as_slice(),
             });
             tell(alloc, &command, input, output)
         }
-        Ok(Loaded::Tells(answer)) => deliver(answer.status, answer.text.as_slice(), output),
+        Ok(Some(answer)) => deliver(answer.status, answer.text.as_slice(), output),
         Err(_) => Status::Memory,
     }
 }

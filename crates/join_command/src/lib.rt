@@ -1,14 +1,13 @@
 //! The command `join`: one table that is made of the tables of many files.
 //!
 //! Where each reply to an attack leads to a position that some file wins, one table has the attack and, for each reply, the root of a
-//! file. `loading` keeps the tables of the files, `answering` finds which of them answers after a reply, `adopting` puts their nodes
-//! into one compiler, and `joining` makes the table and tells it, or a reply that no file answers.
+//! file. `answering` finds which of the files answers after a reply, `adopting` puts their nodes into one compiler, and `joining` makes
+//! the table and tells it, or a reply that no file answers.
 #![tactic(auto)]
 
 mod adopting;
 mod answering;
 mod joining;
-mod loading;
 mod meeting;
 
 pub use joining::{Joining, join_with};

@@ -1,24 +1,24 @@
 -- The command `bind`: how far its files are bound, its answers, and what its runs show.
-use Rattle.std.proofs.Common.{◌≡◌, ◌⊎◌, inl, inr, refl, ap, ◌∙◌, ℕ, ◌<◌, ◌≤◌, List, [], ◌∷◌, ◌++◌, length, take, map, arith}
+use Rattle.std.proofs.Common.{◌≡◌, ◌⊎◌, inl, inr, refl, ap, ◌∙◌, ℕ, ◌<◌, List, [], ◌∷◌, ◌++◌, length, arith}
 use Rattle.std.proofs.Common.{Option, Some, IfSome, rules}
-use Rattle.std.proofs.lemmas.List.{length-map, length-take-le, take_all}
 use Rattle.strategy_graph.specs.declared.TheConstants.{MAX_NODES}
 use Rattle.strategy_compiler.proofs.Common.{HoldMore}
 use Rattle.brain_session.specs.declared.TheConstants.{BRAIN_WORK}
 use Rattle.table_commands.proofs.Common.{TableFile, Files, Book, Status, Done, status_number, Run, IsTableFile}
 use Rattle.table_commands.proofs.Common.{AreNames, AreTableFiles, BindSays, HasBound, IsBind, IsUnhinderedBind, ShowsBound}
-use Rattle.table_commands.proofs.Common.{TellsBook}
+use Rattle.table_commands.proofs.Common.{IsFullAt, TellsBook}
 use Rattle.table_book.specs.Books.{IsTextOfBook, IsWellFormed}
 use Rattle.table_book.specs.declared.TheConstants.{MAX_ENTRIES}
 use Rattle.table_book.specs.Binding.{IsBound}
 use Rattle.table_book.proofs.Binding.{bound-few, bound-full, entries-count, hold-longer}
 use Rattle.command_base.specs.declared.status.Status.TheVariants.{Full}
-use Rattle.command_base.specs.Runs.{Change, IsDelivered, IsOutOfMemory, HasNoFault}
+use Rattle.command_base.specs.declared.answer.Answer.{Answer}
+use Rattle.command_base.specs.Runs.{Change, IsDelivered, IsOutOfMemory}
 use Rattle.command_base.specs.Texts.{full_line}
 use Rattle.command_base.proofs.ToldLaws.{where-told}
-use Rattle.file_loading.specs.ManyFiles.{IsFileRefused, StopsAt}
+use Rattle.file_loading.specs.ManyFiles.{AreKept, AreLoaded}
 use Rattle.file_loading.proofs.HeldFileLaws.{delivered-other, not-other, table_told-other, unheld-other}
-use Rattle.file_loading.proofs.ManyFileLaws.{AcceptedUpTo, files-count, fit-not_refused, one-file, same-files}
+use Rattle.file_loading.proofs.ManyFileLaws.{files-count, fit-not_refused, one-file, same-files}
 
 -- ---- files under names
 
@@ -39,74 +39,50 @@ module _ (shelf : Files) where
       let others = front-tables before later name files fronts file h.1 k.1 is in
       (others.0, λ i. same i ∷ others.1 i)
 
--- ---- how far the files are bound
-
--- the files under these names are bound into the book
-abbrev pub BoundUpTo : Option Files → List (List ℕ) → Book → Type 0
-BoundUpTo shelf names book = AcceptedUpTo BRAIN_WORK shelf names (λ files. IsBound files book)
-
-up-to-count : (shelf : Option Files) (names : List (List ℕ)) (book : Book) → BoundUpTo shelf names book
-    → length book.entries ≡ length names
-up-to-count shelf names book h =
-    entries-count book.table h.files book.entries h.holds.entries ∙ files-count BRAIN_WORK shelf names h.files h.accepted
-
-module _ {X : Type 0} (f : X → List ℕ) (xs : List X) (i : ℕ) (shelf : Option Files) (book : Book)
-    (h : BoundUpTo shelf (map f (take i xs)) book) where
-  -- there is room for as many entries as names
-  pub room-left : AreNames (map f xs) → i < length xs → length book.entries < MAX_ENTRIES
-  room-left are l =
-      let count = up-to-count shelf (map f (take i xs)) book h in
-      let before : length (map f (take i xs)) ≡ i = length-map (take i xs) f ∙ length-take-le i xs (omega arith) in
-      let all : length (map f xs) ≡ length xs = length-map xs f in
-      let few = are.few in
-      omega arith
-
-  -- once all were added, an entry is held
-  pub some-left : AreNames (map f xs) → i ≤ length xs → length xs ≤ i → 0 < length book.entries
-  some-left are l k = search (rules, up-to-count, length-map, length-take-le)
-
-  pub up-to-all : length xs ≤ i → BoundUpTo shelf (map f xs) book
-  up-to-all l = rw (ap (map f) (take_all i xs l)) at h
-
 -- ---- what is said
 
--- a file is not bound
-pub says-unbound : (names : List (List ℕ)) (shelf : Change (Option Files)) (book : Book) (status : Status) (text : List ℕ)
-    → (refused : IsFileRefused BRAIN_WORK names shelf status text) × IsBound refused.stop.files book → BindSays names shelf status text
-says-unbound names shelf book status text h = inr (inl (record { refused = h.0; few = bound-few h.0.stop.files book h.1 }))
+-- there is room for one more entry
+pub room-left : (files : List TableFile) (book : Book) → IsBound files book → length files < MAX_ENTRIES → length book.entries < MAX_ENTRIES
+room-left files book bound room = let count = entries-count book.table files book.entries bound.entries in omega (arith, count, room)
 
 -- the book is full
-pub says-full : (names : List (List ℕ)) (shelf : Change (Option Files)) (book : Book) (stop : StopsAt BRAIN_WORK names shelf.before)
-    (file : TableFile) (status : Status) (text : List ℕ) → IsBound stop.files book
-    → IsTableFile BRAIN_WORK shelf.before stop.name file → HasNoFault shelf → HoldMore (book.table ∷ file.table ∷ []) MAX_NODES
-    → status ≡ Full → text ≡ full_line → BindSays names shelf status text
-says-full names shelf book stop file status text bound last sound more ends told =
-    inr (inr (record {
-      stop = stop;
-      few = bound-few stop.files book bound;
-      file = file;
-      last = last;
-      sound = sound;
-      full = bound-full stop.files file book bound more;
-      ends = ends;
-      told = told;
-    }))
+pub full-at : (files : List TableFile) (file : TableFile) (book : Book) (status : Status) (text : List ℕ)
+    → HoldMore (book.table ∷ file.table ∷ []) MAX_NODES → status ≡ Full → text ≡ full_line → IsBound files book
+    → IsFullAt files file status text
+full-at files file book status text more ends told bound =
+    record { few = bound-few files book bound; full = bound-full files file book bound more; ends = ends; told = told }
 
--- all files are bound
-pub says-book : (shelf : Change (Option Files)) (names : List (List ℕ)) (binder book : Book) (text : List ℕ)
-    → BoundUpTo shelf.before names binder → HasNoFault shelf → book ≡ binder → IsWellFormed book
-    → IsTextOfBook book text → BindSays names shelf Done text
-says-book shelf names binder book text h sound same well told = inl (record {
-  files = h.files;
-  accepted = h.accepted;
-  few = bound-few h.files binder h.holds;
-  sound = sound;
-  book = book;
-  well_formed = well;
-  bound = rw same h.holds;
-  ends = refl;
-  told = told;
-})
+module _ (names : List (List ℕ)) (shelf : Change (Option Files)) (binder : Book) where
+  -- a file is not bound, or the book is full
+  pub says-told : (answer : Answer)
+      → AreLoaded (λ files. IsBound files binder) IsFullAt BRAIN_WORK names shelf (Some answer)
+      → BindSays names shelf answer.status answer.text
+  says-told answer (inl h) = inr (inl (record { refused = h.0; few = bound-few h.0.stop.files binder h.1 }))
+  says-told answer (inr full) = inr (inr full)
+
+  module _ (all : AreKept (λ files. IsBound files binder) BRAIN_WORK names shelf) where
+    -- once all were added, an entry is held
+    pub some-left : AreNames names → 0 < length binder.entries
+    some-left are =
+        let count = entries-count binder.table all.files binder.entries all.kept.entries in
+        let size = files-count BRAIN_WORK shelf.before names all.files all.accepted in
+        let some = are.some in
+        omega (arith, count, size, some)
+
+    -- all files are bound
+    pub says-book : (book : Book) (text : List ℕ) → book ≡ binder → IsWellFormed book → IsTextOfBook book text
+        → BindSays names shelf Done text
+    says-book book text same well told = inl (record {
+      files = all.files;
+      accepted = all.accepted;
+      few = bound-few all.files binder all.kept;
+      sound = all.sound;
+      book = book;
+      well_formed = well;
+      bound = rw same all.kept;
+      ends = refl;
+      told = told;
+    })
 
 -- ---- answers
 
@@ -137,7 +113,7 @@ module _ (names : List (List ℕ)) (run : Run) (files : List TableFile) (free : 
       (rw full.stop.names_are at free.accepted)
       (told-of (λ shelf. AreTableFiles BRAIN_WORK shelf full.stop.before full.stop.files) full.stop.accepted)
       (told-of (λ shelf. IsTableFile BRAIN_WORK shelf full.stop.name full.file) full.last) in
-      absurd (free.few (rw front.1 (hold-longer (full.stop.files ++ full.file ∷ []) front.0 MAX_NODES full.full)))
+      absurd (free.few (rw front.1 (hold-longer (full.stop.files ++ full.file ∷ []) front.0 MAX_NODES full.tells.full)))
 
 pub bind-answers : (names : List (List ℕ)) (run : Run) → IsBind names run → (files : List TableFile) → IsUnhinderedBind names run files
     → HasBound files run ⊎ IsOutOfMemory run.output run.status

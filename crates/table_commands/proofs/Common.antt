@@ -12,7 +12,7 @@ pub use Rattle.renju_io.specs.Files.{Files}
 pub use Rattle.renju_io.specs.Told.{Takes}
 pub use Rattle.strategy_graph.specs.declared.Node.{Node}
 pub use Rattle.table_book.specs.declared.Book.{Book}
-pub use Rattle.table_commands.specs.Binds.{AreFew, AreNames, BindSays, HasBound, IsBind, IsUnhinderedBind}
+pub use Rattle.table_commands.specs.Binds.{AreFew, AreNames, BindSays, HasBound, IsBind, IsFullAt, IsUnhinderedBind}
 pub use Rattle.table_commands.specs.Binds.{ShowsBinding, ShowsBound, TellsBook, bind_words}
 pub use Rattle.table_commands.specs.Books.{AreWithin, BookSays, EntriesSay, IsWonBook, IsWonEntry, ShowsBook, book_command}
 pub use Rattle.table_commands.specs.Checks.{CheckSays, IsAcceptedInput, IsAcceptedTable, ShowsWin, TableSays, accepted_line, check_command}

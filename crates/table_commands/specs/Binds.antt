@@ -16,8 +16,7 @@ use Rattle.command_base.specs.declared.status.Status.TheVariants.{Done, Full}
 use Rattle.command_base.specs.Statuses.{status_number}
 use Rattle.command_base.specs.Runs.{Change, Run, HasFailed, IsDelivered, IsOutOfMemory, HasNoFault, IsAskedNoMore, IsUnasked}
 use Rattle.command_base.specs.Forms.{Command}
-use Rattle.file_loading.specs.HeldFiles.{IsTableFile}
-use Rattle.file_loading.specs.ManyFiles.{AreFileNames, AreTableFiles, IsFileRefused, StopsAt}
+use Rattle.file_loading.specs.ManyFiles.{AreFileNames, AreTableFiles, IsFileRefused, IsNotKept}
 use Rattle.command_base.specs.Texts.{full_line}
 
 -- the words `bind FILE ..`
@@ -50,16 +49,16 @@ pub record IsUnbound (names : List (List ℕ)) (shelf : Change (Option Files)) (
   pub refused : IsFileRefused BRAIN_WORK names shelf status text
   pub few : AreFew refused.stop.files
 
--- a file can be bound, and so can those before it, but the files up to it hold more different nodes than a book may have
-pub record IsBookFull (names : List (List ℕ)) (shelf : Change (Option Files)) (status : Status) (text : List ℕ) : Type 0 where
-  pub stop : StopsAt BRAIN_WORK names shelf.before
-  pub few : AreFew stop.files
-  pub file : TableFile
-  pub last : IsTableFile BRAIN_WORK shelf.before stop.name file
-  pub sound : HasNoFault shelf
-  pub full : HoldMore (tables_of (stop.files ++ file ∷ [])) MAX_NODES
+-- these files hold no more different nodes than a book may have, but with this one they do, which is told
+pub record IsFullAt (files : List TableFile) (file : TableFile) (status : Status) (text : List ℕ) : Type 0 where
+  pub few : AreFew files
+  pub full : HoldMore (tables_of (files ++ file ∷ [])) MAX_NODES
   pub ends : status ≡ Full
   pub told : text ≡ full_line
+
+-- a file can be bound, and so can those before it, but the files up to it hold more different nodes than a book may have
+abbrev pub IsBookFull : List (List ℕ) → Change (Option Files) → Status → List ℕ → Type 0
+IsBookFull = IsNotKept IsFullAt BRAIN_WORK
 
 -- What `bind` says of the files under these names: their book, why the earliest one that cannot be bound is not, or that they hold
 -- too many nodes.

@@ -1,6 +1,6 @@
 //! The command `bind`: tables of many files in one book.
 //!
-//! Each file in turn is loaded, read and checked as `brain FILE` does, and its table is added to a binder; then the book is
+//! Each file in turn is loaded, read and checked as `brain FILE` does, and its table is kept by a binder; then the book is
 //! written. The earliest file that cannot be added decides what is told, and the input is not asked.
 #![tactic(auto)]
 
@@ -14,10 +14,38 @@ ghost use Rattle.table_commands.specs.Binds.{AreNames, BindSays, IsBind};
 use crate::MAX_FILES;
 use brain_session::BRAIN_WORK;
 use command_base::{Answer, Status, deliver, full};
-use file_loading::{Fitted, are_file_names, fit_file};
+use file_loading::{Keeps, are_file_names, load_files};
+use position_files::TableFile;
 use renju_io::{Shelf, Sink};
 use std::alloc::{AllocError, Global};
 use table_book::{BindError, Binder, write_book};
+
+/// The files so far, bound into a book.
+#[derive(Drop)]
+struct Binding {
+    binder: Binder,
+}
+
+impl Keeps for Binding {
+    ghost use Rattle.std.specs.Prelude.{◌<◌};
+    ghost use Rattle.table_book.specs.Binding.{IsBound};
+    ghost use Rattle.table_book.specs.declared.TheConstants.{MAX_ENTRIES};
+    ghost use Rattle.table_commands.specs.Binds.{IsFullAt};
+
+    ghost kept = { λ files binding. IsBound files binding.binder };
+
+    ghost has_room = { λ n. n < MAX_ENTRIES };
+
+    ghost tells = { IsFullAt };
+
+    fn keep(&mut self, file: TableFile) -> Result<Option<Answer>, AllocError> {
+        match self.binder.add(file) {
+            Ok(()) => Ok(None),
+            Err(BindError::Full) => Ok(Some(full())),
+            Err(BindError::Memory) => Err(AllocError),
+        }
+    }
+}
 
 /// Whether these are 1 to `MAX_FILES` names, none of which is empty.
 pub fn are_names(names: &[String]) -> bool
@@ -66,17 +94,15 @@ fn bind_files<F: Shelf>(
     ensures memory { OnErr result (HasStayed (F.faults shelf.old) (F.faults shelf.new)) }
     ensures each { IsAskedAtMost (length (map string_bytes names.now)) (F.asked shelf.old) (F.asked shelf.new) }
 {
-    let mut binder = Binder::new(alloc);
-    for (before, name) in names.iter().enumerate() {
-        match fit_file(alloc, before as u32 + 1, name.as_str(), BRAIN_WORK, shelf)? {
-            Fitted::Fits(file) => match binder.add(file) {
-                Ok(()) => {}
-                Err(BindError::Full) => return Ok(full()),
-                Err(BindError::Memory) => return Err(AllocError),
-            },
-            Fitted::Tells(told) => return Ok(told),
+    let mut binding = Binding {
+        binder: Binder::new(alloc),
+    };
+    match load_files(alloc, names, BRAIN_WORK, &mut binding, shelf)? {
+        None => {
+            let Binding { binder } = binding;
+            let book = binder.finish()?;
+            Ok(Answer::written(Status::Done, write_book(alloc, &book)?))
         }
+        Some(told) => Ok(told),
     }
-    let book = binder.finish()?;
-    Ok(Answer::written(Status::Done, write_book(alloc, &book)?))
 }
