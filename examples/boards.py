@@ -419,8 +419,13 @@ def blamed(line):
     return next((words for holds, words in slips if holds), None)
 
 
+DECIMAL = re.compile(r"0|[1-9][0-9]*")
+# The points of words that were read, by the word and the size of the board: a long table names each point a thousand times.
+POINTS = {}
+
+
 def number(word, least, most, what):
-    if not re.fullmatch(r"0|[1-9][0-9]*", word):
+    if not DECIMAL.fullmatch(word):
         raise Wrong(f"{word or 'nothing'} is no number of {what}: it is decimal, without a sign or leading zeros")
     if not least <= int(word) <= most:
         raise Wrong(f"{what} are {least:,} to {most:,}, and not {word}")
@@ -436,13 +441,17 @@ def headed(line, word):
 
 
 def point_in(word, position):
+    place = word, position.width, position.height
+    if place in POINTS:
+        return POINTS[place]
     if not re.fullmatch(r"(0|[1-9][0-9]*),(0|[1-9][0-9]*)", word):
         point = point_named(word, position.height)
         hint = f"{word} is written {spelled(point)}" if point and position.has(point) else f"{word or 'nothing'} is no point, as 7,7 is"
         raise Wrong(hint)
     if not position.has(numbers(word)):
         raise Wrong(f"{word} is off {position.board()}")
-    return numbers(word)
+    POINTS[place] = numbers(word)
+    return POINTS[place]
 
 
 def rising(points):
