@@ -43,6 +43,7 @@ import threading
 import time
 from collections import Counter
 from concurrent.futures import ThreadPoolExecutor, wait
+from contextlib import contextmanager
 from pathlib import Path
 
 sys.dont_write_bytecode = True
@@ -68,6 +69,8 @@ QUICK, ATTACKS, DEEPER = 3, 8, 2
 NEARLY = 3
 # An attack is given up once more replies are left than these few and one of so many that were asked.
 FEW, ONE_OF = 2, 16
+# How many nodes may be searched in vain below an attack on a reply of the whole opening, before another is tried.
+PATIENCE = 3_000_000
 # How many like tables an attack has of the tables that begin with it.
 LIKES = 3
 # The statuses of `quiet`, and of `check` of another's nodes, after which a script goes on.
@@ -284,6 +287,28 @@ def begun(folder, attack, position):
     replace(folder / "opening.txt", f"renju-opening 1\nattack {spelled(attack)}\n")
 
 
+class Effort:
+    """How many nodes were searched in vain, and with how many of them the attack that is gone on with is given up."""
+
+    def __init__(self):
+        self.nodes, self.most = 0, None
+
+    def is_over(self):
+        return self.most is not None and self.nodes >= self.most
+
+    @contextmanager
+    def bounded(self):
+        """Gives up what is done meanwhile once it has taken too long, where nothing around it is bounded."""
+        is_outermost = self.most is None
+        if is_outermost:
+            self.most = self.nodes + PATIENCE
+        try:
+            yield
+        finally:
+            if is_outermost:
+                self.most = None
+
+
 class Work:
     """The runs of the program at the replies that are left."""
 
@@ -331,7 +356,7 @@ class Work:
 
     def settle(self, reply, nodes):
         """Looks for a table at a reply: in what stands beside its position, among those found so far, and by a search."""
-        if self.is_given_up or self.take_in(reply) or self.serve(reply) or nodes and self.search(reply, nodes):
+        if self.is_given_up or self.given.effort.is_over() or self.take_in(reply) or self.serve(reply) or nodes and self.search(reply, nodes):
             return
         self.lost += 1
         asked = len(self.opening.found) + len(self.opening.served) + self.lost
@@ -397,6 +422,8 @@ class Work:
         text, status, seconds = self.run(["quiet", self.depth, nodes], self.opening.after.after(reply).text())
         if status == DONE:
             self.opening.put("tables", reply, text)
+        else:
+            self.given.effort.nodes += nodes
         self.opening.add(reply, what, status, seconds)
         return status == DONE
 
@@ -429,12 +456,15 @@ def taken_apart(work, reply, attacks, levels, most=MOST_FILES):
 
     def is_won(inner):
         opening.apart.add((reply, inner.attack))
-        asked_deeper(inner, given, levels - 1, False)
+        with given.effort.bounded():
+            asked_deeper(inner, given, levels - 1, False)
         return is_joined(opening, reply, inner)
 
-    if work.serve(reply):
-        return True
+    if given.effort.is_over() or work.serve(reply):
+        return reply not in opening.left()
     for attack in [it for it in attacks(reply) if (reply, it) not in opening.apart]:
+        if given.effort.is_over():
+            break
         tell(f"{both(reply, opening.after)} is taken apart by {both(attack, opening.after)}")
         inner = Work(opening.deeper(reply, attack), given)
         inner.may_give_up = True
@@ -556,7 +586,7 @@ def main():
     # The first run of the program may build it, which takes as much memory as it needs.
     asked(["foul"], opening.position.text())
     tell(f"after {both(opening.attack, opening.position)} there are {len(opening.replies)} replies to ask, and {len(left)} are left")
-    given.memory = memory_of(given)
+    given.memory, given.effort = memory_of(given), Effort()
     nodes = asked_deeper(opening, given, given.deeper)
     left = opening.left()
     if left:
