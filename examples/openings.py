@@ -120,11 +120,6 @@ def meant(reply, here, there):
     return [*same, *(it for it in moved if any(apart(reply, stone) <= 1 for stone in elsewhere))]
 
 
-def first_move(path):
-    """The first move of the table in a file."""
-    return numbers(path.read_text().rstrip("\n").rpartition("\n")[2].split(" ")[0])
-
-
 class Opening:
     """A folder: a position and an attack, the replies, the tables found or served at them, and what was tried."""
 
@@ -142,6 +137,8 @@ class Opening:
         self.found, self.served = ({it for it in self.replies if self.path(kind, it).exists()} for kind in ("tables", "served"))
         self.log = self.folder / "tried.txt"
         self.tried, self.uses, self.answers, self.like, self.apart = {}, Counter(), {}, {}, set()
+        # The first moves of the tables found, and the openings of attacks after replies, which take long to read.
+        self.first_moves, self.inner = {}, {}
         self.begin()
 
     def begin(self):
@@ -213,6 +210,13 @@ class Opening:
         left = [it for it in found if not self.is_lost(reply, f"table-{spelled(it)}")]
         return [*[it for it in left if self.uses[it]][:TRIES], *[it for it in left if not self.uses[it]][:OTHERS]]
 
+    def first_move(self, reply):
+        """The first move of the table found at a reply."""
+        if reply not in self.first_moves:
+            root = self.path("tables", reply).read_text().rstrip("\n").rpartition("\n")[2]
+            self.first_moves[reply] = numbers(root.split(" ")[0])
+        return self.first_moves[reply]
+
     def fit(self, reply, attacks):
         """The attacks that leave something to take apart after a reply, each once."""
         position = self.after.after(reply)
@@ -233,7 +237,7 @@ class Opening:
             return self.fit(reply, fives)
         uses, likes = Counter(), Counter()
         for it in self.found:
-            uses[first_move(self.path("tables", it))] += 1 + self.uses[it]
+            uses[self.first_move(it)] += 1 + self.uses[it]
         for table in self.like.values():
             likes.update(table.nodes[place].attack for place in table.root().named())
         ordered = [it for uses in (uses, likes) for it in sorted(uses, key=lambda it: (-uses[it], it))]
@@ -244,12 +248,14 @@ class Opening:
         with the attack.
         """
         folder = self.folder / "deeper" / f"{spelled(reply)}-{spelled(attack)}"
-        folder.parent.mkdir(exist_ok=True)
-        if not is_opening(folder):
-            begun(folder, attack, self.after.after(reply))
-        found = Opening(folder)
+        if (reply, attack) not in self.inner:
+            folder.parent.mkdir(exist_ok=True)
+            if not is_opening(folder):
+                begun(folder, attack, self.after.after(reply))
+            self.inner[reply, attack] = Opening(folder)
+        found = self.inner[reply, attack]
         others = sorted(self.found, key=lambda it: (-self.uses[it], apart(it, reply), it))
-        others = [self.path("tables", it) for it in others if first_move(self.path("tables", it)) == attack][:LIKES]
+        others = [self.path("tables", it) for it in others if self.first_move(it) == attack][:LIKES]
         alike = [it for it in self.alike(reply) if it[1].nodes[it[2]].attack == attack]
         parts = [part(table, place, self.after.after(reply)) for _, table, place in alike]
         found.add_like([*parts, *map(read_file, others)])
@@ -350,13 +356,16 @@ class Work:
         """Tells how far it is, and how long the round takes at its pace so far."""
         opening, ended = self.opening, all_of_round - going
         more = f", {seconds * going / ended:.0f} s more at this pace" if ended and going else ""
-        told = f"{len(opening.found) + len(opening.served)} of {len(opening.replies)} replies have a table, {len(opening.served)} of them another's"
+        known = len(opening.found) + len(opening.served)
+        told = f"{known} of {len(opening.replies)} replies have a table, {len(opening.served)} of them another's"
         how = f"asked with {nodes:,}" if nodes else "tried"
         self.clock.say(f"{told}; {ended} of {all_of_round} {how}{more}")
 
     def settle(self, reply, nodes):
         """Looks for a table at a reply: in what stands beside its position, among those found so far, and by a search."""
-        if self.is_given_up or self.given.effort.is_over() or self.take_in(reply) or self.serve(reply) or nodes and self.search(reply, nodes):
+        if self.is_given_up or self.given.effort.is_over():
+            return
+        if self.take_in(reply) or self.serve(reply) or nodes and self.search(reply, nodes):
             return
         self.lost += 1
         asked = len(self.opening.found) + len(self.opening.served) + self.lost
@@ -484,6 +493,7 @@ def is_joined(opening, reply, inner):
     if inner.left() or joined(inner)[1] != DONE:
         return False
     opening.put("tables", reply, (inner.folder / "table.txt").read_text())
+    opening.inner = {it: found for it, found in opening.inner.items() if it[0] != reply}
     return True
 
 
