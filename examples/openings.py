@@ -152,7 +152,8 @@ class Opening:
             found = ANSWER.fullmatch(path.name)
             if found:
                 self.answers.setdefault(numbers(found.group(1)), []).append((path, f"quiet-{found.group(2)}-{found.group(3)}"))
-        self.add_like([read_file(path) for path in sorted((self.folder / "like").glob("*.txt"), key=lambda path: int(path.stem))])
+        like = sorted((self.folder / "like").glob("*.txt"), key=lambda path: int(path.stem))
+        self.like = {int(path.stem): read_file(path) for path in like}
 
     def add_like(self, tables):
         """Keeps like tables, those that it hasn't."""
