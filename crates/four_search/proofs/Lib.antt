@@ -9,6 +9,8 @@ mod Deepening
 -- the plan of a win, and the nodes that stand for it
 pub mod Planning
 pub mod Written
+-- what all depths tell of wins
+mod SoughtLaws
 -- the table of the fewest win
 mod FourTables
 -- one move of a win by fours, and the node that stands for its plan

@@ -6,18 +6,19 @@
 #![tactic(auto)]
 
 ghost use Rattle.std.specs.Prelude.{◌≡◌, ◌↔◌, ◌<◌, ◌≤◌, ◌+◌, ◌*◌, true, false, length, nat_le, if◌then◌else◌, IfOk, IsTrue, OnErr, IsErrOf};
-ghost use Rattle.game_rules.specs.Play.{IsPosition};
-ghost use Rattle.game_rules.specs.Games.{WinsByFours, wins_by_fours};
+ghost use Rattle.game_rules.specs.Play.{IsPosition, mover, other};
+ghost use Rattle.game_rules.specs.Games.{WinsByFours, has_five, wins_by_fours};
 ghost use Rattle.strategy_graph.specs.declared.TheConstants.{MAX_NODES};
 ghost use Rattle.four_search.specs.declared.TheConstants.{MAX_DEPTH};
 ghost use Rattle.four_search.specs.FourGame.{four_cost};
+ghost use Rattle.four_search.specs.Roots.{TellsRoot};
 ghost use Rattle.strategy_compiler.specs.Growth.{GrowsBy};
 ghost use Rattle.four_search.specs.Answers.{OnWin, IsFourWin, IsSoughtOut, is_win as is_win_lem, most_added};
 
 use crate::SearchError;
 use crate::memory::FourMemory;
 use crate::plan::compile;
-use crate::root::look;
+use crate::root::{Root, look, look_without_fives};
 use crate::search::{Found, Limits, search};
 use foul_judge::Seen;
 use row_shapes::Rule;
@@ -140,6 +141,28 @@ pub fn finds_fours<R: Rule, V: Seen<R>>(
     Ok(is_win(&sought))
 }
 
+/// The same where neither side has a five point, so that none is looked for.
+pub fn finds_fours_without_fives<R: Rule, V: Seen<R>>(
+    alloc: Global,
+    view: &mut V,
+    depth: u32,
+    budget: u64,
+) -> Result<bool, AllocError>
+    requires some_depth { 1 ≤ depth }
+    requires depth_fits { depth ≤ MAX_DEPTH }
+    requires some_budget { 1 ≤ budget }
+    requires none { has_five R.KIND (V.position view.old) (mover (V.position view.old)) ≡ false }
+    requires safe { has_five R.KIND (V.position view.old) (other (mover (V.position view.old))) ≡ false }
+    ensures found { IfOk result (λ found. IsTrue found
+        ↔ ((wins_by_fours R.KIND depth (V.position view.old) ≡ true) × (four_cost R.KIND depth (V.position view.old) ≤ budget))) }
+    ensures same { V.position view.new ≡ V.position view.old }
+{
+    let mut memory = FourMemory::new(alloc);
+    let root = look_without_fives::<R, V>(alloc, view)?;
+    let sought = seek_from::<R, V>(view, &root, depth, budget, &mut memory)?;
+    Ok(is_win(&sought))
+}
+
 /// What the depths come to.
 #[derive(Drop)]
 pub(crate) enum Sought {
@@ -194,6 +217,27 @@ fn seek<R: Rule, V: Seen<R>>(
     // This tells that the position is lawful.
     view.side();
     let root = look::<R, V>(alloc, view)?;
+    seek_from::<R, V>(view, &root, depth, budget, memory)
+}
+
+/// The same where the first position is looked at already.
+fn seek_from<R: Rule, V: Seen<R>>(
+    view: &mut V,
+    root: &Root,
+    depth: u32,
+    budget: u64,
+    memory: &mut FourMemory<R>,
+) -> Result<Sought, AllocError>
+    requires some_depth { 1 ≤ depth }
+    requires depth_fits { depth ≤ MAX_DEPTH }
+    requires some_budget { 1 ≤ budget }
+    requires root { TellsRoot R.KIND (V.position view.old) root.now }
+    ensures sought { IfOk result (IsSoughtOut R.KIND depth budget (V.position view.old)) }
+    ensures lawful { IsPosition R.KIND (V.position view.old) }
+    ensures same { V.position view.new ≡ V.position view.old }
+{
+    // This tells that the position is lawful.
+    view.side();
     let mut left = budget;
     let mut before = 0;
     for done in 0..depth {
@@ -202,7 +246,7 @@ fn seek<R: Rule, V: Seen<R>>(
             moves,
             budget: left,
         };
-        match search::<R, V>(view, &root, limits, memory)? {
+        match search::<R, V>(view, root, limits, memory)? {
             Found::Spent => return Ok(Sought::Spent),
             Found::NoWin { left: rest } => {
                 let looked = left - rest;

@@ -14,7 +14,9 @@ mod plan;
 mod root;
 mod search;
 
-pub use answer::{FourAnswer, finds_fours, four_search, four_search_with};
+pub use answer::{
+    FourAnswer, finds_fours, finds_fours_without_fives, four_search, four_search_with,
+};
 pub use fewest::{FewestWin, FourTable, fewest_win};
 pub use memory::FourMemory;
 pub use strategy_compiler::SearchError;

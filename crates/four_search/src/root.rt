@@ -4,7 +4,9 @@
 //! to the next.
 #![tactic(auto)]
 
-ghost use Rattle.std.specs.Prelude.{IfOk};
+ghost use Rattle.std.specs.Prelude.{◌≡◌, false, IfOk};
+ghost use Rattle.game_rules.specs.Play.{mover, other};
+ghost use Rattle.game_rules.specs.Games.{has_five};
 ghost use Rattle.four_search.specs.Roots.{TellsRoot};
 
 use crate::four_points::{FourPoint, all_four_points};
@@ -37,6 +39,22 @@ pub(crate) fn look<R: Rule, V: Seen<R>>(alloc: Global, view: &V) -> Result<Root,
     let four_points = all_four_points::<R, V>(alloc, view)?;
     Ok(Root::NoFive {
         threat,
+        four_points,
+    })
+}
+
+/// The same where neither side has a five point.
+pub(crate) fn look_without_fives<R: Rule, V: Seen<R>>(
+    alloc: Global,
+    view: &V,
+) -> Result<Root, AllocError>
+    requires none { has_five R.KIND (V.position view.now) (mover (V.position view.now)) ≡ false }
+    requires safe { has_five R.KIND (V.position view.now) (other (mover (V.position view.now))) ≡ false }
+    ensures root { IfOk result (TellsRoot R.KIND (V.position view.now)) }
+{
+    let four_points = all_four_points::<R, V>(alloc, view)?;
+    Ok(Root::NoFive {
+        threat: FivePoints::None,
         four_points,
     })
 }

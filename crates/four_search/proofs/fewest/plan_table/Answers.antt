@@ -1,4 +1,4 @@
-use Rattle.std.proofs.Common.{ℕ, ◌<◌, ap, arith, List, length}
+use Rattle.std.proofs.Common.{ℕ, ap, arith, List, length}
 use Rattle.std.proofs.lemmas.Result.{IfOk-weaker}
 use Rattle.game_rules.proofs.Common.{Grid}
 use Rattle.strategy_graph.specs.declared.Node.{Node}

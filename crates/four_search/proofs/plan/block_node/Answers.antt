@@ -1,4 +1,4 @@
-use Rattle.std.proofs.Common.{◌≡◌, ◌<◌, ap, ◌∙◌}
+use Rattle.std.proofs.Common.{ap, ◌∙◌}
 use Rattle.game_rules.proofs.Common.{Grid, points_of, outcome}
 use Rattle.strategy_graph.specs.Tables.{is_rising}
 use Rattle.game_rules.proofs.Undo.{stone_back, lift_back, unwon_back}

@@ -1,4 +1,4 @@
-use Rattle.std.proofs.Common.{◌≡◌, ap, sym, ◌∙◌}
+use Rattle.std.proofs.Common.{ap, sym, ◌∙◌}
 use Rattle.game_rules.proofs.Common.{empties_of, has_fouls}
 use Rattle.game_rules.proofs.Outcomes.{outcome-last, outcome-more}
 use Rattle.four_search.proofs.search.no_five_outcome.Goals as goal

@@ -1,4 +1,4 @@
-use Rattle.std.proofs.Common.{◌≡◌, ◌-◌, ◌<◌, ap, ◌∙◌, arith}
+use Rattle.std.proofs.Common.{◌-◌, ◌<◌, ap, ◌∙◌, arith}
 use Rattle.four_search.specs.declared.search.Found.TheVariants.{Win}
 use Rattle.four_search.proofs.Trying.{found-five, found-nothing}
 use Rattle.four_search.proofs.search.search.Goals as goal

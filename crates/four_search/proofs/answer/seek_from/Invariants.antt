@@ -2,7 +2,7 @@ use Rattle.std.proofs.Common.{◌≡◌, ℕ, ◌+◌, ◌≤◌, ◌<◌, false
 use Rattle.std.specs.List.{range_with_len}
 use Rattle.game_rules.proofs.Common.{wins_by_fours}
 use Rattle.four_search.proofs.Common.{four_tree, TellsRoot}
-use Rattle.four_search.proofs.answer.seek.Given as goal
+use Rattle.four_search.proofs.answer.seek_from.Given as goal
 
 -- the view is as before, and what was seen at first is so; there is no win within the depths so far, and what is
 -- left of the budget is what these did not take; the positions of the last of them are known

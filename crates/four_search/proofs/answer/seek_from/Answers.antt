@@ -5,7 +5,7 @@ use Rattle.four_search.specs.declared.search.Found.TheVariants.{Win, NoWin, Spen
 use Rattle.four_search.specs.Searching.{found_at}
 use Rattle.four_search.proofs.Deepening.{win-here, win-cost, cost-above, none-more, left-more, end-cost, end-none, found-win}
 use Rattle.four_search.proofs.Rounds.{looked-is, alike-tells}
-use Rattle.four_search.proofs.answer.seek.Goals as goal
+use Rattle.four_search.proofs.answer.seek_from.Goals as goal
 
 pub search-requires : goal.search-requires
 search-requires g c =
