@@ -1,18 +1,12 @@
 -- A board and what a turn makes of it: points, places, stones in a row, runs, five points.
-use Rattle.std.proofs.Common.{◌≡◌, inl, inr, ℕ, ◌+◌, Bool, true, false, ◌&&◌, cond, refl, sym, ap, subst, ◌∙◌, arith}
-use Rattle.std.proofs.Common.{List, Option, Some, None, rules}
+use Rattle.std.proofs.Common.{◌≡◌, inl, inr, ℕ, ◌+◌, Bool, true, false, ◌&&◌, cond, refl, sym, ap, subst, ◌∙◌, arith, List, Option, Some}
+use Rattle.std.proofs.Common.{None, rules}
 use Rattle.std.specs.Cmp.{both_ways}
 use Rattle.std.specs.List.{list_any}
 use Rattle.std.proofs.lemmas.Bool.{both_ways as both_values}
-use Rattle.game_rules.proofs.Common.{Grid, IsBoard, is_empty, cell_at, holds, put, axes, stone_at, stones_ahead, stones_behind, run_of}
-use Rattle.game_rules.proofs.Common.{row_wins, wins_on, wins_at, five, go, opposite, stones_towards}
-use Rattle.game_rules.specs.declared.Cell.{Cell}
-use Rattle.game_rules.specs.declared.Side.{Side}
-use Rattle.game_rules.specs.declared.Axis.{Axis}
-use Rattle.game_rules.specs.declared.Point.{Point}
-use Rattle.game_rules.specs.declared.RuleKind.{RuleKind}
-use Rattle.game_rules.specs.declared.Way.{Way}
-use Rattle.game_rules.specs.declared.Way.TheVariants.{Ahead, Behind}
+use Rattle.board_symmetry.proofs.Common.{Grid, IsBoard, is_empty, cell_at, put, axes, run_of, five, go, opposite, Cell, Side, Axis, Point}
+use Rattle.board_symmetry.proofs.Common.{RuleKind, Way, Ahead, Behind}
+use Rattle.game_rules.proofs.Common.{holds, stone_at, stones_ahead, stones_behind, row_wins, wins_on, wins_at, stones_towards}
 use Rattle.game_rules.proofs.Boards.{Apart, and_left, same_or_apart, cell_at-put_same, cell_at-put_other}
 use Rattle.game_rules.proofs.Positions.{IsBoard-put}
 use Rattle.game_rules.proofs.Ways.{leads, leads_is}
@@ -73,9 +67,8 @@ module _ (w h : ℕ) (to from : Point → Point) (turn : Turn w h to from) where
 
     pub stone-same : (s : Side) (v : Way) (d : Axis) (p : Point) (x y : ℕ) → within w h p ≡ true
         → stone_at (grid w h ys) s (go (turn.way d v) (turn.axis d) (to p) x y) ≡ stone_at (grid w h xs) s (go v d p x y)
-    stone-same s v d p x y on =
-        place-same (stone_at (grid w h xs) s) (stone_at (grid w h ys) s) (stone_of_points xs s) (stone_of_points ys s)
-        (holds-same s) v d p x y on
+    stone-same s v d p x y on = place-same
+        (stone_at (grid w h xs) s) (stone_at (grid w h ys) s) (stone_of_points xs s) (stone_of_points ys s) (holds-same s) v d p x y on
 
     -- as many stones stand in a row next to the point
     pub towards-same : (s : Side) (v : Way) (d : Axis) (p : Point) → within w h p ≡ true
@@ -106,18 +99,14 @@ module _ (w h : ℕ) (to from : Point → Point) (turn : Turn w h to from) where
         ≡ run_of (grid w h xs) s d p
     run-same s d p on =
         ap (λ r. cond r (1 + stones_ahead (grid w h ys) s (turn.axis d) (to p) + stones_behind (grid w h ys) s (turn.axis d) (to p)) 0)
-        (holds-same s p on)
-        ∙ ap (λ n. cond (holds (grid w h xs) s p) n 0) (let both = both-same s d p on in omega (arith, both))
+        (holds-same s p on) ∙ ap (λ n. cond (holds (grid w h xs) s p) n 0) (let both = both-same s d p on in omega (arith, both))
 
     pub wins-same : (rule : RuleKind) (s : Side) (d : Axis) (p : Point) → within w h p ≡ true
         → wins_on rule (grid w h ys) s (turn.axis d) (to p) ≡ wins_on rule (grid w h xs) s d p
-    wins-same rule s d p on =
-        wins_on-ways rule (grid w h ys) s Ahead (turn.axis d) (to p) turned.image
+    wins-same rule s d p on = wins_on-ways rule (grid w h ys) s Ahead (turn.axis d) (to p) turned.image
         ∙ ap (λ r. r && row_wins rule s (1 + stones_ahead (grid w h ys) s (turn.axis d) (to p) + stones_behind (grid w h ys) s
-        (turn.axis d) (to p)))
-        (empty-same p on)
-        ∙ ap (λ n. is_empty (grid w h xs) p && row_wins rule s n) (let both = both-same s d p on in omega (arith, both))
-        ∙ sym (wins_on-ways rule (grid w h xs) s Ahead d p turned.board)
+        (turn.axis d) (to p))) (empty-same p on) ∙ ap (λ n. is_empty (grid w h xs) p && row_wins rule s n)
+        (let both = both-same s d p on in omega (arith, both)) ∙ sym (wins_on-ways rule (grid w h xs) s Ahead d p turned.board)
 
     win_of_points : (zs : List Cell) (rule : RuleKind) (s : Side) (d : Axis) → OfPoints w h (wins_at rule (grid w h zs) s d)
     win_of_points zs rule s d = search (rules, and_left, within)
@@ -125,14 +114,12 @@ module _ (w h : ℕ) (to from : Point → Point) (turn : Turn w h to from) where
     pub wins_at-same : (rule : RuleKind) (s : Side) (v : Way) (d : Axis) (p : Point) (x y : ℕ) → within w h p ≡ true
         → wins_at rule (grid w h ys) s (turn.axis d) (go (turn.way d v) (turn.axis d) (to p) x y)
         ≡ wins_at rule (grid w h xs) s d (go v d p x y)
-    wins_at-same rule s v d p x y on =
-        place-same (wins_at rule (grid w h xs) s d) (wins_at rule (grid w h ys) s (turn.axis d)) (win_of_points xs rule s d)
-        (win_of_points ys rule s (turn.axis d)) (wins-same rule s d) v d p x y on
+    wins_at-same rule s v d p x y on = place-same (wins_at rule (grid w h xs) s d) (wins_at rule (grid w h ys) s (turn.axis d))
+        (win_of_points xs rule s d) (win_of_points ys rule s (turn.axis d)) (wins-same rule s d) v d p x y on
 
     pub five-same : (rule : RuleKind) (s : Side) (p : Point) → within w h p ≡ true → five rule (grid w h ys) s (to p)
         ≡ five rule (grid w h xs) s p
-    five-same rule s p on =
-        turn.anys (λ d. wins_on rule (grid w h ys) s d (to p))
+    five-same rule s p on = turn.anys (λ d. wins_on rule (grid w h ys) s d (to p))
         ∙ ap (λ (f : Axis → Bool). list_any f axes) (λ i d. wins-same rule s d p on i)
 
     -- the same stone on a point and on its image

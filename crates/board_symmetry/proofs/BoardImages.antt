@@ -1,16 +1,12 @@
 -- The image of a board is what the turn makes of it, and boards that a turn makes alike are one.
-use Rattle.std.proofs.Common.{◌≡◌, ℕ, zero, suc, Bool, true, refl, sym, ap, ◌∙◌, List, [], ◌∷◌, map, get_or, rules}
-use Rattle.std.specs.Prelude.{Some, slice_get}
+use Rattle.std.proofs.Common.{◌≡◌, ℕ, zero, suc, Bool, true, refl, sym, ap, ◌∙◌, List, [], ◌∷◌, map, get_or, rules, Some, slice_get}
 use Rattle.std.specs.List.{list_all}
 use Rattle.std.proofs.lemmas.List.{length-map}
-use Rattle.game_rules.specs.Grid.{Grid, IsBoard, is_on, cell_at, place_of, points_of, points_within}
-use Rattle.game_rules.specs.declared.Cell.{Cell}
-use Rattle.game_rules.specs.declared.Cell.TheVariants.{Empty}
-use Rattle.game_rules.specs.declared.Point.{Point}
+use Rattle.board_symmetry.proofs.Common.{Grid, IsBoard, is_on, cell_at, points_within, Cell, Empty, Point, fits, inverse, point_image}
+use Rattle.board_symmetry.proofs.Common.{board_image, empty_board, Symmetry}
+use Rattle.game_rules.proofs.Common.{place_of, points_of}
 use Rattle.game_rules.proofs.Boards.{and_left, and_right}
 use Rattle.game_rules.proofs.Places.{points_get, points_length, points_on}
-use Rattle.board_symmetry.specs.Points.{fits, inverse, point_image, board_image, empty_board}
-use Rattle.board_symmetry.specs.declared.symmetry.Symmetry.{Symmetry}
 use Rattle.board_symmetry.proofs.Turns.{within}
 use Rattle.board_symmetry.proofs.Eight.{turn_of}
 use Rattle.board_symmetry.proofs.Alike.{grid, Turned}
@@ -29,10 +25,8 @@ mapped_where on f g (p ∷ ps) all same = search (rules, and_left, and_right, ma
 -- boards with the same cell at each point are one
 pub same_cells : (w h : ℕ) (xs ys : List Cell) → IsBoard (grid w h xs) → IsBoard (grid w h ys)
     → ((p : Point) → within w h p ≡ true → cell_at (grid w h xs) p ≡ cell_at (grid w h ys) p) → xs ≡ ys
-same_cells w h xs ys ok fine same =
-    sym (cells_listed w h xs ok.filled)
-    ∙ mapped_where (within w h) (cell_at (grid w h xs)) (cell_at (grid w h ys)) (points_within w h) (points_on (empty_board w h)) same
-    ∙ cells_listed w h ys fine.filled
+same_cells w h xs ys ok fine same = sym (cells_listed w h xs ok.filled) ∙ mapped_where (within w h)
+    (cell_at (grid w h xs)) (cell_at (grid w h ys)) (points_within w h) (points_on (empty_board w h)) same ∙ cells_listed w h ys fine.filled
 
 module _ (s : Symmetry) (b : Grid) (ok : IsBoard b) where
   pub image_ok : IsBoard (board_image s b)

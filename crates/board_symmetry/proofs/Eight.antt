@@ -1,8 +1,7 @@
 -- Each of the eight symmetries is a turn: the flips and the exchange of x and y, and what they make one after another.
 use Rattle.std.proofs.Common.{◌≡◌, ℕ, true, subst, ◌==◌}
 use Rattle.std.proofs.lemmas.Bool.Decides.{Decides-eqb}
-use Rattle.board_symmetry.proofs.Common.{fits, inverse, point_image}
-use Rattle.board_symmetry.specs.declared.symmetry.Symmetry.{Symmetry}
+use Rattle.board_symmetry.proofs.Common.{fits, inverse, point_image, Symmetry}
 use Rattle.board_symmetry.specs.declared.symmetry.Symmetry.TheVariants.{Identity, Half, FlipX, FlipY, Quarter, ThreeQuarter, Diagonal}
 use Rattle.board_symmetry.specs.declared.symmetry.Symmetry.TheVariants.{AntiDiagonal}
 use Rattle.board_symmetry.proofs.Turns.{Turn, turn-then, stay, turn_x, turn_y, turn_swap}

@@ -1,14 +1,11 @@
 -- The image of a table as a file has it: it is one again, and has a text.
 use Rattle.std.proofs.Common.{◌≡◌, ℕ, true, List, [], ◌∷◌, rules}
 use Rattle.std.proofs.lemmas.List.{length-map}
-use Rattle.game_rules.proofs.Common.{Grid}
-use Rattle.strategy_graph.proofs.Common.{TableOnBoard, RootOnBoard}
-use Rattle.strategy_graph.specs.declared.Node.{Node}
+use Rattle.board_symmetry.proofs.Common.{Grid, TableOnBoard, Node, fits, board_image, table_image, root_image, KeepsRoot, IsRoot, Symmetry}
+use Rattle.strategy_graph.proofs.Common.{RootOnBoard}
 use Rattle.strategy_graph.specs.declared.roots.Root.{Root}
 use Rattle.position_files.proofs.Common.{RootFits, IsTextOfTable}
 use Rattle.position_files.specs.declared.TableFile.{TableFile}
-use Rattle.board_symmetry.proofs.Common.{fits, board_image, table_image, root_image, KeepsRoot, IsRoot}
-use Rattle.board_symmetry.specs.declared.symmetry.Symmetry.{Symmetry}
 use Rattle.board_symmetry.proofs.Eight.{turn_of}
 use Rattle.board_symmetry.proofs.ImageLaws.{keeps_root}
 use Rattle.board_symmetry.proofs.TableImages.{image-below, image-rising, image-on}
@@ -18,10 +15,7 @@ module _ (s : Symmetry) (b : Grid) (fit : fits s b.width b.height ≡ true) wher
   pub image-named : (t : List Node) → TableOnBoard b t → TableOnBoard (board_image s b) (table_image s b.width b.height t)
   image-named [] on = tt
   image-named (n ∷ t) on = (
-    record {
-      attack = (turn_of s b.width b.height fit).kept n.attack on.0.attack;
-      replies = image-on s b.width b.height n.replies;
-    },
+    record { attack = (turn_of s b.width b.height fit).kept n.attack on.0.attack; replies = image-on s b.width b.height n.replies },
     image-named t on.1,
   )
 
@@ -35,9 +29,8 @@ pub root-fits : (b : Grid) (t : List Node) (r : Root) (moves : ℕ) → RootFits
 root-fits b t r moves fit = search rules
 
 -- the image of a root of a file
-pub file-root : (s : Symmetry) (file : TableFile) (bytes : List ℕ) → IsTextOfTable file bytes → fits s file.board.width file.board.height
-    ≡ true
-    → KeepsRoot s file.board file.table file.root
+pub file-root : (s : Symmetry) (file : TableFile) (bytes : List ℕ)
+    → IsTextOfTable file bytes → fits s file.board.width file.board.height ≡ true → KeepsRoot s file.board file.table file.root
 file-root s file bytes text fit =
     let root = root-fits file.board file.table file.root file.moves text.root in
     keeps_root s file.board text.board fit file.table text.table text.on_board file.root root.0 root.1

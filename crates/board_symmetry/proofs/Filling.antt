@@ -1,22 +1,19 @@
 -- An image that is filled point by point: what stands where while some points are left.
-use Rattle.std.proofs.Common.{◌≡◌, ℕ, ◌+◌, ◌*◌, ◌<◌, Bool, true, false, ◌&&◌, ◌||◌, refl, sym, ap, subst, rules}
-use Rattle.std.proofs.Common.{◌∙◌, arith, List, [], ◌∷◌, replicate}
+use Rattle.std.proofs.Common.{◌≡◌, ℕ, ◌+◌, ◌*◌, ◌<◌, Bool, true, false, ◌&&◌, ◌||◌, refl, sym, ap, subst, rules, ◌∙◌, arith, List, [], ◌∷◌}
+use Rattle.std.proofs.Common.{replicate}
 use Rattle.std.specs.List.{list_any, list_all}
 use Rattle.std.proofs.lemmas.Bool.{both_ways}
 use Rattle.std.proofs.lemmas.List.{length-replicate, get_or-replicate}
 use Rattle.std.proofs.lemmas.Nat.{mul-add-lt}
-use Rattle.game_rules.proofs.Common.{Grid, IsBoard, is_on, is_empty, is_empty_cell, cell_at, put, points_of, is_same_point}
-use Rattle.game_rules.specs.declared.Cell.{Cell}
-use Rattle.game_rules.specs.declared.Cell.TheVariants.{Empty, Black as BlackStone, White as WhiteStone}
-use Rattle.game_rules.specs.declared.Side.TheVariants.{Black, White}
-use Rattle.game_rules.specs.declared.Point.{Point}
+use Rattle.board_symmetry.proofs.Common.{Grid, IsBoard, is_on, is_empty, cell_at, put, is_same_point, Cell, Empty, Black, White, Point}
+use Rattle.board_symmetry.proofs.Common.{fits, inverse, point_image, empty_board, board_image, with_cell, Symmetry}
+use Rattle.game_rules.proofs.Common.{is_empty_cell, points_of}
+use Rattle.game_rules.specs.declared.Cell.TheVariants.{Black as BlackStone, White as WhiteStone}
 use Rattle.game_rules.proofs.Boards.{Apart, and_left, and_right, on_x, on_y, cell_at-put_same, cell_at-put_other}
 use Rattle.game_rules.proofs.Places.{points_on, Rising, rising-first, rows-rising, place, earlier-differs}
 use Rattle.game_rules.proofs.Points.{points-found, is_same_point-itself, is_same_point-same, is_same_point-apart}
 use Rattle.game_rules.proofs.Positions.{IsBoard-put}
 use Rattle.game_rules.proofs.PointLists.{other_first}
-use Rattle.board_symmetry.proofs.Common.{fits, inverse, point_image, empty_board, board_image, with_cell}
-use Rattle.board_symmetry.specs.declared.symmetry.Symmetry.{Symmetry}
 use Rattle.board_symmetry.proofs.Alike.{grid}
 use Rattle.board_symmetry.proofs.Eight.{turn_of}
 use Rattle.board_symmetry.proofs.BoardImages.{same_cells, image_ok, image_cell}
@@ -117,22 +114,19 @@ module _ (s : Symmetry) (b image : Grid) (p : Point) (ps : List Point) (so_far :
         subst (λ (z : Point). cell_at (with_cell image p (cell_at b (point_image (inverse s) b.width b.height p))) z
         ≡ cell_at b (point_image (inverse s) b.width b.height z))
         (is_same_point-same p q same) (with_cell-same image so_far.board p here _ next_free)
-    at_point q on_q false differ none =
-        with_cell-other image so_far.board p here _ q (sized_on b image q so_far.wide so_far.high on_q) (is_same_point-apart p q differ)
-        ∙ so_far.filled q on_q (ap (λ r. r || is_listed q ps) differ ∙ none)
+    at_point q on_q false differ none = with_cell-other image so_far.board p here _ q (sized_on b image q so_far.wide so_far.high on_q)
+        (is_same_point-apart p q differ) ∙ so_far.filled q on_q (ap (λ r. r || is_listed q ps) differ ∙ none)
 
     still_free : (q : Point) → is_on b q ≡ true → (r : Bool) → is_same_point p q ≡ r → is_listed q ps ≡ true
         → cell_at (with_cell image p (cell_at b (point_image (inverse s) b.width b.height p))) q ≡ Empty
     still_free q on_q true same some = absurd (both_ways _ not_again
         (ap (λ (z : Point). is_listed z ps) (is_same_point-same p q same) ∙ some))
-    still_free q on_q false differ some =
-        with_cell-other image so_far.board p here _ q (sized_on b image q so_far.wide so_far.high on_q) (is_same_point-apart p q differ)
-        ∙ so_far.free q on_q (ap (λ r. r || is_listed q ps) differ ∙ some)
+    still_free q on_q false differ some = with_cell-other image so_far.board p here _ q (sized_on b image q so_far.wide so_far.high on_q)
+        (is_same_point-apart p q differ) ∙ so_far.free q on_q (ap (λ r. r || is_listed q ps) differ ∙ some)
 
 -- at first all points are left
-pub filled-none : (s : Symmetry) (b image : Grid) → IsBoard b → image
-    ≡ record { width = b.width; height = b.height; cells = replicate (b.width * b.height) Empty }
-    → Filled s b image (points_of b)
+pub filled-none : (s : Symmetry) (b image : Grid) → IsBoard b
+    → image ≡ record { width = b.width; height = b.height; cells = replicate (b.width * b.height) Empty } → Filled s b image (points_of b)
 filled-none s b image ok e = subst (λ (z : Grid). Filled s b z (points_of b)) (sym e) (record {
   board = record {
     wide = ok.wide;
@@ -154,11 +148,8 @@ filled-none s b image ok e = subst (λ (z : Grid). Filled s b z (points_of b)) (
 -- and when none is left it is the image
 pub filled-all : (s : Symmetry) (b image : Grid) → IsBoard b → Filled s b image [] → image ≡ board_image s b
 filled-all s b image ok so_far =
-    let sized : image ≡ grid b.width b.height image.cells = λ i. record {
-      width = so_far.wide i;
-      height = so_far.high i;
-      cells = image.cells;
-    } in
+    let sized : image ≡ grid b.width b.height image.cells =
+    λ i. record { width = so_far.wide i; height = so_far.high i; cells = image.cells } in
     let now : Filled s b (grid b.width b.height image.cells) [] = subst (λ (z : Grid). Filled s b z []) sized so_far in
     sized ∙ ap (grid b.width b.height) (same_cells b.width b.height image.cells (board_image s b).cells now.board (image_ok s b ok)
     (λ p on. now.filled p on refl ∙ sym (image_cell s b ok p on)))
@@ -170,11 +161,9 @@ fits-inverse s w h = search rules
 
 module _ (s back : Symmetry) (b image : Grid) (w h : ℕ) (wide : w ≡ b.width) (high : h ≡ b.height) (undoes : back ≡ inverse s)
     (fit : fits s b.width b.height ≡ true) where
-  pub filled-start : (left : List Point) → IsBoard b → image ≡ record { width = w; height = h; cells = replicate (w * h) Empty } → left
-      ≡ points_of b
-      → Filled s b image left
-  filled-start left ok e all =
-      subst (λ (ps : List Point). Filled s b image ps) (sym all)
+  pub filled-start : (left : List Point)
+      → IsBoard b → image ≡ record { width = w; height = h; cells = replicate (w * h) Empty } → left ≡ points_of b → Filled s b image left
+  filled-start left ok e all = subst (λ (ps : List Point). Filled s b image ps) (sym all)
       (filled-none s b image ok (e ∙ (λ i. record { width = wide i; height = high i; cells = replicate (wide i * high i) Empty })))
 
   pub source-fits : fits back w h ≡ true
@@ -195,10 +184,8 @@ module _ (s back : Symmetry) (b image : Grid) (w h : ℕ) (wide : w ≡ b.width)
       source_is = taken ∙ (λ i. point_image (undoes i) (wide i) (high i) at)
 
       pub source-on : is_on b source ≡ true
-      source-on =
-          ap (is_on b) source_is ∙ (turn_of s b.width b.height fit).come at (filled-on s b image at ps now)
+      source-on = ap (is_on b) source_is ∙ (turn_of s b.width b.height fit).come at (filled-on s b image at ps now)
 
       pub filled-next : (new : Grid) (cell : Cell) → cell ≡ cell_at b source → new ≡ with_cell image at cell → Filled s b new ps
-      filled-next new cell holds put =
-          subst (λ (z : Grid). Filled s b z ps) (sym (put ∙ ap (with_cell image at) (holds ∙ ap (cell_at b) source_is)))
-          (filled-more s b image at ps now)
+      filled-next new cell holds put = subst (λ (z : Grid). Filled s b z ps)
+          (sym (put ∙ ap (with_cell image at) (holds ∙ ap (cell_at b) source_is))) (filled-more s b image at ps now)

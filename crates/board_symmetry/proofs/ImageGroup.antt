@@ -1,16 +1,12 @@
 -- Images of images, and images taken back.
 use Rattle.std.proofs.Common.{◌≡◌, ℕ, suc, true, refl, sym, ap, ◌∙◌, List, [], ◌∷◌, Some, slice_get, rules}
 use Rattle.std.specs.List.{AllByRecursion}
-use Rattle.game_rules.proofs.Common.{Grid, IsBoard, cell_at, points_within}
-use Rattle.game_rules.specs.declared.Point.{Point}
+use Rattle.board_symmetry.proofs.Common.{Grid, IsBoard, cell_at, points_within, Point, listed_node, is_rising, RepliesOn, TableOnBoard}
+use Rattle.board_symmetry.proofs.Common.{Reply, Node, fits, inverse, point_image, board_image, empty_board, replies_image, root_image}
+use Rattle.board_symmetry.proofs.Common.{table_image, IsRoot, Together, TakesBack, Symmetry}
 use Rattle.game_rules.proofs.Places.{points_on}
-use Rattle.strategy_graph.proofs.Common.{RootOnBoard, listed_node, is_rising, RepliesOn, TableOnBoard}
-use Rattle.strategy_graph.specs.declared.Reply.{Reply}
-use Rattle.strategy_graph.specs.declared.Node.{Node}
+use Rattle.strategy_graph.proofs.Common.{RootOnBoard}
 use Rattle.strategy_graph.specs.declared.roots.Root.{Root}
-use Rattle.board_symmetry.proofs.Common.{fits, inverse, point_image, board_image, empty_board, replies_image, root_image, table_image}
-use Rattle.board_symmetry.proofs.Common.{IsRoot, Together, TakesBack}
-use Rattle.board_symmetry.specs.declared.symmetry.Symmetry.{Symmetry}
 use Rattle.board_symmetry.proofs.Turns.{Turn, within}
 use Rattle.board_symmetry.proofs.Eight.{turn_of}
 use Rattle.board_symmetry.proofs.Alike.{grid}
@@ -47,8 +43,7 @@ module _ (s t : Symmetry) (w h : ℕ) (fit_s : fits s w h ≡ true) (fit_t : fit
       let first : within w h (point_image (inverse t) w h q) ≡ true = turn_t.come q on in
       let second : within w h (point_image (inverse s) w h (point_image (inverse t) w h q)) ≡ true = turn_s.come _ first in
       ap (listed_node (replies_image s w h rs)) (sym (turn_s.redone _ first))
-      ∙ listed-same w h (point_image s w h) (point_image (inverse s) w h) turn_s rs _ second
-      ∙ ap (listed_node rs) (sym (back_then q on)))
+      ∙ listed-same w h (point_image s w h) (point_image (inverse s) w h) turn_s rs _ second ∙ ap (listed_node rs) (sym (back_then q on)))
 
   table_then : (nodes : List Node) → TableOnBoard (empty_board w h) nodes
       → table_image t w h (table_image s w h nodes) ≡ table_image (composed s t) w h nodes
@@ -91,10 +86,8 @@ together s t b ok fit_s fit_t = record {
       let p : within b.width b.height (point_image (inverse (composed s t)) b.width b.height q) ≡ true = turn_u.come q on in
       let turn_s = turn_of s b.width b.height fit_s in
       ap (cell_at (board_image t (board_image s b))) (sym (turn_u.redone q on) ∙ sym (composed-point s t b.width b.height _ p fit_s fit_t))
-      ∙ (image_turned t (board_image s b) (image_ok s b ok) fit_t).cells _ (turn_s.kept _ p)
-      ∙ (image_turned s b ok fit_s).cells _ p
-      ∙ sym ((image_turned (composed s t) b ok fit_u).cells _ p)
-      ∙ ap (cell_at (board_image (composed s t) b)) (turn_u.redone q on)
+      ∙ (image_turned t (board_image s b) (image_ok s b ok) fit_t).cells _ (turn_s.kept _ p) ∙ (image_turned s b ok fit_s).cells _ p
+      ∙ sym ((image_turned (composed s t) b ok fit_u).cells _ p) ∙ ap (cell_at (board_image (composed s t) b)) (turn_u.redone q on)
 
 -- ---- taken back
 
@@ -104,25 +97,20 @@ inverse-inverse s = search rules
 module _ (s : Symmetry) (w h : ℕ) (fit : fits s w h ≡ true) where
   replies_back : (rs : List Reply) → is_rising rs ≡ true → RepliesOn (empty_board w h) rs
       → replies_image (inverse s) w h (replies_image s w h rs) ≡ rs
-  replies_back rs rising on =
-      told_where (within w h) _ (listed_node rs) (points_within w h) (points_on (empty_board w h)) (λ q inside.
-      ap (λ (z : Symmetry). listed_node (replies_image s w h rs) (point_image z w h q)) (inverse-inverse s)
-      ∙ listed-same w h (point_image s w h) (point_image (inverse s) w h) (turn_of s w h fit) rs q inside)
-      ∙ told_again w h rs rising on
+  replies_back rs rising on = told_where (within w h) _ (listed_node rs) (points_within w h) (points_on (empty_board w h))
+      (λ q inside. ap (λ (z : Symmetry). listed_node (replies_image s w h rs) (point_image z w h q)) (inverse-inverse s)
+      ∙ listed-same w h (point_image s w h) (point_image (inverse s) w h) (turn_of s w h fit) rs q inside) ∙ told_again w h rs rising on
 
   table_back : (t : List Node) → AllByRecursion (λ (n : Node). is_rising n.replies ≡ true) t → TableOnBoard (empty_board w h) t
       → table_image (inverse s) w h (table_image s w h t) ≡ t
   table_back [] rising on = refl
-  table_back (n ∷ t) rising on =
-      λ i. record {
-        attack = (turn_of s w h fit).undone n.attack on.0.attack i;
-        replies = replies_back n.replies rising.0 on.0.replies i;
-        rest = n.rest;
-      }
-      ∷ table_back t rising.1 on.1 i
+  table_back (n ∷ t) rising on = λ i. record {
+    attack = (turn_of s w h fit).undone n.attack on.0.attack i;
+    replies = replies_back n.replies rising.0 on.0.replies i;
+    rest = n.rest;
+  } ∷ table_back t rising.1 on.1 i
 
-  root_back : (r : Root) → IsRoot r → RootOnBoard (empty_board w h) r
-      → root_image (inverse s) w h (root_image s w h r) ≡ r
+  root_back : (r : Root) → IsRoot r → RootOnBoard (empty_board w h) r → root_image (inverse s) w h (root_image s w h r) ≡ r
   root_back r root on = search (rules, replies_back)
 
 -- the replies of each node of a table rise
@@ -148,8 +136,6 @@ takes_back s b ok fit = record {
   turn = turn_of s b.width b.height fit
 
   cells : (q : Point) → within b.width b.height q ≡ true → cell_at (board_image (inverse s) (board_image s b)) q ≡ cell_at b q
-  cells q on =
-      ap (cell_at (board_image (inverse s) (board_image s b))) (sym ((turn_of s b.width b.height fit).undone q on))
+  cells q on = ap (cell_at (board_image (inverse s) (board_image s b))) (sym ((turn_of s b.width b.height fit).undone q on))
       ∙ (image_turned (inverse s) (board_image s b) (image_ok s b ok) (fits-inverse s b.width b.height ∙ fit)).cells _
-      ((turn_of s b.width b.height fit).kept q on)
-      ∙ (image_turned s b ok fit).cells q on
+      ((turn_of s b.width b.height fit).kept q on) ∙ (image_turned s b ok fit).cells q on

@@ -1,15 +1,12 @@
 -- The laws of images, from those of turns.
 use Rattle.std.proofs.Common.{◌≡◌, ℕ, true, ap, refl, List, [], ◌∷◌, map, Some}
 use Rattle.std.specs.List.{list_all}
-use Rattle.game_rules.proofs.Common.{Grid, IsBoard, is_on, has_five, has_threat}
-use Rattle.strategy_graph.proofs.Common.{Answers, IsTable, IsStart, TableOnBoard, RepliesOn}
-use Rattle.strategy_graph.specs.declared.Node.{Node}
-use Rattle.strategy_graph.specs.declared.roots.Root.TheVariants.{Attack, Defend}
-use Rattle.game_rules.specs.declared.RuleKind.{RuleKind}
-use Rattle.game_rules.specs.declared.Point.{Point}
+use Rattle.board_symmetry.proofs.Common.{Grid, IsBoard, is_on, Answers, IsTable, TableOnBoard, RepliesOn, Node, RuleKind, Point}
 use Rattle.board_symmetry.proofs.Common.{board_image, fits, point_image, root_image, table_image, root_game, KeepsMoves, KeepsWins}
-use Rattle.board_symmetry.proofs.Common.{KeepsNode, KeepsStart, ImagesKeepPositions, ImagesKeepRoots}
-use Rattle.board_symmetry.specs.declared.symmetry.Symmetry.{Symmetry}
+use Rattle.board_symmetry.proofs.Common.{KeepsNode, KeepsStart, ImagesKeepPositions, ImagesKeepRoots, Symmetry}
+use Rattle.game_rules.proofs.Common.{has_five, has_threat}
+use Rattle.strategy_graph.proofs.Common.{IsStart}
+use Rattle.strategy_graph.specs.declared.roots.Root.TheVariants.{Attack, Defend}
 use Rattle.board_symmetry.proofs.Eight.{turn_of}
 use Rattle.board_symmetry.proofs.BoardImages.{image_turned}
 use Rattle.board_symmetry.proofs.TurnedOutcomes.{outcome-same, foul-same}

@@ -4,10 +4,8 @@ use Rattle.std.proofs.Common.{drop_of_length-le, add-one, rules}
 use Rattle.std.specs.List.{flat_map, range_with_len}
 use Rattle.std.proofs.lemmas.List.{map-append}
 use Rattle.std.proofs.Math.Seq.{drop-cons}
-use Rattle.game_rules.specs.Grid.{cell_at, points_within, row_from}
-use Rattle.game_rules.specs.declared.Cell.{Cell}
-use Rattle.game_rules.specs.declared.Cell.TheVariants.{Empty}
-use Rattle.game_rules.specs.declared.Point.{Point}
+use Rattle.board_symmetry.proofs.Common.{cell_at, points_within, Cell, Empty, Point}
+use Rattle.game_rules.specs.Grid.{row_from}
 use Rattle.board_symmetry.proofs.Alike.{grid}
 
 range-append : (n m a : ℕ) → range_with_len a n ++ range_with_len (a + n) m ≡ range_with_len a (n + m)
@@ -35,9 +33,8 @@ module _ (w : ℕ) where
       let all : w + n * w ≡ suc n * w = omega arith in
       map-append place (row_from a 0 w) (flat_map (λ y. row_from y 0 w) (range_with_len (a + 1) n))
       ∙ ap (λ (xs : List ℕ). xs ++ map place (flat_map (λ y. row_from y 0 w) (range_with_len (a + 1) n)))
-      (row_places a 0 w ∙ ap (λ k. range_with_len k w) first)
-      ∙ ap (λ (xs : List ℕ). range_with_len (a * w) w ++ xs) (rows_places n (a + 1) ∙ ap (λ k. range_with_len k (n * w)) next)
-      ∙ range-append w (n * w) (a * w) ∙ ap (range_with_len (a * w)) all
+      (row_places a 0 w ∙ ap (λ k. range_with_len k w) first) ∙ ap (λ (xs : List ℕ). range_with_len (a * w) w ++ xs)
+      (rows_places n (a + 1) ∙ ap (λ k. range_with_len k (n * w)) next) ∙ range-append w (n * w) (a * w) ∙ ap (range_with_len (a * w)) all
 
 map-map : (f : ℕ → Cell) (g : Point → ℕ) (ps : List Point) → map (λ p. f (g p)) ps ≡ map f (map g ps)
 map-map f g [] = refl
@@ -45,9 +42,8 @@ map-map f g (p ∷ ps) = ap (λ (xs : List Cell). f (g p) ∷ xs) (map-map f g p
 
 items_from : (xs : List Cell) (n k : ℕ) → k + n ≡ length xs → map (λ i. get_or xs i Empty) (range_with_len k n) ≡ drop k xs
 items_from xs zero k e = sym (drop_of_length-le xs (omega arith))
-items_from xs (suc n) k e =
-    ap (λ (ys : List Cell). get_or xs k Empty ∷ ys) (items_from xs n (k + 1) (omega arith) ∙ ap (λ j. drop j xs) (add-one k))
-    ∙ sym (drop-cons xs k Empty (omega arith))
+items_from xs (suc n) k e = ap (λ (ys : List Cell). get_or xs k Empty ∷ ys)
+    (items_from xs n (k + 1) (omega arith) ∙ ap (λ j. drop j xs) (add-one k)) ∙ sym (drop-cons xs k Empty (omega arith))
 
 -- the cells of the points of a board are its cells
 pub cells_listed : (w h : ℕ) (xs : List Cell) → length xs ≡ w * h → map (cell_at (grid w h xs)) (points_within w h) ≡ xs
@@ -55,6 +51,5 @@ unfolding place
 cells_listed w h xs e =
     let none : 0 * w ≡ 0 = omega arith in
     let all : h * w ≡ length xs = omega (arith, e) in
-    map-map (λ i. get_or xs i Empty) (place w) (points_within w h)
-    ∙ ap (map (λ i. get_or xs i Empty)) (rows_places w h 0 ∙ ap (λ k. range_with_len k (h * w)) none ∙ ap (range_with_len 0) all)
-    ∙ items_from xs (length xs) 0 (omega arith)
+    map-map (λ i. get_or xs i Empty) (place w) (points_within w h) ∙ ap (map (λ i. get_or xs i Empty))
+    (rows_places w h 0 ∙ ap (λ k. range_with_len k (h * w)) none ∙ ap (range_with_len 0) all) ∙ items_from xs (length xs) 0 (omega arith)

@@ -18,8 +18,7 @@ four_in_row stone wins a b c d e f = cond ((stone a && (stone b && (stone c && (
 
 module _ (stone wins other others : ℕ → Bool) (same : (i : ℕ) → i ≤ 8 → other i ≡ stone (8 - i))
     (alike : (i : ℕ) → i ≤ 8 → others i ≡ wins (8 - i)) where
-  stones-back : (a b c d : ℕ) → a ≤ 8 → b ≤ 8 → c ≤ 8 → d ≤ 8
-      → (other a && (other b && (other c && (other d && true))))
+  stones-back : (a b c d : ℕ) → a ≤ 8 → b ≤ 8 → c ≤ 8 → d ≤ 8 → (other a && (other b && (other c && (other d && true))))
       ≡ (stone (8 - d) && (stone (8 - c) && (stone (8 - b) && (stone (8 - a) && true))))
   stones-back a b c d i j k l = search (rules, and-back)
 

@@ -1,13 +1,9 @@
 -- A symmetry by its parts: whether it exchanges x and y, and which of the two it then counts from the other end. So two
 -- symmetries one after another are one of the eight.
-use Rattle.std.proofs.Common.{rules}
-use Rattle.std.proofs.Common.{◌≡◌, ℕ, ◌-◌, ◌<◌, Bool, true, false, ◌||◌, not, cond, sym, ap, ◌∙◌}
-use Rattle.std.specs.Prelude.{◌==◌}
+use Rattle.std.proofs.Common.{rules, ◌≡◌, ℕ, ◌-◌, ◌<◌, Bool, true, false, ◌||◌, not, cond, sym, ap, ◌∙◌, ◌==◌}
 use Rattle.std.proofs.lemmas.Bool.Decides.{Decides-eqb}
-use Rattle.game_rules.specs.declared.Point.{Point}
+use Rattle.board_symmetry.proofs.Common.{Point, exchanges, fits, point_image, empty_board, Symmetry}
 use Rattle.game_rules.proofs.Boards.{on_x, on_y}
-use Rattle.board_symmetry.specs.Points.{exchanges, fits, point_image, empty_board}
-use Rattle.board_symmetry.specs.declared.symmetry.Symmetry.{Symmetry}
 use Rattle.board_symmetry.specs.declared.symmetry.Symmetry.TheVariants.{Identity, Half, FlipX, FlipY, Quarter, ThreeQuarter, Diagonal}
 use Rattle.board_symmetry.specs.declared.symmetry.Symmetry.TheVariants.{AntiDiagonal}
 use Rattle.board_symmetry.proofs.Turns.{within}
@@ -83,19 +79,16 @@ taken-then e f x y u v w h p low_x low_y fit fits = search (rules, counted-twice
 
 -- the symmetry that s and then t are
 pub composed : Symmetry → Symmetry → Symmetry
-composed s t =
-    of_parts (either (exchanges t) (exchanges s)) (either (turns_x t) (cond (exchanges t) (turns_y s) (turns_x s)))
-    (either (turns_y t) (cond (exchanges t) (turns_x s) (turns_y s)))
+composed s t = of_parts (either (exchanges t) (exchanges s))
+    (either (turns_x t) (cond (exchanges t) (turns_y s) (turns_x s))) (either (turns_y t) (cond (exchanges t) (turns_x s) (turns_y s)))
 
 pub composed-point : (s t : Symmetry) (w h : ℕ) (p : Point) → within w h p ≡ true → fits s w h ≡ true → fits t w h ≡ true
     → point_image t w h (point_image s w h p) ≡ point_image (composed s t) w h p
 unfolding composed
 composed-point s t w h p on fit_s fit_t =
-    image-taken t w h (point_image s w h p)
-    ∙ ap (taken (exchanges t) (turns_x t) (turns_y t) w h) (image-taken s w h p)
+    image-taken t w h (point_image s w h p) ∙ ap (taken (exchanges t) (turns_x t) (turns_y t) w h) (image-taken s w h p)
     ∙ taken-then (exchanges s) (exchanges t) (turns_x s) (turns_y s) (turns_x t) (turns_y t) w h p (on_x (empty_board w h) p on)
-    (on_y (empty_board w h) p on) fit_s fit_t
-    ∙ sym (of_parts-taken (either (exchanges t) (exchanges s)) _ _ w h p)
+    (on_y (empty_board w h) p on) fit_s fit_t ∙ sym (of_parts-taken (either (exchanges t) (exchanges s)) _ _ w h p)
 
 fits-either : (e f r : Bool) → (not e || r) ≡ true → (not f || r) ≡ true → (not (either f e) || r) ≡ true
 fits-either e f r a b = search rules

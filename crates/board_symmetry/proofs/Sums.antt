@@ -1,10 +1,8 @@
 -- Sums over ranges of numbers and over the points of a board, in another order.
-use Rattle.std.proofs.Common.{rules}
-use Rattle.std.proofs.Common.{◌≡◌, ℕ, zero, suc, ◌+◌, ◌-◌, ◌≤◌, refl, sym, ap, ◌∙◌, arith, List, [], ◌∷◌, map}
-use Rattle.std.specs.List.{sum_by, flat_map, range_with_len}
+use Rattle.std.proofs.Common.{rules, ◌≡◌, ℕ, zero, suc, ◌+◌, ◌-◌, ◌≤◌, refl, sym, ap, ◌∙◌, arith, List, [], ◌∷◌, map, sum_by, flat_map}
+use Rattle.std.specs.List.{range_with_len}
 use Rattle.std.proofs.lemmas.List.Sums.{sum_by-cons, sum_by-append}
-use Rattle.game_rules.specs.Grid.{points_within}
-use Rattle.game_rules.specs.declared.Point.{Point}
+use Rattle.board_symmetry.proofs.Common.{points_within, Point}
 
 -- ---- sums of numbers
 
@@ -52,10 +50,8 @@ pub exchanged : (g : ℕ → ℕ → ℕ) (xs ys : List ℕ) → sum_by (λ y. s
 exchanged g [] ys = sum_zero ys
 exchanged g (x ∷ xs) ys =
     let cons : (λ y. sum_by (λ x. g x y) (x ∷ xs)) ≡ (λ y. g x y + sum_by (λ x. g x y) xs) = λ i y. sum_by-cons (λ x. g x y) x xs i in
-    ap (λ (f : ℕ → ℕ). sum_by f ys) cons
-    ∙ sum_both (λ y. g x y) (λ y. sum_by (λ x. g x y) xs) ys
-    ∙ ap (λ k. sum_by (λ y. g x y) ys + k) (exchanged g xs ys)
-    ∙ sym (sum_by-cons (λ x. sum_by (λ y. g x y) ys) x xs)
+    ap (λ (f : ℕ → ℕ). sum_by f ys) cons ∙ sum_both (λ y. g x y) (λ y. sum_by (λ x. g x y) xs) ys
+    ∙ ap (λ k. sum_by (λ y. g x y) ys + k) (exchanged g xs ys) ∙ sym (sum_by-cons (λ x. sum_by (λ y. g x y) ys) x xs)
 
 -- ---- sums over points
 

@@ -1,13 +1,8 @@
 -- A board and what a turn makes of it: lawful positions.
 use Rattle.std.proofs.Common.{◌≡◌, ◌↔◌, ◌⊎◌, ℕ, ◌+◌, ◌<◌, true, false, sym, ap, subst, ◌∙◌, List}
 use Rattle.std.proofs.lemmas.Bool.{both_ways, false_from_ne_true}
-use Rattle.game_rules.proofs.Common.{holds, run_of, row_wins, NamesMover, IsPosition, IsUnwon}
-use Rattle.game_rules.specs.declared.Cell.{Cell}
-use Rattle.game_rules.specs.declared.Side.{Side}
-use Rattle.game_rules.specs.declared.Side.TheVariants.{Black, White}
-use Rattle.game_rules.specs.declared.Axis.{Axis}
-use Rattle.game_rules.specs.declared.Point.{Point}
-use Rattle.game_rules.specs.declared.RuleKind.{RuleKind}
+use Rattle.game_rules.proofs.Common.{holds, row_wins, NamesMover, IsPosition, IsUnwon}
+use Rattle.board_symmetry.proofs.Common.{run_of, Cell, Side, Black, White, Axis, Point, RuleKind}
 use Rattle.game_rules.proofs.Axes.{axis_of, some_axis}
 use Rattle.game_rules.proofs.Boards.{and_left}
 use Rattle.board_symmetry.proofs.Turns.{Turn, within}

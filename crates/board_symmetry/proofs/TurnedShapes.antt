@@ -1,19 +1,13 @@
 -- A board and what a turn makes of it: fours, straight fours, three points.
-use Rattle.std.proofs.Common.{◌≡◌, inl, inr, ℕ, zero, suc, ◌+◌, ◌-◌, ◌≤◌, Bool, true, ◌&&◌, not, nat_eq}
-use Rattle.std.proofs.Common.{refl, sym, ap, subst, ◌∙◌, arith, List, Some, rules}
+use Rattle.std.proofs.Common.{◌≡◌, inl, inr, ℕ, zero, suc, ◌+◌, ◌-◌, ◌≤◌, Bool, true, ◌&&◌, not, nat_eq, refl, sym, ap, subst, ◌∙◌, arith}
+use Rattle.std.proofs.Common.{List, Some, rules}
 use Rattle.std.specs.Cmp.{both_ways}
 use Rattle.std.specs.List.{list_any, range_with_len}
 use Rattle.std.proofs.lemmas.Bool.{or_left, or_right, or_cases}
-use Rattle.game_rules.proofs.Common.{Grid, is_empty, put, along, count_fours, place_stone, place_wins, stone_at, stones_ahead}
-use Rattle.game_rules.proofs.Common.{stones_behind, run_of, wins_at, five, fours_of, is_straight, is_at, is_in_run, gives_straight}
-use Rattle.game_rules.proofs.Common.{is_three_point, go, opposite, stones_towards, run_end}
-use Rattle.game_rules.specs.declared.Cell.{Cell}
-use Rattle.game_rules.specs.declared.Side.{Side}
-use Rattle.game_rules.specs.declared.Axis.{Axis}
-use Rattle.game_rules.specs.declared.Point.{Point}
-use Rattle.game_rules.specs.declared.RuleKind.{RuleKind}
-use Rattle.game_rules.specs.declared.Way.{Way}
-use Rattle.game_rules.specs.declared.Way.TheVariants.{Ahead, Behind}
+use Rattle.board_symmetry.proofs.Common.{Grid, is_empty, put, run_of, five, go, opposite, Cell, Side, Axis, Point, RuleKind, Way, Ahead}
+use Rattle.board_symmetry.proofs.Common.{Behind}
+use Rattle.game_rules.proofs.Common.{along, count_fours, place_stone, place_wins, stone_at, stones_ahead, stones_behind, wins_at, fours_of}
+use Rattle.game_rules.proofs.Common.{is_straight, is_at, is_in_run, gives_straight, is_three_point, stones_towards, run_end}
 use Rattle.game_rules.proofs.Rows.{any_found, any_in_range}
 use Rattle.game_rules.proofs.Points.{is_at-here, is_at-Some}
 use Rattle.game_rules.proofs.Lines.{along-same}
@@ -55,9 +49,8 @@ module _ (w h : ℕ) (to from : Point → Point) (turn : Turn w h to from) where
   -- each way is that of one of the two ways
   way-onto : (d : Axis) (u : Way) → (v : Way) × (turn.way d v ≡ u)
   way-onto d u = by_way (turn.way d Ahead) refl (turn.way d Behind) refl (turn.ways d Ahead) u where
-    by_way : (a : Way) → turn.way d Ahead ≡ a → (c : Way) → turn.way d Behind ≡ c → turn.way d Behind ≡ opposite (turn.way d Ahead)
-        → (u : Way)
-        → (v : Way) × (turn.way d v ≡ u)
+    by_way : (a : Way) → turn.way d Ahead ≡ a
+        → (c : Way) → turn.way d Behind ≡ c → turn.way d Behind ≡ opposite (turn.way d Ahead) → (u : Way) → (v : Way) × (turn.way d v ≡ u)
     by_way Ahead e c f o Ahead = (Ahead, e)
     by_way Behind e c f o Behind = (Ahead, e)
     by_way Ahead e c f o Behind = (Behind, o ∙ ap opposite e)
@@ -95,8 +88,7 @@ module _ (w h : ℕ) (to from : Point → Point) (turn : Turn w h to from) where
     end-same : (rule : RuleKind) (s : Side) (v : Way) (d : Axis) (p : Point) → within w h p ≡ true
         → wins_at rule (grid w h ys) s (turn.axis d) (run_end (grid w h ys) s (turn.axis d) (turn.way d v) (to p))
         ≡ wins_at rule (grid w h xs) s d (run_end (grid w h xs) s d v p)
-    end-same rule s v d p on =
-        ap (λ n. wins_at rule (grid w h ys) s (turn.axis d) (go (turn.way d v) (turn.axis d) (to p) (1 + n) 0))
+    end-same rule s v d p on = ap (λ n. wins_at rule (grid w h ys) s (turn.axis d) (go (turn.way d v) (turn.axis d) (to p) (1 + n) 0))
         (towards-same w h to from turn xs ys turned s v d p on)
         ∙ wins_at-same w h to from turn xs ys turned rule s v d p (1 + stones_towards v (grid w h xs) s d p) 0 on
 
@@ -104,9 +96,8 @@ module _ (w h : ℕ) (to from : Point → Point) (turn : Turn w h to from) where
         → is_straight rule (grid w h ys) s (turn.axis d) (to p) ≡ is_straight rule (grid w h xs) s d p
     unfolding is_straight
     straight-same rule s d p on =
-        ap (λ n. (nat_eq n 4 && end_there Ahead) && end_there Behind) (run-same w h to from turn xs ys turned s d p on)
-        ∙ by_way (turn.way d Ahead) (turn.way d Behind) (turn.ways d Ahead) (end-same rule s Ahead d p on)
-        (end-same rule s Behind d p on) where
+        ap (λ n. (nat_eq n 4 && end_there Ahead) && end_there Behind) (run-same w h to from turn xs ys turned s d p on) ∙ by_way
+        (turn.way d Ahead) (turn.way d Behind) (turn.ways d Ahead) (end-same rule s Ahead d p on) (end-same rule s Behind d p on) where
           end_there : Way → Bool
           end_there v = wins_at rule (grid w h ys) s (turn.axis d) (run_end (grid w h ys) s (turn.axis d) v (to p))
 
@@ -139,22 +130,19 @@ module _ (w h : ℕ) (to from : Point → Point) (turn : Turn w h to from) where
           InRun-in_run (grid w h ys) s (turn.axis d) (to p) (to q) (
             turn.way d r.0,
             r.1,
-            subst (λ n. r.1 ≤ n)
-                (sym (towards-same w h to from turn xs ys turned s r.0 d p on)) r.2,
+            subst (λ n. r.1 ≤ n) (sym (towards-same w h to from turn xs ys turned s r.0 d p on)) r.2,
             turn.steps r.0 d p q r.1 0 on on_q r.3,
           )
 
       back : (v u : Way) → turn.way d v ≡ u → (k : ℕ) → k ≤ stones_towards u (grid w h ys) s (turn.axis d) (to p)
-          → go u (turn.axis d) (to p) k 0 ≡ Some (to q)
-          → is_in_run (grid w h xs) s d p q ≡ true
-      back v u e k far at =
-          InRun-in_run (grid w h xs) s d p q (
-            v,
-            k,
-            subst (λ n. k ≤ n) (ap (λ (z : Way). stones_towards z (grid w h ys) s (turn.axis d) (to p)) (sym e)
-                ∙ towards-same w h to from turn xs ys turned s v d p on) far,
-            turn.back v d p q k 0 on on_q (ap (λ (z : Way). go z (turn.axis d) (to p) k 0) e ∙ at),
-          )
+          → go u (turn.axis d) (to p) k 0 ≡ Some (to q) → is_in_run (grid w h xs) s d p q ≡ true
+      back v u e k far at = InRun-in_run (grid w h xs) s d p q (
+        v,
+        k,
+        subst (λ n. k ≤ n) (ap (λ (z : Way). stones_towards z (grid w h ys) s (turn.axis d) (to p)) (sym e)
+            ∙ towards-same w h to from turn xs ys turned s v d p on) far,
+        turn.back v d p q k 0 on on_q (ap (λ (z : Way). go z (turn.axis d) (to p) k 0) e ∙ at),
+      )
 
       there : is_in_run (grid w h ys) s (turn.axis d) (to p) (to q) ≡ true → is_in_run (grid w h xs) s d p q ≡ true
       there e =

@@ -1,14 +1,11 @@
 -- A board and what a turn makes of it: won games.
-use Rattle.std.proofs.Common.{◌≡◌, ◌↔◌, ℕ, zero, suc, Bool, true, false, ◌&&◌, ◌||◌, not, nat_le, cond, refl, sym, ap}
-use Rattle.std.proofs.Common.{subst, ◌∙◌, List, length, IsTrue, is_none}
+use Rattle.std.proofs.Common.{◌≡◌, ◌↔◌, ℕ, zero, suc, Bool, true, false, ◌&&◌, ◌||◌, not, nat_le, cond, refl, sym, ap, subst, ◌∙◌, List}
+use Rattle.std.proofs.Common.{length, IsTrue, is_none}
 use Rattle.std.proofs.lemmas.List.Sums.{length-filter}
-use Rattle.game_rules.proofs.Common.{Grid, is_on, points_within, five, mover, outcome, after, WinsOr, LosesOr, WinsUnder, WinsWithin}
-use Rattle.game_rules.proofs.Common.{WinsAfter, has_five, five_points, is_double_point, has_threat}
-use Rattle.game_rules.specs.declared.Cell.{Cell}
-use Rattle.game_rules.specs.declared.Side.{Side}
+use Rattle.board_symmetry.proofs.Common.{Grid, is_on, points_within, five, outcome, after, Cell, Side, Point, RuleKind}
+use Rattle.game_rules.proofs.Common.{mover, WinsOr, LosesOr, WinsUnder, WinsWithin, WinsAfter, has_five, five_points, is_double_point}
+use Rattle.game_rules.proofs.Common.{has_threat}
 use Rattle.game_rules.specs.declared.Outcome.{Outcome}
-use Rattle.game_rules.specs.declared.Point.{Point}
-use Rattle.game_rules.specs.declared.RuleKind.{RuleKind}
 use Rattle.game_rules.proofs.Games.{WinsOr-map, LosesOr-map}
 use Rattle.game_rules.proofs.Points.{WinsOr-on, off_refused}
 use Rattle.board_symmetry.proofs.Turns.{Turn, within}
@@ -46,17 +43,15 @@ module _ (w h : ℕ) (to from : Point → Point) (turn : Turn w h to from) where
   replies-here rule xs ys turned V W f each q = by_test (within w h q) refl where
     by_test : (r : Bool) → within w h q ≡ r → LosesOr (outcome rule (grid w h xs) q) (V q)
     by_test false off = LosesOr-off rule (grid w h xs) q (V q) off
-    by_test true on =
-        subst (λ (o : Outcome). LosesOr o (V q)) (outcome-same w h to from turn xs ys turned rule q on)
-        (LosesOr-map (outcome rule (grid w h ys) (to q)) _ _ (f q on) (each (to q)))
+    by_test true on = subst (λ (o : Outcome). LosesOr o (V q))
+        (outcome-same w h to from turn xs ys turned rule q on) (LosesOr-map (outcome rule (grid w h ys) (to q)) _ _ (f q on) (each (to q)))
 
   -- ---- wins
 
   module _ (demand : Grid → Side → Bool) (asks : Asks w h to demand) (rule : RuleKind) where
     asks-after : (xs ys : List Cell) → Turned w h to xs ys → (p : Point) → within w h p ≡ true
         → demand (after (grid w h ys) (to p)) (mover (grid w h ys)) ≡ demand (after (grid w h xs) p) (mover (grid w h xs))
-    asks-after xs ys turned p on =
-        ap (demand (after (grid w h ys) (to p))) (mover-same w h to from turn xs ys turned)
+    asks-after xs ys turned p on = ap (demand (after (grid w h ys) (to p))) (mover-same w h to from turn xs ys turned)
         ∙ asks.alike _ _ (after-turned w h to from turn xs ys turned rule p on) (mover (grid w h xs))
 
     -- what has to hold after a move that goes on
@@ -128,8 +123,7 @@ module _ (w h : ℕ) (to from : Point → Point) (turn : Turn w h to from) where
 
   fives-same : (rule : RuleKind) (s : Side) (xs ys : List Cell) → Turned w h to xs ys
       → length (five_points rule (grid w h ys) s) ≡ length (five_points rule (grid w h xs) s)
-  fives-same rule s xs ys turned =
-      length-filter (five rule (grid w h ys) s) (points_within w h)
+  fives-same rule s xs ys turned = length-filter (five rule (grid w h ys) s) (points_within w h)
       ∙ points-sum w h to from turn _ _ (λ q on. ap (λ r. cond r 1 0) (five-same w h to from turn xs ys turned rule s q on))
       ∙ sym (length-filter (five rule (grid w h xs) s) (points_within w h))
 
@@ -143,9 +137,8 @@ module _ (w h : ℕ) (to from : Point → Point) (turn : Turn w h to from) where
 
   pub asks_threat : (rule : RuleKind) → Asks w h to (has_threat rule)
   asks_threat rule = record {
-    alike = λ xs ys turned s i. (asks_five rule).alike xs ys turned s i
-        || points-any w h to from turn (is_double_point rule (grid w h xs) s) (is_double_point rule (grid w h ys) s)
-        (double-same rule s xs ys turned) i;
+    alike = λ xs ys turned s i. (asks_five rule).alike xs ys turned s i || points-any w h to from turn
+        (is_double_point rule (grid w h xs) s) (is_double_point rule (grid w h ys) s) (double-same rule s xs ys turned) i;
   }
 
   -- whatever is played first

@@ -1,18 +1,12 @@
 -- Turns of a board: maps of its points onto themselves that carry lines to lines. The eight symmetries are turns, and what holds
 -- of a board holds of what a turn makes of it.
-use Rattle.std.proofs.Common.{◌≡◌, ℕ, ◌-◌, ◌<◌, Bool, true, false, ◌&&◌, ◌||◌, cond, refl, sym, ap, ◌∙◌}
-use Rattle.std.proofs.Common.{arith, Some, nat_lt, sum_by, rules}
+use Rattle.std.proofs.Common.{◌≡◌, ℕ, ◌-◌, ◌<◌, Bool, true, false, ◌&&◌, ◌||◌, cond, refl, sym, ap, ◌∙◌, arith, Some, nat_lt, sum_by, rules}
 use Rattle.std.specs.List.{list_any, range_with_len}
 use Rattle.std.proofs.lemmas.Bool.{lt-ltb}
-use Rattle.game_rules.proofs.Common.{axes, points_within, go, opposite}
-use Rattle.game_rules.specs.declared.Axis.{Axis}
+use Rattle.board_symmetry.proofs.Common.{axes, points_within, go, opposite, Axis, Point, Way, Ahead, Behind, empty_board}
 use Rattle.game_rules.specs.declared.Axis.TheVariants.{Row, Column, Down, Up}
-use Rattle.game_rules.specs.declared.Point.{Point}
-use Rattle.game_rules.specs.declared.Way.{Way}
-use Rattle.game_rules.specs.declared.Way.TheVariants.{Ahead, Behind}
 use Rattle.game_rules.proofs.Boards.{on_x, on_y}
 use Rattle.game_rules.proofs.Lines.{OnLine, along-OnLine, OnLine-along}
-use Rattle.board_symmetry.proofs.Common.{empty_board}
 use Rattle.board_symmetry.proofs.Sums.{reversed, exchanged, points_sum, row_sum}
 
 -- whether the point is on a board of this width and height
@@ -156,10 +150,8 @@ module _ (w h : ℕ) where
   flip_x-kept p on = let low = within_x w h p on in within_by w h (flip_x w p) (omega (arith, low)) (within_y w h p on)
 
   flip_x-points : (f : Point → ℕ) → sum_by (λ q. f (flip_x w q)) (points_within w h) ≡ sum_by f (points_within w h)
-  flip_x-points f =
-      points_sum (λ q. f (flip_x w q)) w h
-      ∙ ap (λ (g : ℕ → ℕ). sum_by g (range_with_len 0 h)) (λ i y. reversed (λ x. let p : Point = record { x = x; y = y } in f p) w i)
-      ∙ sym (points_sum f w h)
+  flip_x-points f = points_sum (λ q. f (flip_x w q)) w h ∙ ap (λ (g : ℕ → ℕ). sum_by g (range_with_len 0 h))
+      (λ i y. reversed (λ x. let p : Point = record { x = x; y = y } in f p) w i) ∙ sym (points_sum f w h)
 
   pub turn_x : Turn w h (flip_x w) (flip_x w)
   turn_x = record {
@@ -169,10 +161,9 @@ module _ (w h : ℕ) where
     come = flip_x-kept;
     undone = flip_x-undone;
     redone = flip_x-undone;
-    steps = λ v d p q x y on_p on_q e. OnWay-go (way_x d v) (flip_axis d) (flip_x w p) (flip_x w q) x y
-        (flip_x-steps v d p q x y (within_x w h p on_p) (within_x w h q on_q) (go-OnWay v d p q x y e));
-    back = λ v d p q x y on_p on_q e. OnWay-go v d p q x y
-        (flip_x-back v d p q x y (within_x w h p on_p) (within_x w h q on_q)
+    steps = λ v d p q x y on_p on_q e. OnWay-go (way_x d v) (flip_axis d)
+        (flip_x w p) (flip_x w q) x y (flip_x-steps v d p q x y (within_x w h p on_p) (within_x w h q on_q) (go-OnWay v d p q x y e));
+    back = λ v d p q x y on_p on_q e. OnWay-go v d p q x y (flip_x-back v d p q x y (within_x w h p on_p) (within_x w h q on_q)
         (go-OnWay (way_x d v) (flip_axis d) (flip_x w p) (flip_x w q) x y e));
     ways = turned_way-opposite turns_x;
     sums = flip_sums;
@@ -219,10 +210,9 @@ module _ (w h : ℕ) where
     come = flip_y-kept;
     undone = flip_y-undone;
     redone = flip_y-undone;
-    steps = λ v d p q x y on_p on_q e. OnWay-go (way_y d v) (flip_axis d) (flip_y h p) (flip_y h q) x y
-        (flip_y-steps v d p q x y (within_y w h p on_p) (within_y w h q on_q) (go-OnWay v d p q x y e));
-    back = λ v d p q x y on_p on_q e. OnWay-go v d p q x y
-        (flip_y-back v d p q x y (within_y w h p on_p) (within_y w h q on_q)
+    steps = λ v d p q x y on_p on_q e. OnWay-go (way_y d v) (flip_axis d)
+        (flip_y h p) (flip_y h q) x y (flip_y-steps v d p q x y (within_y w h p on_p) (within_y w h q on_q) (go-OnWay v d p q x y e));
+    back = λ v d p q x y on_p on_q e. OnWay-go v d p q x y (flip_y-back v d p q x y (within_y w h p on_p) (within_y w h q on_q)
         (go-OnWay (way_y d v) (flip_axis d) (flip_y h p) (flip_y h q) x y e));
     ways = turned_way-opposite turns_y;
     sums = flip_sums;
@@ -262,10 +252,8 @@ module _ (n : ℕ) where
   swap-kept p on = within_by n n (swap p) (within_y n n p on) (within_x n n p on)
 
   swap-points : (f : Point → ℕ) → sum_by (λ q. f (swap q)) (points_within n n) ≡ sum_by f (points_within n n)
-  swap-points f =
-      points_sum (λ q. f (swap q)) n n
-      ∙ exchanged (λ x y. let p : Point = record { x = y; y = x } in f p) (range_with_len 0 n) (range_with_len 0 n)
-      ∙ sym (points_sum f n n)
+  swap-points f = points_sum (λ q. f (swap q)) n n
+      ∙ exchanged (λ x y. let p : Point = record { x = y; y = x } in f p) (range_with_len 0 n) (range_with_len 0 n) ∙ sym (points_sum f n n)
 
   pub turn_swap : Turn n n swap swap
   turn_swap = record {

@@ -5,17 +5,14 @@ use Rattle.board_symmetry.proofs.Filling.{Filled, filled-start, source-fits, at-
 use Rattle.board_symmetry.proofs.boards.image_board.Goals as goal
 
 pub loop-at-init : goal.loop-at-init
-loop-at-init c =
-    filled-start c.args.s c.inverse-back.result c.args.board.now c.in_ok-image.image _ _ c.width-width.ensures.width
-    c.height-height.ensures.height
-    c.inverse-back.ensures.inverse c.requires.fits _ c.width-width.ensures.board c.in_ok-image.ensures.empty
+loop-at-init c = filled-start c.args.s c.inverse-back.result c.args.board.now c.in_ok-image.image _ _ c.width-width.ensures.width
+    c.height-height.ensures.height c.inverse-back.ensures.inverse c.requires.fits _ c.width-width.ensures.board c.in_ok-image.ensures.empty
     (c.into_iter-at-iterator.ensures.into_iter_gives ∙ c.points-at-items.ensures.points)
 
 pub point-source-requires : goal.point-source-requires
 point-source-requires c = record {
   fits = source-fits c.args.s c.inverse-back.result c.args.board.now c.loop-at.image _ _ c.width-width.ensures.width
-      c.height-height.ensures.height
-      c.inverse-back.ensures.inverse c.requires.fits;
+      c.height-height.ensures.height c.inverse-back.ensures.inverse c.requires.fits;
   on = at-on c.args.s c.inverse-back.result c.args.board.now c.loop-at.image _ _ c.width-width.ensures.width c.height-height.ensures.height
       c.inverse-back.ensures.inverse c.requires.fits _ _ c.in-Some.at c.loop-at.invariant c.in-Some.ensures.steps;
 }
@@ -36,12 +33,10 @@ put_cell-requires c = record {
 }
 
 pub loop-at-preserved : goal.loop-at-preserved
-loop-at-preserved c =
-    filled-next c.args.s c.inverse-back.result c.args.board.now c.loop-at.image _ _ c.width-width.ensures.width
+loop-at-preserved c = filled-next c.args.s c.inverse-back.result c.args.board.now c.loop-at.image _ _ c.width-width.ensures.width
     c.height-height.ensures.height
     c.inverse-back.ensures.inverse c.requires.fits _ _ c.in-Some.at c.loop-at.invariant c.in-Some.ensures.steps _
-    c.point-source.ensures.image
-    _ c.cell.result c.cell.ensures.cell c.put_cell.ensures.put
+    c.point-source.ensures.image _ c.cell.result c.cell.ensures.cell c.put_cell.ensures.put
 
 pub returns : goal.returns
 returns c = record {
