@@ -1,18 +1,14 @@
 -- The board of a batch, whose stones are put one by one, and the side to move on it.
-use Rattle.std.proofs.Common.{Option, Some, None, ◌==◌, All, AllPairs, IsSome, count_by, ◌≡◌, ℕ, zero, suc, ◌+◌, ◌≤◌}
-use Rattle.std.proofs.Common.{◌<◌, Bool, true, false, cond, refl, sym, ap, ◌∙◌, arith, List, [], ◌∷◌, length, get_or, take}
-use Rattle.std.proofs.Common.{IfSome, MatchOption, not, rules}
+use Rattle.std.proofs.Common.{Option, Some, None, All, AllPairs, IsSome, count_by, ◌≡◌, ℕ, zero, suc, ◌+◌, ◌≤◌, ◌<◌, Bool, true, false}
+use Rattle.std.proofs.Common.{cond, refl, sym, ap, ◌∙◌, arith, List, [], ◌∷◌, length, get_or, take, IfSome, MatchOption, not, rules}
 use Rattle.std.proofs.lemmas.List.Sums.{fold_more, sum_by-cons}
-use Rattle.game_rules.proofs.Common.{Grid, is_on, is_empty, put, IsBoard, is_stone_of, stone_of, stones_of, is_same_point, NamesMover}
-use Rattle.game_rules.proofs.Common.{other, mover}
-use Rattle.game_rules.specs.declared.Side.{Side}
-use Rattle.game_rules.specs.declared.Point.{Point}
+use Rattle.brain_session.proofs.Common.{Grid, is_on, is_empty, put, IsBoard, is_stone_of, stones_of, is_same_point, other, mover, Side}
+use Rattle.brain_session.proofs.Common.{Point, BatchStone, Batch, empty_board, side_of, with_batch_stones, colour_by, colour_in, StonesFit}
+use Rattle.game_rules.proofs.Common.{stone_of, NamesMover}
 use Rattle.game_rules.proofs.Boards.{is_empty-on, is_empty-put}
 use Rattle.game_rules.proofs.Points.{is_same_point-apart}
 use Rattle.game_rules.proofs.Positions.{IsBoard-put, stones_of-put}
 use Rattle.game_rules.proofs.Cells.{own_stone, other_stone}
-use Rattle.brain_session.specs.declared.batch.BatchStone.{BatchStone}
-use Rattle.brain_session.proofs.Common.{Batch, empty_board, side_of, with_batch_stones, colour_by, colour_in, StonesFit}
 use Rattle.brain_session.proofs.SessionBoards.{empty-empty, no-stones}
 
 -- an item of a list is the same whatever stands for those past its end
@@ -68,10 +64,8 @@ stones_of-with brain s (x ∷ xs) b board empty distinct =
     stones_of-put b (side_of brain x) s x.at board here in
     let rest : stones_of (with_batch_stones brain c xs) s ≡ stones_of c s + count_by (λ y. is_stone_of s (stone_of (side_of brain y))) xs =
     stones_of-with brain s xs c (IsBoard-put b (side_of brain x) x.at board)
-    (λ k d less.
-    is_empty-put b (side_of brain x) x.at (get_or xs k d).at (is_empty-on b x.at here)
-    (is_same_point-apart x.at (get_or xs k d).at (distinct 0 (suc k) d (omega arith) (omega arith)))
-    ∙ empty (suc k) d (omega arith))
+    (λ k d less. is_empty-put b (side_of brain x) x.at (get_or xs k d).at (is_empty-on b x.at here)
+    (is_same_point-apart x.at (get_or xs k d).at (distinct 0 (suc k) d (omega arith) (omega arith))) ∙ empty (suc k) d (omega arith))
     (λ i j d less more. distinct (suc i) (suc j) d (omega arith) (omega arith)) in
     let more = sum_by-cons (λ (y : BatchStone). cond (is_stone_of s (stone_of (side_of brain y))) 1 0) x xs in
     omega arith
@@ -101,9 +95,8 @@ batch-counts brain width height stones bad board fit =
           ∙ count_by-same (λ x. is_stone_of brain (stone_of (side_of brain x))) (λ x. x.own) stones (λ x. own_stone brain x.own),
       stones_of-with brain (other brain) stones b board empty fit.distinct
           ∙ none (stones_of b (other brain)) (count_by (λ x. is_stone_of (other brain) (stone_of (side_of brain x))) stones)
-          (no-stones width height (other brain))
-          ∙ count_by-same (λ x. is_stone_of (other brain) (stone_of (side_of brain x))) (λ x. not x.own) stones
-          (λ x. other_stone brain x.own),
+          (no-stones width height (other brain)) ∙ count_by-same
+          (λ x. is_stone_of (other brain) (stone_of (side_of brain x))) (λ x. not x.own) stones (λ x. other_stone brain x.own),
     )
 
 -- on the board of a batch whose stones name the brain's colour, the brain is to move
@@ -112,9 +105,8 @@ pub batch-mover : (brain : Side) (width height : ℕ) (stones : List BatchStone)
     → mover (with_batch_stones brain (empty_board width height) stones) ≡ brain
 batch-mover brain width height stones bad board fit colour =
     let counts = batch-counts brain width height stones bad board fit in
-    mover-by brain (with_batch_stones brain (empty_board width height) stones) (count_by (λ x. x.own) stones)
-    (count_by (λ x. not x.own) stones)
-    counts.0 counts.1 colour
+    mover-by brain (with_batch_stones brain (empty_board width height) stones)
+    (count_by (λ x. x.own) stones) (count_by (λ x. not x.own) stones) counts.0 counts.1 colour
 
 -- where the counts of the batch's board name the brain as the side to move, its stones name the brain's colour
 pub batch-colour : (brain : Side) (b : Grid) (own others : ℕ) → NamesMover b → mover b ≡ brain → stones_of b brain ≡ own

@@ -1,7 +1,6 @@
 -- A batch has room for a stone on each free point: its stones stand on different points of a board, which has few.
-use Rattle.std.proofs.Common.{◌≡◌, ℕ, ◌<◌, ◌≤◌, ◌*◌, ◌++◌, Bool, true, false, not, sym, subst, rules}
-use Rattle.std.proofs.Common.{◌∙◌, arith, List, [], ◌∷◌, map, length, get_or, length-append, Option, Some, None, IfSome, IsSome}
-use Rattle.std.proofs.Common.{if◌then◌else◌}
+use Rattle.std.proofs.Common.{◌≡◌, ℕ, ◌<◌, ◌≤◌, ◌*◌, ◌++◌, Bool, true, false, not, sym, subst, rules, ◌∙◌, arith, List, [], ◌∷◌, map}
+use Rattle.std.proofs.Common.{length, get_or, length-append, Option, Some, None, IfSome, if◌then◌else◌}
 use Rattle.std.specs.List.{list_any, IsDistinct}
 use Rattle.std.specs.Cmp.{IsEquivalence}
 use Rattle.std.proofs.lemmas.List.{get_or-map, length-map}
@@ -9,17 +8,11 @@ use Rattle.std.proofs.lemmas.List.Folds.{Any-from_list_any}
 use Rattle.std.proofs.lemmas.Map.Keys.{IsDistinct-from_apart}
 use Rattle.std.proofs.lemmas.Map.Made.{length-le_from_is_member}
 use Rattle.std.proofs.Math.Nat.{mul-le-mul_left}
-use Rattle.game_rules.specs.declared.TheConstants.{MAX_SIDE}
-use Rattle.game_rules.specs.declared.RuleKind.{RuleKind}
-use Rattle.game_rules.proofs.Common.{Grid, is_on, points_of, IsPosition, is_same_point}
-use Rattle.game_rules.specs.declared.Point.{Point}
+use Rattle.brain_session.proofs.Common.{MAX_SIDE, RuleKind, Grid, is_on, points_of, IsPosition, is_same_point, Point, HeldTable, BatchStone}
+use Rattle.brain_session.proofs.Common.{Batch, Place, State, has_stone_at, board_in, IsPlayed, IsPlace, IsBrain, StonesFit, IsPointOn}
 use Rattle.game_rules.proofs.Places.{points_length}
 use Rattle.game_rules.proofs.Points.{is_same_point-itself, is_same_point-same, points-found}
-use Rattle.strategy_checker.specs.HeldRoots.{HeldTable}
 use Rattle.brain_session.specs.declared.TheConstants.{MAX_POINTS}
-use Rattle.brain_session.specs.declared.batch.BatchStone.{BatchStone}
-use Rattle.brain_session.proofs.Common.{Batch, Place, State, has_stone_at, board_in, IsPlayed, IsPlace, IsBrain}
-use Rattle.brain_session.proofs.Common.{StonesFit, IsPointOn}
 use Rattle.brain_session.proofs.SessionGames.{start-lawful}
 use Rattle.brain_session.proofs.Takings.{stone_fits, told-on}
 
@@ -86,8 +79,7 @@ lawful-start true rule start [] played = absurd played
 lawful-start true rule start (p ∷ before) played = start-lawful rule start before played.0
 
 -- it is no larger than the largest
-fitting : (h : HeldTable) (place : Place) → IsPlace h place
-    → ((board_in place).width ≤ MAX_SIDE) × ((board_in place).height ≤ MAX_SIDE)
+fitting : (h : HeldTable) (place : Place) → IsPlace h place → ((board_in place).width ≤ MAX_SIDE) × ((board_in place).height ≤ MAX_SIDE)
 fitting h place is = search (rules, lawful-start)
 
 -- the batch of a brain has room for a stone on a point that has none

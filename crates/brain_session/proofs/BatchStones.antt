@@ -1,23 +1,19 @@
 -- The stones of a batch that makes a board.
-use Rattle.std.proofs.Common.{not, List, map, ℕ, ◌<◌, [], ◌∷◌, ◌≤◌, arith, ◌++◌, ◌≡◌, refl, ap, ◌∙◌, Bool}
-use Rattle.std.proofs.Common.{false, ◌||◌, true, inl, inr, sym, subst, cond, ◌&&◌, ◌+◌, ◌*◌, ◌/◌, ◌%◌, length}
-use Rattle.std.proofs.Common.{filter, slice_index_or, rules}
+use Rattle.std.proofs.Common.{not, List, map, ℕ, ◌<◌, [], ◌∷◌, ◌≤◌, arith, ◌++◌, ◌≡◌, refl, ap, ◌∙◌, Bool, false, ◌||◌, true, inl, inr, sym}
+use Rattle.std.proofs.Common.{subst, cond, ◌&&◌, ◌+◌, ◌*◌, ◌/◌, ◌%◌, length, filter, slice_index_or, rules}
 use Rattle.std.specs.List.{list_any}
 use Rattle.std.proofs.Math.Nat.{div-lt_iff_lt-mul}
 use Rattle.std.proofs.lemmas.Bool.{lt-ltb, or_right}
 use Rattle.std.proofs.lemmas.List.{ext_get_or}
-use Rattle.game_rules.proofs.Common.{Grid, holds, is_empty, is_on, is_empty_cell, is_stone_of, cell_at, put, IsBoard, points_of}
-use Rattle.game_rules.proofs.Common.{mover, other, is_same_point}
-use Rattle.game_rules.specs.declared.Point.{Point}
-use Rattle.game_rules.specs.declared.RuleKind.{RuleKind}
+use Rattle.brain_session.proofs.Common.{Grid, holds, is_empty, is_on, is_empty_cell, is_stone_of, put, IsBoard, points_of, mover, other}
+use Rattle.brain_session.proofs.Common.{is_same_point, Point, RuleKind, Empty, BatchStone, has_stone_at, side_of, with_batch_stones}
+use Rattle.brain_session.proofs.Common.{same_rule, empty_board}
+use Rattle.game_rules.proofs.Common.{cell_at}
 use Rattle.game_rules.proofs.Places.{place, earlier-differs, listed_on}
 use Rattle.game_rules.proofs.Boards.{same_or_apart, cell_at-put_other, cell_at-put_same, and_right, is_empty-cell}
 use Rattle.game_rules.proofs.Points.{apart-is_same_point, is_same_point-itself, points-found}
 use Rattle.game_rules.proofs.Cells.{stone-there, Makes, IsLike, on-like, same-length, makes-empty}
-use Rattle.game_rules.specs.declared.Cell.TheVariants.{Empty}
 use Rattle.game_rules.proofs.Positions.{IsBoard-put}
-use Rattle.brain_session.specs.declared.batch.BatchStone.{BatchStone}
-use Rattle.brain_session.proofs.Common.{has_stone_at, side_of, with_batch_stones, same_rule, empty_board}
 use Rattle.brain_session.proofs.SessionBoards.{empty-board, empty-empty}
 
 -- the stone on a point, where the brain is the side to move
@@ -75,15 +71,12 @@ module _ (b c : Grid) (p : Point) (ps : List Point) (like : IsLike b c) (on_p : 
   makes-stone makes q on = elim (same_or_apart p q) [
     | inl same ↦ inl (subst (λ (x : Point). cell_at next x ≡ cell_at b x) same there)
     | inr apart ↦
-        let kept : cell_at next q ≡ cell_at c q = cell_at-put_other c (side_of (mover b) (stone_at b p)) p q (on-like b c p like on_p)
-        (on-like b c q like on) apart in
+        let kept : cell_at next q ≡ cell_at c q =
+        cell_at-put_other c (side_of (mover b) (stone_at b p)) p q (on-like b c p like on_p) (on-like b c q like on) apart in
         elim (makes q on) [
           | inl same ↦ inl (kept ∙ same)
-          | inr later ↦ inr (
-            kept ∙ later.0,
-            sym
-                (ap (λ (r : Bool). r || list_any (λ x. is_same_point x q) ps) (apart-is_same_point p q apart)) ∙ later.1,
-          )
+          | inr later ↦ inr
+              (kept ∙ later.0, sym (ap (λ (r : Bool). r || list_any (λ x. is_same_point x q) ps) (apart-is_same_point p q apart)) ∙ later.1)
         ]
   ]
 
@@ -101,8 +94,7 @@ same-at b c board wide same k less =
     let at : k / b.width * b.width + k % b.width ≡ k = omega (arith, some_width) in
     let there : k / b.width * c.width + k % b.width ≡ k = ap (λ (w : ℕ). k / b.width * w + k % b.width) wide ∙ at in
     sym (ap (λ (i : ℕ). slice_index_or c.cells i Empty) there)
-    ∙ same p (rw (lt-ltb p.x b.width across, lt-ltb p.y b.height rows) refl)
-    ∙ ap (λ (i : ℕ). slice_index_or b.cells i Empty) at
+    ∙ same p (rw (lt-ltb p.x b.width across, lt-ltb p.y b.height rows) refl) ∙ ap (λ (i : ℕ). slice_index_or b.cells i Empty) at
 
 -- two boards of one size that have the same cell at each point are one
 pub same-cells : (b c : Grid) → IsBoard b → IsBoard c → c.width ≡ b.width → c.height ≡ b.height
@@ -116,10 +108,8 @@ same-cells b c board other wide high same =
 rebuilt : (b : Grid) → IsBoard b → (ps : List Point) → ((q : Point) → list_any (λ p. is_same_point p q) ps ≡ true → is_on b q ≡ true)
     → (c : Grid) → IsLike b c → Makes b c ps → with_batch_stones (mover b) c (stones_at b ps) ≡ b
 unfolding Makes
-rebuilt b board [] on c like makes = same-cells b c board like.board like.wide like.high (λ q o. elim (makes q o) [
-  | inl same ↦ same
-  | inr later ↦ let wrong = later.1 in absurd (cc)
-])
+rebuilt b board [] on c like makes = same-cells b c board like.board like.wide like.high
+    (λ q o. elim (makes q o) [ inl same ↦ same | inr later ↦ let wrong = later.1 in absurd (cc) ])
 rebuilt b board (p ∷ ps) on c like makes = by_test (is_empty b p) refl (λ d alike made. rebuilt b board ps rest d alike made) where
   rest : (q : Point) → list_any (λ x. is_same_point x q) ps ≡ true → is_on b q ≡ true
   rest q h = on q (or_right (is_same_point p q) _ h)
@@ -131,18 +121,15 @@ rebuilt b board (p ∷ ps) on c like makes = by_test (is_empty b p) refl (λ d a
       → with_batch_stones (mover b) c
       (map (stone_at b) (cond (not r) (p ∷ filter (λ x. not (is_empty b x)) ps) (filter (λ x. not (is_empty b x)) ps))) ≡ b
   by_test true e later = later c like (makes-empty b c p ps e makes)
-  by_test false e later =
-      later (put c (side_of (mover b) (stone_at b p)) p)
+  by_test false e later = later (put c (side_of (mover b) (stone_at b p)) p)
       (record { board = IsBoard-put c (side_of (mover b) (stone_at b p)) p like.board; wide = like.wide; high = like.high })
       (makes-stone b c p ps like on_p e makes)
 
 -- the stones of a board make it
 pub stones-make : (b : Grid) → IsBoard b → with_batch_stones (mover b) (empty_board b.width b.height) (stones_at b (points_of b)) ≡ b
 unfolding Makes
-stones-make b board =
-    rebuilt b board (points_of b) (listed_on b) (empty_board b.width b.height)
-    (record { board = empty-board b board; wide = refl; high = refl })
-    (λ q on. inr (
+stones-make b board = rebuilt b board (points_of b)
+    (listed_on b) (empty_board b.width b.height) (record { board = empty-board b board; wide = refl; high = refl }) (λ q on. inr (
       is_empty-cell (cell_at (empty_board b.width b.height) q)
           (and_right (is_on b q) (is_empty_cell (cell_at (empty_board b.width b.height) q)) (empty-empty b.width b.height q on)),
       points-found b (λ p. is_same_point p q) q on (is_same_point-itself q),

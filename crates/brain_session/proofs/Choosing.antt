@@ -1,16 +1,9 @@
 -- The choice where nothing is followed yet, by what applies.
-use Rattle.std.proofs.Common.{◌≡◌, ℕ, ap, subst, ◌∙◌, Option, Some, None, IfSome, option_map, rules}
-use Rattle.game_rules.proofs.Common.{Grid}
-use Rattle.game_rules.specs.declared.RuleKind.{RuleKind}
-use Rattle.game_rules.specs.declared.Point.{Point}
-use Rattle.strategy_graph.proofs.Common.{IsTable}
-use Rattle.strategy_checker.specs.HeldRoots.{HeldTable}
-use Rattle.four_search.specs.declared.fewest.FourTable.{FourTable}
+use Rattle.std.proofs.Common.{◌≡◌, ℕ, ap, subst, Option, Some, None, IfSome, option_map, rules}
+use Rattle.brain_session.proofs.Common.{Grid, RuleKind, Point, IsTable, HeldTable, FourTable, Guide, Followed, HeldNode, OwnWin, Game}
+use Rattle.brain_session.proofs.Common.{board_of, Choice, or_else, move_by, by_following, first_node, own_win, by_own_win, by_plain_move}
+use Rattle.brain_session.proofs.Common.{chosen_anew, IsFound, IsOwnTable, NodeStandsAt, StandsAt, choice_of, followed_of, nodes_of}
 use Rattle.brain_session.specs.declared.choice.ChosenMove.{ChosenMove}
-use Rattle.brain_session.specs.declared.guide.Guide.{Guide}
-use Rattle.brain_session.proofs.Common.{Followed, HeldNode, OwnWin, Game, board_of, Choice, or_else, move_by, by_following, first_node}
-use Rattle.brain_session.proofs.Common.{own_win, by_own_win, by_plain_move, chosen_anew, IsFound, IsOwnTable, NodeStandsAt}
-use Rattle.brain_session.proofs.Common.{StandsAt, choice_of, followed_of, nodes_of}
 
 module _ (h : HeldTable) (g : Game) where
   -- what is followed where its move is this

@@ -42,3 +42,54 @@ pub use Rattle.brain_session.specs.Steps.{turn_row, unread, with_choice, with_mo
 unfoldable pub use Rattle.brain_session.specs.Steps.{row_of}
 pub use Rattle.brain_session.specs.TurnLines.{IsSomeBoards, OwnRepliesAreAnsweredInBytes, RepliesAreAnsweredInBytes, TurnLinesAreRead}
 pub use Rattle.brain_session.specs.TurnLines.{turn_line, turn_lines}
+pub use Rattle.brain_session.specs.declared.Reaction.{Reaction}
+pub use Rattle.brain_session.specs.declared.Reaction.TheVariants.{Ends, Says, Silent}
+pub use Rattle.brain_session.specs.declared.TheConstants.{OWN_MOVES, OWN_POSITIONS}
+pub use Rattle.brain_session.specs.declared.batch.BatchStone.{BatchStone}
+pub use Rattle.brain_session.specs.declared.game.SessionGame.{SessionGame}
+pub use Rattle.brain_session.specs.declared.guide.Guide.{Guide}
+pub use Rattle.four_search.specs.FourGame.{four_cost, least_moves}
+unfoldable pub use Rattle.four_search.specs.Plans.{four_plan}
+pub use Rattle.four_search.specs.declared.fewest.FourTable.{FourTable}
+pub use Rattle.game_rules.specs.Games.{LosesOr, WinsOr, has_five, wins_by_fours}
+pub use Rattle.game_rules.specs.Grid.{Grid, IsBoard, empties_of, holds, is_empty, is_empty_cell, is_on, is_stone_of, points_of, put}
+pub use Rattle.game_rules.specs.Grid.{stones_of}
+pub use Rattle.game_rules.specs.Play.{IsPosition, after, goes_on, is_foul, mover, other}
+unfoldable pub use Rattle.game_rules.specs.Play.{outcome}
+pub use Rattle.game_rules.specs.Shapes.{five, is_same_point}
+pub use Rattle.game_rules.specs.declared.Cell.{Cell}
+pub use Rattle.game_rules.specs.declared.Cell.TheVariants.{Empty}
+pub use Rattle.game_rules.specs.declared.Foul.{Foul}
+pub use Rattle.game_rules.specs.declared.Outcome.{Outcome}
+pub use Rattle.game_rules.specs.declared.Outcome.TheVariants.{Draws, Fouls, GoesOn, Refused}
+pub use Rattle.game_rules.specs.declared.Point.{Point}
+pub use Rattle.game_rules.specs.declared.RuleKind.{RuleKind}
+pub use Rattle.game_rules.specs.declared.Side.{Side}
+pub use Rattle.game_rules.specs.declared.Side.TheVariants.{Black, White}
+pub use Rattle.game_rules.specs.declared.TheConstants.{MAX_SIDE}
+pub use Rattle.gomocup_text.specs.Answers.{answer_text}
+pub use Rattle.gomocup_text.specs.Commands.{command_told, commands}
+pub use Rattle.gomocup_text.specs.declared.Answer.{Answer}
+pub use Rattle.gomocup_text.specs.declared.Answer.TheVariants.{Error, Move}
+pub use Rattle.gomocup_text.specs.declared.Command.{Command}
+pub use Rattle.gomocup_text.specs.declared.Command.TheVariants.{About, Begin, Blank, Board, Done, Info, Malformed, RectStart, Restart, Rule}
+pub use Rattle.gomocup_text.specs.declared.Command.TheVariants.{Start, Stone, Takeback, Turn, Unknown}
+pub use Rattle.gomocup_text.specs.declared.ErrorText.{ErrorText}
+pub use Rattle.gomocup_text.specs.declared.ErrorText.TheVariants.{BadArguments, BadBoard, BadMove, GameOver, NotReading, OpponentFoul}
+pub use Rattle.gomocup_text.specs.declared.ErrorText.TheVariants.{UnsupportedRule, WrongTurn}
+pub use Rattle.renju_io.specs.Asked.{IsAskedWithin}
+pub use Rattle.renju_io.specs.Lines.{ReaderState, lines, reads_for, whole_lines}
+pub use Rattle.renju_io.specs.declared.TheConstants.{MAX_SESSION_BYTES}
+pub use Rattle.strategy_checker.specs.HeldRoots.{HeldTable, IsHeld, IsHeldRoot}
+pub use Rattle.strategy_checker.specs.declared.held.HeldRoot.{HeldRoot}
+pub use Rattle.strategy_compiler.specs.Trees.{StandsFor}
+pub use Rattle.strategy_graph.specs.Acceptance.{Accepted, Meets}
+unfoldable pub use Rattle.strategy_graph.specs.Acceptance.{AcceptedWithin}
+pub use Rattle.strategy_graph.specs.Games.{NoMove, Open, after_attack, one_later}
+unfoldable pub use Rattle.strategy_graph.specs.Games.{attacks, game}
+pub use Rattle.strategy_graph.specs.Roots.{AcceptedRoot}
+pub use Rattle.strategy_graph.specs.Tables.{Answers, IsTable, answer, answer_at, answers_of, depth, is_winning, start_depth}
+unfoldable pub use Rattle.strategy_graph.specs.Tables.{depth_within}
+pub use Rattle.strategy_graph.specs.declared.Node.{Node}
+pub use Rattle.strategy_graph.specs.declared.roots.Root.{Root}
+pub use Rattle.strategy_graph.specs.declared.roots.Root.TheVariants.{Attack, Defend}

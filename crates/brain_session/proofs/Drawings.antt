@@ -1,32 +1,21 @@
 -- The drawing of a session has the board of the brain, line by line.
-use Rattle.std.proofs.Common.{◌≡◌, ◌≢◌, ℕ, ◌≤◌, Bool, true, false, cond, ◌&&◌, ◌||◌, not, ◌==◌, List, []}
-use Rattle.std.proofs.Common.{◌∷◌, ◌++◌, refl, sym, ap, subst, ◌∙◌, arith, Option, Some, None, IfSome, fold}
-use Rattle.std.proofs.Common.{option_map, rules}
+use Rattle.std.proofs.Common.{◌≡◌, ◌≢◌, ℕ, Bool, true, false, cond, not, ◌==◌, List, [], ◌∷◌, ◌++◌, refl, sym, ap, subst, ◌∙◌, arith}
+use Rattle.std.proofs.Common.{Option, Some, None, IfSome, fold, option_map, rules}
 use Rattle.std.proofs.lemmas.Option.{same_Some}
-use Rattle.game_rules.proofs.Common.{Grid, IsBoard, is_same_point, mover, outcome}
-use Rattle.game_rules.specs.declared.RuleKind.{RuleKind}
-use Rattle.game_rules.specs.declared.Side.{Side}
-use Rattle.game_rules.specs.declared.Side.TheVariants.{White}
-use Rattle.game_rules.specs.declared.Outcome.{Outcome}
-use Rattle.game_rules.specs.declared.Point.{Point}
-use Rattle.gomocup_text.specs.declared.Command.{Command}
-use Rattle.gomocup_text.specs.declared.Command.TheVariants.{Start, RectStart, Begin, Turn, Board, Stone, Done, Restart, Takeback, Rule}
-use Rattle.gomocup_text.specs.declared.Command.TheVariants.{Info, About, End, Blank, Malformed, Unknown}
-use Rattle.gomocup_text.specs.declared.Answer.{Answer}
-use Rattle.gomocup_text.specs.declared.Answer.TheVariants.{Ok as SaysOk, Move, Error, Unknown as SaysUnknown}
-use Rattle.gomocup_text.specs.declared.ErrorText.{ErrorText}
-use Rattle.gomocup_text.specs.declared.ErrorText.TheVariants.{NoBoard as NoBoardText, NotReading, UnsupportedRule}
-use Rattle.gomocup_text.specs.declared.ErrorText.TheVariants.{BadBoard, BadArguments, GameOver, WrongTurn, BadMove}
-use Rattle.brain_session.specs.declared.Reaction.TheVariants.{Says, Ends}
-use Rattle.brain_session.specs.declared.batch.BatchStone.{BatchStone}
-use Rattle.brain_session.proofs.Common.{Game, board_of, empty_board, new_game, point_at, Place, NoBoard, Fresh}
-use Rattle.brain_session.proofs.Common.{InGame, Batch, State, spoiled, colour_in, with_batch_stones}
-use Rattle.brain_session.proofs.Common.{game_from, chosen, without_last, Row, Reacts, fails, unread, placed, rule_of}
-use Rattle.brain_session.proofs.Common.{if_supported, start_row, restart_row, board_row, board_in, stone_row, batch_row, done_row}
-use Rattle.brain_session.proofs.Common.{begin_row, same_side, move_row, turn_row, is_bare, place_before, last_row}
-use Rattle.brain_session.proofs.Common.{takeback_row, if_not_reading, row_of, step_by, brain_step, state_after, HasNoEnd}
-use Rattle.brain_session.proofs.Common.{Exchange, Sheet, Drawing, SessionsAreDrawn, answer_in, exchanges, blank, set_up, wiped, sent_anew}
-use Rattle.brain_session.proofs.Common.{sent_board, set_out, with_answer, with_reply, taken_back, with_moves, drawn_after, drawn}
+use Rattle.brain_session.proofs.Common.{Grid, IsBoard, is_same_point, mover, outcome, RuleKind, Side, White, Outcome, Point, Command, Start}
+use Rattle.brain_session.proofs.Common.{RectStart, Begin, Turn, Board, Stone, Done, Restart, Takeback, Rule, Info, About, Blank, Malformed}
+use Rattle.brain_session.proofs.Common.{Unknown, Answer, Move, Error, ErrorText, NotReading, UnsupportedRule, BadBoard, BadArguments}
+use Rattle.brain_session.proofs.Common.{GameOver, WrongTurn, BadMove, Says, Ends, BatchStone, Game, board_of, empty_board, new_game}
+use Rattle.brain_session.proofs.Common.{point_at, Place, NoBoard, Fresh, InGame, Batch, State, spoiled, colour_in, with_batch_stones}
+use Rattle.brain_session.proofs.Common.{game_from, chosen, without_last, Row, Reacts, fails, unread, placed, rule_of, if_supported}
+use Rattle.brain_session.proofs.Common.{start_row, restart_row, board_row, board_in, stone_row, batch_row, done_row, begin_row, same_side}
+use Rattle.brain_session.proofs.Common.{move_row, turn_row, is_bare, place_before, last_row, takeback_row, if_not_reading, row_of, step_by}
+use Rattle.brain_session.proofs.Common.{brain_step, state_after, HasNoEnd, Exchange, Sheet, Drawing, SessionsAreDrawn, answer_in, exchanges}
+use Rattle.brain_session.proofs.Common.{blank, set_up, wiped, sent_anew, sent_board, set_out, with_answer, with_reply, taken_back}
+use Rattle.brain_session.proofs.Common.{with_moves, drawn_after, drawn}
+use Rattle.gomocup_text.specs.declared.Command.TheVariants.{End}
+use Rattle.gomocup_text.specs.declared.Answer.TheVariants.{Ok as SaysOk, Unknown as SaysUnknown}
+use Rattle.gomocup_text.specs.declared.ErrorText.TheVariants.{NoBoard as NoBoardText}
 use Rattle.brain_session.proofs.SessionBoards.{bare-board}
 use Rattle.brain_session.proofs.SessionLaws.{first_goes_on, later_go_on, only_end_ends, state_goes_on}
 use Rattle.brain_session.proofs.LawfulStates.{BatchFits, LawfulPlace, LawfulState, next-lawful, went_from}
@@ -84,9 +73,8 @@ pub record IsSent (place : Place) (sent : Option (List BatchStone)) (rule : Rule
   pub rule_is : g.rule ≡ rule
   pub followed : g.followed ≡ None
 
-pub batch-sent : (s : State) (sent : Option (List BatchStone)) → AreSent s.batch sent → LawfulState s
-    → (rule : RuleKind) (b : Batch) (g : Game)
-    → s.batch ≡ Some b → game_from rule (board_in s.place) b ≡ Some g → IsSent s.place sent rule g
+pub batch-sent : (s : State) (sent : Option (List BatchStone)) → AreSent s.batch sent → LawfulState s → (rule : RuleKind)
+    (b : Batch) (g : Game) → s.batch ≡ Some b → game_from rule (board_in s.place) b ≡ Some g → IsSent s.place sent rule g
 batch-sent s sent are lawful rule b g read begun = search (rules, reads_on, from_batch)
 
 -- ---- one line
@@ -166,11 +154,8 @@ module _ (s : State) (x : Option (List BatchStone)) (sent : AreSent s.batch x) w
 
     by_rule : (b : Batch) → s.batch ≡ Some b → (o : Option RuleKind)
         → SetsOut (if_supported o (unread s) (λ rule. batch_row s (game_from rule (board_in s.place) b)))
-    by_rule b read None = record {
-      wish = refl;
-      sheet = same_sheets (set_out (Some (Error UnsupportedRule)) x) (λ sheet. refl) (sheet_of s.place);
-      sent = tt;
-    }
+    by_rule b read None =
+        record { wish = refl; sheet = same_sheets (set_out (Some (Error UnsupportedRule)) x) (λ sheet. refl) (sheet_of s.place); sent = tt }
     by_rule b read (Some rule) = by_game rule b read (game_from rule (board_in s.place) b) refl
 
     by_batch : (batch : Option Batch) → s.batch ≡ batch → SetsOut (done_row s batch)
@@ -197,11 +182,7 @@ module _ (s : State) (x : Option (List BatchStone)) (sent : AreSent s.batch x) w
   unless_read f same row drawn_row = by_batch s.batch refl where
     by_batch : (batch : Option Batch) → s.batch ≡ batch → Moves f (if_not_reading s batch (λ _. row))
     by_batch None e = drawn_row e
-    by_batch (Some b) e = record {
-      wish = refl;
-      sheet = same_moves (f None) same (sheet_of s.place);
-      sent = spoiled_sent b e;
-    }
+    by_batch (Some b) e = record { wish = refl; sheet = same_moves (f None) same (sheet_of s.place); sent = spoiled_sent b e }
 
   begin_drawn : s.batch ≡ None → (place : Place) → s.place ≡ place → Moves with_answer (begin_row s place)
   begin_drawn none place e = search (rules, fails_drawn, none_sent)
@@ -245,13 +226,11 @@ module _ (s : State) (x : Option (List BatchStone)) (sent : AreSent s.batch x) w
     by_moves : (moves : List Point) → g.moves ≡ moves → Moves taken_back (last_row s g p moves)
     by_moves [] is = fails_drawn taken_back BadMove (λ ms. refl)
     by_moves (last ∷ before) is = by_test (is_same_point last p) where
-      by_test : (r : Bool) → Moves taken_back
-          (cond r (Reacts (Says SaysOk) (placed s (place_before g before))) (fails BadMove s))
+      by_test : (r : Bool) → Moves taken_back (cond r (Reacts (Says SaysOk) (placed s (place_before g before))) (fails BadMove s))
       by_test true = record {
         wish = refl;
         sheet = ap (λ (place : Place). on_sheet (taken_back (Some SaysOk)) (sheet_of place)) e
-            ∙ ap (λ (ms : List Point). Some (sheet_with g.start (without_last ms))) is
-            ∙ before_it before;
+            ∙ ap (λ (ms : List Point). Some (sheet_with g.start (without_last ms))) is ∙ before_it before;
         sent = none_sent none;
       }
       by_test false = fails_drawn taken_back BadMove (λ ms. refl)
@@ -276,12 +255,10 @@ module _ (s : State) (x : Option (List BatchStone)) (sent : AreSent s.batch x) w
   step_drawn lawful Malformed = plain_drawn (Error BadArguments)
   step_drawn lawful Unknown = plain_drawn SaysUnknown
   step_drawn lawful Begin = unless_read with_answer (λ ms. refl) (begin_row s s.place) (λ none. begin_drawn none s.place refl)
-  step_drawn lawful (Turn a b) =
-      unless_read (λ r. with_reply r (point_at a b)) (λ ms. refl) (turn_row s s.place (point_at a b))
-      (λ none. turn_drawn none (point_at a b) s.place refl)
-  step_drawn lawful (Takeback a b) =
-      unless_read taken_back (λ ms. refl) (takeback_row s s.place (point_at a b))
-      (λ none. takeback_drawn lawful none (point_at a b) s.place refl)
+  step_drawn lawful (Turn a b) = unless_read (λ r. with_reply r (point_at a b))
+      (λ ms. refl) (turn_row s s.place (point_at a b)) (λ none. turn_drawn none (point_at a b) s.place refl)
+  step_drawn lawful (Takeback a b) = unless_read taken_back
+      (λ ms. refl) (takeback_row s s.place (point_at a b)) (λ none. takeback_drawn lawful none (point_at a b) s.place refl)
 
 -- ---- sessions
 
@@ -301,25 +278,17 @@ session_drawn s d (c ∷ cs) lawful is no_end =
     let goes_on : step.reaction ≢ Ends = λ e. first_goes_on c cs no_end (only_end_ends s c e) in
     subst (λ (u : State). IsDrawn u
     (fold (λ (d : Drawing) (x : Exchange). drawn_after d x.line x.answer) (drawn_after d c (answer_in step.reaction))
-    (exchanges step.next cs)))
-    (sym (state_goes_on step.reaction step.next (state_after step.next cs) goes_on))
+    (exchanges step.next cs))) (sym (state_goes_on step.reaction step.next (state_after step.next cs) goes_on))
     (session_drawn step.next (drawn_after d c (answer_in step.reaction)) cs (next-lawful s.held s c (lawful, refl)).0
     (next_drawn s d c lawful is) (later_go_on c cs no_end))
 
 -- what is drawn of a session from a new brain on
 pub drawn-session : (s : State) (cs : List Command) → s.wish ≡ 0 → s.place ≡ NoBoard → s.batch ≡ None → HasNoEnd cs
     → IsDrawn (state_after s cs) (drawn (exchanges s cs))
-drawn-session s cs wish place batch no_end =
-    session_drawn s blank cs
-    (record {
-      place = subst LawfulPlace (sym place) tt;
-      batch = subst (λ (o : Option Batch). IfSome o (BatchFits (board_in s.place))) (sym batch) tt;
-    })
-    (record {
-      wish = sym wish;
-      sheet = ap sheet_of (sym place);
-      sent = subst (λ (o : Option Batch). AreSent o None) (sym batch) tt;
-    }) no_end
+drawn-session s cs wish place batch no_end = session_drawn s blank cs (record {
+  place = subst LawfulPlace (sym place) tt;
+  batch = subst (λ (o : Option Batch). IfSome o (BatchFits (board_in s.place))) (sym batch) tt;
+}) (record { wish = sym wish; sheet = ap sheet_of (sym place); sent = subst (λ (o : Option Batch). AreSent o None) (sym batch) tt }) no_end
 
 pub sessions-are_drawn : SessionsAreDrawn
 sessions-are_drawn held cs no_end = search (rules, drawn-session)

@@ -1,28 +1,18 @@
 -- A game in which something is followed, a held node or a win of the brain's own: what each later command does to it.
-use Rattle.std.proofs.Common.{◌≡◌, ℕ, suc, ◌<◌, Bool, true, false, cond, List, [], ◌∷◌, refl, sym, ap, subst}
-use Rattle.std.proofs.Common.{◌∙◌, not, Option, Some, None, is_some, rules}
-use Rattle.game_rules.proofs.Common.{Grid, is_empty, outcome, after, IsPosition, mover, other, WinsOr, LosesOr}
+use Rattle.std.proofs.Common.{◌≡◌, ℕ, suc, ◌<◌, Bool, true, false, cond, List, [], ◌∷◌, refl, sym, ap, subst, ◌∙◌, not, Option, Some, None}
+use Rattle.std.proofs.Common.{is_some, rules}
+use Rattle.brain_session.proofs.Common.{Grid, is_empty, outcome, after, IsPosition, mover, other, WinsOr, LosesOr, RuleKind, Foul, Outcome}
+use Rattle.brain_session.proofs.Common.{Refused, Fouls, Draws, GoesOn, Point, Side, one_later, HeldTable, Answer, Move, Error, ErrorText}
+use Rattle.brain_session.proofs.Common.{OpponentFoul, UnsupportedRule, GameOver, BadMove, Command, Start, RectStart, Turn, Board, Restart}
+use Rattle.brain_session.proofs.Common.{Takeback, Rule, Says, Game, board_of, point_at, InGame, State, Choice, chosen, Row, Chooses, fails}
+use Rattle.brain_session.proofs.Common.{rule_of, if_supported, same_side, with_move, end_row, move_row, row_of, with_choice, step_by}
+use Rattle.brain_session.proofs.Common.{ends_with_foul, IsWonWithin, is_no_reply, then_replies, replies, then_answers_to}
+use Rattle.brain_session.proofs.Common.{answers_to_replies, turns, answers_from, then_answers}
 use Rattle.game_rules.proofs.Outcomes.{moved}
-use Rattle.game_rules.specs.declared.RuleKind.{RuleKind}
-use Rattle.game_rules.specs.declared.Foul.{Foul}
-use Rattle.game_rules.specs.declared.Outcome.{Outcome}
-use Rattle.game_rules.specs.declared.Outcome.TheVariants.{Refused, Wins as WinsNow, Fouls, Draws, GoesOn}
-use Rattle.game_rules.specs.declared.Point.{Point}
-use Rattle.game_rules.specs.declared.Side.{Side}
+use Rattle.game_rules.specs.declared.Outcome.TheVariants.{Wins as WinsNow}
 use Rattle.game_rules.proofs.Positions.{mover-then}
-use Rattle.strategy_graph.proofs.Common.{End, one_later}
-use Rattle.strategy_checker.specs.HeldRoots.{HeldTable}
-use Rattle.gomocup_text.specs.declared.Answer.{Answer}
-use Rattle.gomocup_text.specs.declared.Answer.TheVariants.{Move, Error}
-use Rattle.gomocup_text.specs.declared.ErrorText.{ErrorText}
-use Rattle.gomocup_text.specs.declared.ErrorText.TheVariants.{OpponentFoul, UnsupportedRule, GameOver, BadMove}
-use Rattle.gomocup_text.specs.declared.Command.{Command}
-use Rattle.gomocup_text.specs.declared.Command.TheVariants.{Start, RectStart, Turn, Board, Restart, Takeback, Rule, End as EndCommand}
-use Rattle.brain_session.specs.declared.Reaction.TheVariants.{Says}
-use Rattle.brain_session.proofs.Common.{Game, board_of, point_at, InGame, State, Choice, chosen, Row, Chooses, fails, rule_of, if_supported}
-use Rattle.brain_session.proofs.Common.{same_side, with_move, end_row, move_row, row_of, with_choice, step_by, ends_with_foul, IsWonWithin}
-use Rattle.brain_session.proofs.Common.{is_no_reply, then_replies, replies, then_answers_to, answers_to_replies, turns, answers_from}
-use Rattle.brain_session.proofs.Common.{then_answers}
+use Rattle.strategy_graph.proofs.Common.{End}
+use Rattle.gomocup_text.specs.declared.Command.TheVariants.{End as EndCommand}
 use Rattle.brain_session.proofs.SessionLaws.{answers-none}
 
 -- the state in which this game goes on, with this wish and no batch
@@ -96,8 +86,7 @@ pub other_side : (s t : Side) → t ≡ other s → same_side t s ≡ false
 other_side s t e = search rules
 
 pub turn_going : (h : HeldTable) (w : ℕ) (g : Game) (x y : ℕ) → g.ended ≡ false → mover (board_of g) ≡ other g.brain
-    → row_of (state_in h w g) (Turn x y)
-    ≡ if_supported (rule_of w) (state_in h w g) (λ rule. move_row (state_in h w g) g (point_at x y)
+    → row_of (state_in h w g) (Turn x y) ≡ if_supported (rule_of w) (state_in h w g) (λ rule. move_row (state_in h w g) g (point_at x y)
     (outcome g.rule (board_of g) (point_at x y)))
 unfolding row_of
 turn_going h w g x y e m = let f = other_side g.brain (mover (board_of g)) m in rw (e, f) refl
@@ -177,8 +166,7 @@ module _ (h : HeldTable) (X : Type 0) (choice : X → Choice) (Stands : X → Ga
     foul_reply w a b cs f fouls row =
         let s = then_state w x g in
         let left = none_left h (with_move (with_choice g (choice x)) (point_at a b) true) refl w cs in
-        goes-same x g _ _ _ _
-        (replies-by s (Turn a b) cs _ row ∙ ap (λ (ps : List Point). point_at a b ∷ ps) left.0)
+        goes-same x g _ _ _ _ (replies-by s (Turn a b) cs _ row ∙ ap (λ (ps : List Point). point_at a b ∷ ps) left.0)
         (answers-by s (Turn a b) cs _ row ∙ ap (λ (said : List Answer). Error OpponentFoul ∷ said) left.1)
         (followed.fouls x g stands on (point_at a b) f fouls)
 
@@ -192,8 +180,7 @@ module _ (h : HeldTable) (X : Type 0) (choice : X → Choice) (Stands : X → Ga
         goes-same x g _ _ _ _
         (replies-by s (Turn a b) cs _ row ∙ ap (λ (c : Choice). point_at a b ∷ replies (state_in h w (with_choice g2 c)) cs) next.chooses)
         (answers-by s (Turn a b) cs _ row ∙ ap (λ (c : Choice). Move c.at ∷ answers_to_replies
-        (state_in h w (with_choice g2 c)) cs) next.chooses)
-        (next.more _ _ (all w next.next g2 next.stands))
+        (state_in h w (with_choice g2 c)) cs) next.chooses) (next.more _ _ (all w next.next g2 next.stands))
 
     -- a TURN by its row
     turn_by : (w a b : ℕ) (cs : List Command) (r : Option RuleKind) (p : Outcome) → AllGoWell cs
@@ -209,8 +196,7 @@ module _ (h : HeldTable) (X : Type 0) (choice : X → Choice) (Stands : X → Ga
     turn_by w a b cs (Some rule) GoesOn all e row met = next_reply w a b cs all row met
 
     -- the row of a TURN
-    turn_row-then : (w : ℕ) (q : Point) → row_of (then_state w x g) (Turn q.x q.y)
-        ≡ if_supported (rule_of w) (then_state w x g)
+    turn_row-then : (w : ℕ) (q : Point) → row_of (then_state w x g) (Turn q.x q.y) ≡ if_supported (rule_of w) (then_state w x g)
         (λ rule. move_row (then_state w x g) (with_choice g (choice x)) q (outcome g.rule (after (board_of g) (choice x).at) q))
     turn_row-then w q = search (rules, turn_going, mover-then)
 
@@ -253,12 +239,10 @@ module _ (h : HeldTable) (X : Type 0) (choice : X → Choice) (Stands : X → Ga
     reply_answered all empty WinsNow e met = absurd met
     reply_answered all empty (Fouls f) e met =
         let s = then_state w x g in
-        let said : answers_from s (turns (q ∷ [])) ≡ Error OpponentFoul ∷ [] =
-        answers-row s (Turn q.x q.y) [] _ (row_is (Fouls f) e)
+        let said : answers_from s (turns (q ∷ [])) ≡ Error OpponentFoul ∷ [] = answers-row s (Turn q.x q.y) [] _ (row_is (Fouls f) e)
         ∙ ap (λ (l : List Answer). Error OpponentFoul ∷ l) (answers-none (state_in h w (with_move (with_choice g (choice x)) q true))) in
         subst (λ (vs : List Point). Goes x g (q ∷ vs) (answers_from s (turns (q ∷ vs))))
-        (sym (followed.legal_foul x g stands on q f e qs legal))
-        (subst (Goes x g (q ∷ [])) (sym said) (followed.fouls x g stands on q f e))
+        (sym (followed.legal_foul x g stands on q f e qs legal)) (subst (Goes x g (q ∷ [])) (sym said) (followed.fouls x g stands on q f e))
     reply_answered all empty Draws e met = absurd met
     reply_answered all empty GoesOn e next =
         let s = then_state w x g in
@@ -266,8 +250,7 @@ module _ (h : HeldTable) (X : Type 0) (choice : X → Choice) (Stands : X → Ga
         let said : answers_from s (turns (q ∷ qs)) ≡ Move (choice next.next).at ∷ answers_from (then_state w next.next g2) (turns qs) =
         answers-row s (Turn q.x q.y) (turns qs) _ (row_is GoesOn e)
         ∙ ap (λ (c : Choice). Move c.at ∷ answers_from (state_in h w (with_choice g2 c)) (turns qs)) next.chooses in
-        subst (Goes x g (q ∷ qs)) (sym said)
-        (next.more qs _ (all w next.next g2 next.stands (ap is_some wish) (next.legal qs legal)))
+        subst (Goes x g (q ∷ qs)) (sym said) (next.more qs _ (all w next.next g2 next.stands (ap is_some wish) (next.legal qs legal)))
 
   pub all-answered : (qs : List Point) (w : ℕ) (x : X) (g : Game) → Stands x g → is_some (rule_of w) ≡ true → Legal x g qs
       → Goes x g qs (answers_from (then_state w x g) (turns qs))

@@ -1,26 +1,16 @@
 -- What the brain follows goes on: from the board where a node's attack is to be played to that after it, and to those after each
 -- reply.
-use Rattle.std.proofs.Common.{◌≡◌, ℕ, ◌-◌, true, List, ap, ◌∙◌, Option, Some, MatchOption, slice_get}
-use Rattle.std.proofs.Common.{IsSomeAnd, option_map, rules}
-use Rattle.game_rules.proofs.Common.{Grid, is_empty, IsPosition, outcome, after, WinsByFours, has_five, wins_by_fours}
-use Rattle.game_rules.specs.declared.RuleKind.{RuleKind}
-use Rattle.game_rules.specs.declared.Outcome.TheVariants.{GoesOn}
-use Rattle.game_rules.specs.declared.Point.{Point}
+use Rattle.std.proofs.Common.{◌≡◌, ℕ, ◌-◌, true, List, ap, ◌∙◌, Option, Some, MatchOption, slice_get, IsSomeAnd, option_map, rules}
+use Rattle.brain_session.proofs.Common.{Grid, is_empty, IsPosition, outcome, after, has_five, wins_by_fours, RuleKind, GoesOn, Point, Node}
+use Rattle.brain_session.proofs.Common.{answer_at, IsTable, Accepted, StandsFor, HeldTable, FourTable, four_plan, Guide, FollowsAt, move_by}
+use Rattle.brain_session.proofs.Common.{GuidesAt, NodeStandsAt, StandsAt, GoesOnAfter, followed_of, nodes_of}
+use Rattle.game_rules.proofs.Common.{WinsByFours}
 use Rattle.game_rules.proofs.Games.{LosesOr-map, test-WinsUnder, WinsUnder-test}
 use Rattle.game_rules.proofs.Outcomes.{going}
-use Rattle.strategy_graph.specs.declared.Node.{Node}
-use Rattle.strategy_graph.proofs.Common.{answer_at, IsTable, Accepted}
 use Rattle.strategy_graph.proofs.Answering.{IsSomeAnd-map}
 use Rattle.strategy_graph.proofs.Following.{accepted-in_table, accepted-replies, attack_empty}
-use Rattle.strategy_compiler.proofs.Common.{StandsFor}
-use Rattle.strategy_checker.specs.HeldRoots.{HeldTable}
-use Rattle.four_search.specs.declared.fewest.FourTable.{FourTable}
-use Rattle.four_search.specs.Plans.{four_plan}
 use Rattle.four_search.proofs.Written.{plan-attacks, plan-replies, PlanAt}
-use Rattle.brain_session.specs.declared.guide.Guide.{Guide}
 use Rattle.brain_session.specs.declared.guide.Guide.TheVariants.{HeldNode as HeldGuide, OwnWin as OwnGuide}
-use Rattle.brain_session.proofs.Common.{FollowsAt, move_by, GuidesAt, NodeStandsAt, StandsAt, GoesOnAfter, followed_of}
-use Rattle.brain_session.proofs.Common.{nodes_of}
 
 -- ---- the move
 
@@ -65,8 +55,7 @@ stands-goes_on h rule b g p stands lawful move go = by_guide g stands.table stan
           moves_left = next.0;
           in_table = at.in_table;
           answers = λ q. LosesOr-map (outcome rule (after b p) q) _ _
-              (λ answered. IsSomeAnd-map (answer_at own.table own.node q) _ _ (λ j e k. (k.stands, k.accepted)) answered)
-              (next.1 q);
+              (λ answered. IsSomeAnd-map (answer_at own.table own.node q) _ _ (λ j e k. (k.stands, k.accepted)) answered) (next.1 q);
         },
       )
 

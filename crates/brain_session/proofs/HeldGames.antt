@@ -1,22 +1,13 @@
 -- Held games go well: from the command that begins one, the answers to the replies are the attacks of the table.
-use Rattle.std.proofs.Common.{rules}
-use Rattle.std.proofs.Common.{◌≡◌, ℕ, suc, List, ◌∷◌, get_or, length, refl, sym, ap, subst, ◌∙◌, Some, None, slice_get}
+use Rattle.std.proofs.Common.{rules, ◌≡◌, ℕ, suc, List, ◌∷◌, get_or, length, refl, sym, ap, subst, Some, None, slice_get}
 use Rattle.std.proofs.lemmas.List.Elements.{All-contains}
-use Rattle.game_rules.proofs.Common.{Grid}
-use Rattle.game_rules.specs.declared.RuleKind.{RuleKind}
-use Rattle.game_rules.proofs.Outcomes.{tight}
-use Rattle.strategy_graph.specs.declared.Node.{Node}
-use Rattle.strategy_graph.specs.declared.roots.Root.{Root}
-use Rattle.strategy_graph.proofs.Common.{depth_within, depth, Accepted, AcceptedRoot, game}
-use Rattle.strategy_graph.proofs.Fuel.{accepted_node}
-use Rattle.strategy_checker.specs.HeldRoots.{HeldTable, IsHeld}
-use Rattle.gomocup_text.specs.declared.Command.{Command}
-use Rattle.gomocup_text.specs.declared.Answer.TheVariants.{Move}
-use Rattle.brain_session.specs.declared.Reaction.TheVariants.{Says}
-use Rattle.brain_session.proofs.Common.{Game, board_of, State, new_brain, chosen, chosen_anew, by_followed, first_node, Step}
-use Rattle.brain_session.proofs.Common.{with_choice, brain_step, state_after, BeginsHeldGame, IsLedTo, HeldGameGoesWell}
+use Rattle.brain_session.proofs.Common.{Grid, RuleKind, Node, Root, depth_within, depth, Accepted, AcceptedRoot, game, HeldTable, IsHeld}
+use Rattle.brain_session.proofs.Common.{Command, Move, Says, Game, board_of, State, new_brain, chosen, chosen_anew, by_followed, first_node}
+use Rattle.brain_session.proofs.Common.{Step, with_choice, brain_step, state_after, BeginsHeldGame, IsLedTo, HeldGameGoesWell}
 use Rattle.brain_session.proofs.Common.{HeldGamesGoWell, HeldGamesAreLed, SessionsGoWell, IsTight, StartsAreTight, replies}
 use Rattle.brain_session.proofs.Common.{answers_to_replies, game_answers, IsWonWithin, GoesOnAlong}
+use Rattle.game_rules.proofs.Outcomes.{tight}
+use Rattle.strategy_graph.proofs.Fuel.{accepted_node}
 use Rattle.brain_session.proofs.HeldNodes.{first-led, root-accepted, root-no_deeper}
 use Rattle.brain_session.proofs.HeldSteps.{GoesBy, by_node, StandsIn, held-go_well}
 use Rattle.brain_session.proofs.SessionGames.{along-lawful}
@@ -49,12 +40,7 @@ stands_where s c g i held lawful b =
       node.0,
       node.1,
       node.2,
-      record {
-        node = node.3;
-        wins = node.4;
-        lawful = along-lawful g.rule g.start g.moves to_move.along;
-        turn = to_move.turn;
-      },
+      record { node = node.3; wins = node.4; lawful = along-lawful g.rule g.start g.moves to_move.along; turn = to_move.turn },
     )
 
 held_game : (s : State) (c : Command) (later : List Command) (g : Game) (i : ℕ) → IsHeld s.held → LawfulState s → BeginsHeldGame s c g i
@@ -64,11 +50,10 @@ held_game s c later g i held lawful b =
     let n = at.1 in
     let step = begins s c g i n b at.3.node in
     let then = state_in s.held s.wish (with_choice g (by_node i n)) in
-    let goes : GoesBy g.rule s.held.table (depth s.held.table i) i (board_of g) n.attack (replies then later)
-    (answers_to_replies then later) =
+    let goes : GoesBy g.rule s.held.table
+    (depth s.held.table i) i (board_of g) n.attack (replies then later) (answers_to_replies then later) =
     subst (λ (d : ℕ). GoesBy g.rule s.held.table (depth_within d s.held.table i) i (board_of g) n.attack (replies then later)
-    (answers_to_replies then later)) (sym at.2)
-    (held-go_well s.held later at.0 s.wish g i n at.3) in
+    (answers_to_replies then later)) (sym at.2) (held-go_well s.held later at.0 s.wish g i n at.3) in
     record {
       first = Move n.attack;
       says = ap (λ (st : Step). st.reaction) step;

@@ -1,21 +1,12 @@
 -- The node to which a held root leads in a game, and that to which the first leads that leads to one.
-use Rattle.std.proofs.Common.{◌≡◌, ℕ, zero, suc, ◌+◌, ◌≤◌, ◌<◌, Bool, true, cond, refl, sym, ap, subst, rules}
-use Rattle.std.proofs.Common.{◌∙◌, arith, List, [], ◌∷◌, length, drop, Option, Some, None, slice_get, Contains, IsSomeAnd}
-use Rattle.std.proofs.Common.{option_and_then}
+use Rattle.std.proofs.Common.{◌≡◌, ℕ, zero, suc, ◌+◌, ◌≤◌, ◌<◌, Bool, true, cond, refl, sym, ap, subst, rules, ◌∙◌, arith, List, [], ◌∷◌}
+use Rattle.std.proofs.Common.{length, drop, Option, Some, None, slice_get, Contains, IsSomeAnd, option_and_then}
 use Rattle.std.specs.Option.{option_or}
-use Rattle.game_rules.proofs.Common.{Grid, after, LosesOr}
-use Rattle.game_rules.specs.declared.RuleKind.{RuleKind}
-use Rattle.game_rules.specs.declared.Outcome.{Outcome}
-use Rattle.game_rules.specs.declared.Point.{Point}
-use Rattle.strategy_graph.specs.declared.Node.{Node}
-use Rattle.strategy_graph.specs.declared.roots.Root.{Root}
-use Rattle.strategy_graph.specs.declared.roots.Root.TheVariants.{Attack, Defend}
-use Rattle.strategy_graph.proofs.Common.{Answers, answer, depth, start_depth, AcceptedRoot, root_depth, Accepted, AcceptedStart}
+use Rattle.brain_session.proofs.Common.{Grid, after, LosesOr, RuleKind, Outcome, Point, Node, Root, Attack, Defend, Answers, answer, depth}
+use Rattle.brain_session.proofs.Common.{start_depth, AcceptedRoot, Accepted, HeldRoot, HeldTable, IsHeld, IsHeldRoot, Game, board_after}
+use Rattle.brain_session.proofs.Common.{board_of, GoesOnAlong, same_rule, same_board, start_answer, node_at, root_node, first_node}
+use Rattle.strategy_graph.proofs.Common.{root_depth, AcceptedStart}
 use Rattle.strategy_graph.proofs.Following.{accepted-in_table, answer-no_deeper}
-use Rattle.strategy_checker.specs.declared.held.HeldRoot.{HeldRoot}
-use Rattle.strategy_checker.specs.HeldRoots.{HeldTable, IsHeld, IsHeldRoot}
-use Rattle.brain_session.proofs.Common.{Game, board_after, board_of, GoesOnAlong, same_rule, same_board, start_answer, node_at, root_node}
-use Rattle.brain_session.proofs.Common.{first_node}
 use Rattle.brain_session.proofs.PlayedMoves.{same_board-is}
 
 -- the node to which the root leads, if there is one, in the game g

@@ -1,17 +1,9 @@
 -- Each legal reply that is sent to a brain in a held game is answered.
 use Rattle.std.proofs.Common.{◌≡◌, ℕ, true, List, ◌∷◌, ap, subst, ◌∙◌, Some, is_some, rules}
-use Rattle.game_rules.proofs.Common.{outcome}
-use Rattle.game_rules.specs.declared.RuleKind.{RuleKind}
-use Rattle.game_rules.specs.declared.Side.TheVariants.{White}
-use Rattle.game_rules.specs.declared.Outcome.{Outcome}
-use Rattle.game_rules.specs.declared.Outcome.TheVariants.{GoesOn}
-use Rattle.game_rules.specs.declared.Point.{Point}
-use Rattle.strategy_graph.proofs.Common.{attacks}
-use Rattle.strategy_checker.specs.HeldRoots.{IsHeld}
-use Rattle.gomocup_text.specs.declared.Command.{Command}
-use Rattle.brain_session.proofs.Common.{Game, board_of, empty_board, new_game, State, Row, Reacts, Chooses, rule_of, move_row}
-use Rattle.brain_session.proofs.Common.{row_of, Step, brain_step, then_answers, answers_from, BeginsHeldGame, AreReplies}
-use Rattle.brain_session.proofs.Common.{turns, game_answers, LegalRepliesAreAnswered}
+use Rattle.brain_session.proofs.Common.{outcome, RuleKind, White, Outcome, GoesOn, Point, attacks, IsHeld, Command, Game, board_of}
+use Rattle.brain_session.proofs.Common.{empty_board, new_game, State, Row, Reacts, Chooses, rule_of, move_row, row_of, Step, brain_step}
+use Rattle.brain_session.proofs.Common.{then_answers, answers_from, BeginsHeldGame, AreReplies, turns, game_answers}
+use Rattle.brain_session.proofs.Common.{LegalRepliesAreAnswered}
 use Rattle.brain_session.proofs.HeldSteps.{held-answered}
 use Rattle.brain_session.proofs.RowCases.{row-cases}
 use Rattle.brain_session.proofs.LawfulStates.{LawfulState, session-lawful, new-lawful}

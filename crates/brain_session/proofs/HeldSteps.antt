@@ -1,31 +1,20 @@
 -- A game in which a held node is followed: how it goes on by one reply, over plain values, and what each later command does to it.
-use Rattle.std.proofs.Common.{Some, slice_get, is_some, IsSomeAnd, ◌≡◌, ℕ, suc, ◌≤◌, ◌<◌, Bool, true, false, cond, List}
-use Rattle.std.proofs.Common.{[], ◌∷◌, ◌++◌, map, length, refl, sym, ap, ◌∙◌, arith, not, subst, rules}
-use Rattle.game_rules.proofs.Common.{Grid, outcome, after, IsPosition, mover, other, goes_on, WinsOr, LosesOr}
-use Rattle.game_rules.specs.declared.RuleKind.{RuleKind}
-use Rattle.game_rules.specs.declared.Foul.{Foul}
-use Rattle.game_rules.specs.declared.Outcome.{Outcome}
-use Rattle.game_rules.specs.declared.Outcome.TheVariants.{Refused, Wins as WinsNow, Fouls, Draws, GoesOn}
-use Rattle.game_rules.specs.declared.Point.{Point}
+use Rattle.std.proofs.Common.{Some, slice_get, is_some, IsSomeAnd, ◌≡◌, ℕ, suc, ◌≤◌, ◌<◌, Bool, true, false, cond, List, [], ◌∷◌, ◌++◌, map}
+use Rattle.std.proofs.Common.{length, refl, sym, ap, ◌∙◌, arith, not, subst, rules}
+use Rattle.brain_session.proofs.Common.{Grid, outcome, after, IsPosition, mover, other, goes_on, WinsOr, LosesOr, RuleKind, Foul, Outcome}
+use Rattle.brain_session.proofs.Common.{Refused, Fouls, Draws, GoesOn, Point, Node, answers_of, answer, is_winning, depth_within, Meets}
+use Rattle.brain_session.proofs.Common.{AcceptedWithin, NoMove, Open, after_attack, game, attacks, HeldTable, Answer, Move, Error}
+use Rattle.brain_session.proofs.Common.{OpponentFoul, Command, Turn, Choice, chosen, AreReplies, ends_with_foul, game_answers, IsWonWithin}
+use Rattle.brain_session.proofs.Common.{replies, answers_to_replies, turns, answers_from, HeldNode, Game, board_of, rule_of, if_supported}
+use Rattle.brain_session.proofs.Common.{with_move, move_row, row_of, with_choice}
+use Rattle.game_rules.specs.declared.Outcome.TheVariants.{Wins as WinsNow}
 use Rattle.game_rules.proofs.Positions.{IsPosition-after, mover-then}
 use Rattle.game_rules.proofs.Games.{WinsOr-map}
 use Rattle.game_rules.proofs.Boards.{other-other}
 use Rattle.strategy_graph.specs.declared.Rest.{Rest}
-use Rattle.strategy_graph.specs.declared.Node.{Node}
-use Rattle.strategy_graph.proofs.Common.{answers_of, answer, is_winning, depth_within, Meets, AcceptedWithin, NoMove, Open, after_attack}
-use Rattle.strategy_graph.proofs.Common.{game, attacks}
 use Rattle.strategy_graph.proofs.Answering.{IsSomeAnd-elim}
 use Rattle.strategy_graph.proofs.Fuel.{depth_some, deeper, accepted_node}
 use Rattle.strategy_graph.proofs.Endings.{attacks-open, first_at}
-use Rattle.strategy_checker.specs.HeldRoots.{HeldTable}
-use Rattle.gomocup_text.specs.declared.Answer.{Answer}
-use Rattle.gomocup_text.specs.declared.Answer.TheVariants.{Move, Error}
-use Rattle.gomocup_text.specs.declared.ErrorText.TheVariants.{OpponentFoul}
-use Rattle.gomocup_text.specs.declared.Command.{Command}
-use Rattle.gomocup_text.specs.declared.Command.TheVariants.{Turn}
-use Rattle.brain_session.proofs.Common.{Choice, chosen, AreReplies, ends_with_foul, game_answers, IsWonWithin, replies, answers_to_replies}
-use Rattle.brain_session.proofs.Common.{turns, answers_from, HeldNode, Game, board_of, rule_of, if_supported, with_move, move_row, row_of}
-use Rattle.brain_session.proofs.Common.{with_choice}
 use Rattle.brain_session.proofs.FollowedGames.{foul-later, won-later, state_in, IsNextTo, IsFollowed, all-answered, all-go_well, turn_going}
 
 -- the answers to the attack a and to these replies are those of the game from node i at b, which is won within d or open
@@ -115,8 +104,7 @@ chosen-followed h g i j n m q before f ms at w to = rw (f, ms, at, w, to) refl
 -- node i, which is n, is accepted in the game g, in which the brain is to move; so many nodes more follow one another
 pub record StandsIn (h : HeldTable) (g : Game) (i : ℕ) (n : Node) (k : ℕ) : Type 0 where
   pub node : slice_get h.table i ≡ Some n
-  pub wins : WinsOr (outcome g.rule (board_of g) n.attack)
-      ((is_winning n.rest ≡ false)
+  pub wins : WinsOr (outcome g.rule (board_of g) n.attack) ((is_winning n.rest ≡ false)
       × ((q : Point) → Meets g.rule (answers_of n) (AcceptedWithin k g.rule h.table) (after (board_of g) n.attack) q))
   pub lawful : IsPosition g.rule (board_of g)
   pub turn : mover (board_of g) ≡ g.brain
@@ -134,10 +122,8 @@ pub nothing_more : (h : HeldTable) (g : Game) (i : ℕ) (n : Node) (k : ℕ) →
     → GoesBy g.rule h.table (depth_within (suc k) h.table i) i (board_of g) n.attack [] []
 nothing_more h g i n k s = by_none g.rule h.table _ i (board_of g) n s.node (depth_some h.table i n k s.node)
     (WinsOr-map (outcome g.rule (board_of g) n.attack) _ _ (λ w. tt) s.wins) (going (outcome g.rule (board_of g) n.attack) s.wins) where
-      going : (o : Outcome) → WinsOr o
-          ((is_winning n.rest ≡ false)
-          × ((q : Point) → Meets g.rule (answers_of n) (AcceptedWithin k g.rule h.table) (after (board_of g) n.attack)
-          q))
+      going : (o : Outcome) → WinsOr o ((is_winning n.rest ≡ false)
+          × ((q : Point) → Meets g.rule (answers_of n) (AcceptedWithin k g.rule h.table) (after (board_of g) n.attack) q))
           → o ≡ GoesOn → is_winning n.rest ≡ false
       going GoesOn w e = w.0
       going _ w e = cc
@@ -219,9 +205,8 @@ module _ (h : HeldTable) where
         next = record { i = j; n = next.node; k = next.more };
         stands = next.stands;
         chooses = next.chooses;
-        more = λ qs said goes.
-            by_next g.rule h.table _ x.i (board_of g) x.n s.node (depth_some h.table x.i x.n x.k s.node) o
-            (parts h g x.i x.n x.k s o).0 q _ j next.node qs said on reply next.shallower goes;
+        more = λ qs said goes. by_next g.rule h.table _ x.i (board_of g) x.n s.node
+            (depth_some h.table x.i x.n x.k s.node) o (parts h g x.i x.n x.k s o).0 q _ j next.node qs said on reply next.shallower goes;
         legal = λ qs legal. (subst (λ (ps : List Point). AreReplies g.rule (board_of g) ps (q ∷ qs))
             (attacks-next g.rule h.table 1 x.i (board_of g) x.n s.node (omega arith) o (parts h g x.i x.n x.k s o).0 q j qs on reply)
             legal).2;
@@ -233,22 +218,19 @@ module _ (h : HeldTable) where
     turn = λ x g s. s.turn;
     wins = λ x g s. WinsOr-map (outcome g.rule (board_of g) x.n.attack) _ _ (λ w. tt) s.wins;
     none = λ x g s. nothing_more h g x.i x.n x.k s;
-    fouls = λ x g s o q f e.
-        by_foul g.rule h.table _ x.i (board_of g) x.n s.node (depth_some h.table x.i x.n x.k s.node) o
-        (parts h g x.i x.n x.k s o).0 q f e;
+    fouls = λ x g s o q f e. by_foul g.rule h.table _ x.i
+        (board_of g) x.n s.node (depth_some h.table x.i x.n x.k s.node) o (parts h g x.i x.n x.k s o).0 q f e;
     replied = λ x g s o q. by_reply x g s o q (outcome g.rule (after (board_of g) x.n.attack) q) refl ((parts h g x.i x.n x.k s o).1 q);
     legal_first = λ x g s q qs legal.
         let first = attacks-first g.rule h.table 1 x.i (board_of g) x.n s.node (omega arith) (q ∷ qs) in
         let are = subst (λ (ps : List Point). AreReplies g.rule (board_of g) ps (q ∷ qs)) first.1 legal in
         (are.0, are.1);
-    legal_foul = λ x g s o q f e qs legal.
-        none_left g.rule (after (after (board_of g) x.n.attack) q) qs
-        (subst (λ (ps : List Point). AreReplies g.rule (board_of g) ps (q ∷ qs))
+    legal_foul = λ x g s o q f e qs legal. none_left g.rule
+        (after (after (board_of g) x.n.attack) q) qs (subst (λ (ps : List Point). AreReplies g.rule (board_of g) ps (q ∷ qs))
         (attacks-foul g.rule h.table 1 x.i (board_of g) x.n s.node (omega arith) o (parts h g x.i x.n x.k s o).0 q qs f e) legal).2;
   } where
     by_reply : (x : HeldAt) (g : Game) → HeldStands x g → outcome g.rule (board_of g) x.n.attack ≡ GoesOn → (q : Point) (p : Outcome)
-        → outcome g.rule (after (board_of g) x.n.attack) q ≡ p
-        → LosesOr p (IsSomeAnd (answer (answers_of x.n) q)
+        → outcome g.rule (after (board_of g) x.n.attack) q ≡ p → LosesOr p (IsSomeAnd (answer (answers_of x.n) q)
         (λ j. AcceptedWithin x.k g.rule h.table j (after (after (board_of g) x.n.attack) q)))
         → LosesOr p (IsNextTo h HeldAt held_choice HeldStands HeldLegal HeldGoes x g q)
     by_reply x g s o q GoesOn e met = IsSomeAnd-elim (answer (answers_of x.n) q) _ _

@@ -1,21 +1,16 @@
 -- Whoever answers by an accepted table wins within its depth, whatever legal replies come.
-use Rattle.std.proofs.Common.{◌≡◌, ℕ, suc, ◌≤◌, true, false, List, [], ◌∷◌, get_or, length, refl, sym, subst, arith}
-use Rattle.std.proofs.Common.{◌⊎◌, inl, inr, Some, slice_get, IsSomeAnd, rules}
-use Rattle.game_rules.proofs.Common.{Grid, is_empty, outcome, after, is_foul, WinsOr, LosesOr}
+use Rattle.std.proofs.Common.{◌≡◌, ℕ, suc, ◌≤◌, true, false, List, [], ◌∷◌, get_or, length, refl, sym, subst, arith, ◌⊎◌, inl, inr, Some}
+use Rattle.std.proofs.Common.{slice_get, IsSomeAnd, rules}
+use Rattle.brain_session.proofs.Common.{Grid, is_empty, outcome, after, is_foul, WinsOr, LosesOr, RuleKind, Foul, Outcome, Refused, Fouls}
+use Rattle.brain_session.proofs.Common.{Draws, GoesOn, Point, Node, Root, Answers, answers_of, answer, is_winning, depth_within, depth}
+use Rattle.brain_session.proofs.Common.{start_depth, Meets, AcceptedWithin, Accepted, AcceptedRoot, game, attacks, IsWonWithin, AreReplies}
+use Rattle.brain_session.proofs.Common.{WinsGames, AnswersAndWins, RootWinsGames, WhoeverHoldsWins}
 use Rattle.game_rules.proofs.Games.{WinsOr-map}
-use Rattle.game_rules.specs.declared.RuleKind.{RuleKind}
-use Rattle.game_rules.specs.declared.Foul.{Foul}
-use Rattle.game_rules.specs.declared.Outcome.{Outcome}
-use Rattle.game_rules.specs.declared.Outcome.TheVariants.{Refused, Wins as WinsNow, Fouls, Draws, GoesOn}
-use Rattle.game_rules.specs.declared.Point.{Point}
+use Rattle.game_rules.specs.declared.Outcome.TheVariants.{Wins as WinsNow}
 use Rattle.game_rules.proofs.Outcomes.{moved}
-use Rattle.strategy_graph.specs.declared.Node.{Node}
-use Rattle.strategy_graph.specs.declared.roots.Root.{Root}
-use Rattle.strategy_graph.proofs.Common.{Answers, answers_of, answer, is_winning, depth_within, depth, start_depth, Meets, AcceptedWithin}
-use Rattle.strategy_graph.proofs.Common.{Accepted, AcceptedRoot, End, game, attacks}
+use Rattle.strategy_graph.proofs.Common.{End}
 use Rattle.strategy_graph.proofs.Answering.{answer-greatest, IsSomeAnd-elim}
 use Rattle.strategy_graph.proofs.Fuel.{depth_some, deeper, accepted_node}
-use Rattle.brain_session.proofs.Common.{IsWonWithin, AreReplies, WinsGames, AnswersAndWins, RootWinsGames, WhoeverHoldsWins}
 use Rattle.brain_session.proofs.HeldSteps.{by_none, by_foul, attacks-first, attacks-foul, attacks-next, won_next}
 
 won_more : (d e n : ℕ) (end : End) → d ≤ e → IsWonWithin d n end → IsWonWithin e n end
@@ -58,8 +53,7 @@ module _ (rule : RuleKind) (t : List Node) where
       unfolding WinsOver
       by_reply Refused e met are = absurd (moved rule (after b n.attack) q empty e)
       by_reply WinsNow e met are = absurd met
-      by_reply (Fouls f) e met are =
-          fouled f qs e (subst (λ (ps : List Point). AreReplies rule b ps (q ∷ qs))
+      by_reply (Fouls f) e met are = fouled f qs e (subst (λ (ps : List Point). AreReplies rule b ps (q ∷ qs))
           (attacks-foul rule t 1 i b n at (omega arith) on winning q qs f e) are).2
       by_reply Draws e met are = absurd met
       by_reply GoesOn e met are = IsSomeAnd-elim (answer (answers_of n) q) _ _ (λ j reply accepted.

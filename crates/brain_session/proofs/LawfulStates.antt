@@ -1,23 +1,15 @@
 -- What is true of the brain's state whatever it was told, as far as held games need it: the moves of a game that is not ended
 -- went on from a lawful position, and those of an ended one did so up to the last.
-use Rattle.std.proofs.Common.{◌≡◌, ℕ, Bool, true, false, not, List, [], ◌∷◌, refl, sym, ap, subst, ◌∙◌, IfSome}
-use Rattle.std.proofs.Common.{◌≢◌, Option, Some, leb-true, rules}
-use Rattle.game_rules.proofs.Common.{Grid, IsBoard, is_on, put, IsPosition, outcome, mover, other}
-use Rattle.game_rules.specs.declared.RuleKind.{RuleKind}
-use Rattle.game_rules.specs.declared.Side.{Side}
-use Rattle.game_rules.specs.declared.Side.TheVariants.{White}
-use Rattle.game_rules.specs.declared.Point.{Point}
+use Rattle.std.proofs.Common.{◌≡◌, ℕ, Bool, true, false, not, List, [], ◌∷◌, refl, sym, ap, subst, ◌∙◌, IfSome, ◌≢◌, Option, Some, leb-true}
+use Rattle.std.proofs.Common.{rules}
+use Rattle.brain_session.proofs.Common.{Grid, IsBoard, is_on, put, IsPosition, outcome, mover, other, RuleKind, Side, White, Point}
+use Rattle.brain_session.proofs.Common.{HeldTable, Command, Reaction, BatchStone, Game, board_of, empty_board, new_game, Place, NoBoard}
+use Rattle.brain_session.proofs.Common.{Fresh, InGame, Batch, State, new_brain, side_of, colour_in, with_batch_stones, game_from, Choice}
+use Rattle.brain_session.proofs.Common.{Row, Reacts, Chooses, placed, is_side, board_in, same_side, move_row, place_before, row_of}
+use Rattle.brain_session.proofs.Common.{with_choice, step_by, brain_step, then_state, state_after, GoesOnAlong, StonesFit}
 use Rattle.game_rules.proofs.Boards.{and_left, and_right}
 use Rattle.game_rules.proofs.Positions.{mover-then, IsBoard-put}
 use Rattle.foul_judge.proofs.Lawfulness.{lawful_from_none}
-use Rattle.strategy_checker.specs.HeldRoots.{HeldTable}
-use Rattle.gomocup_text.specs.declared.Command.{Command}
-use Rattle.brain_session.specs.declared.Reaction.{Reaction}
-use Rattle.brain_session.specs.declared.batch.BatchStone.{BatchStone}
-use Rattle.brain_session.proofs.Common.{Game, board_of, empty_board, new_game, Place, NoBoard, Fresh, InGame, Batch, State, new_brain}
-use Rattle.brain_session.proofs.Common.{side_of, colour_in, with_batch_stones, game_from, Choice, Row, Reacts, Chooses}
-use Rattle.brain_session.proofs.Common.{placed, is_side, board_in, same_side, move_row, place_before, row_of}
-use Rattle.brain_session.proofs.Common.{with_choice, step_by, brain_step, then_state, state_after, GoesOnAlong, StonesFit}
 use Rattle.brain_session.proofs.SessionGames.{along-lawful, start-lawful}
 use Rattle.brain_session.proofs.SessionBoards.{empty-mover, empty-lawful, board-sized, empty-board}
 use Rattle.brain_session.proofs.BatchGames.{batch-mover}
@@ -99,8 +91,7 @@ board_in_is (InGame g) = (g.start.width, g.start.height, refl)
 mover_in_batch : (brain : Side) (board : Grid) (width height : ℕ) (b : Batch) → board ≡ empty_board width height → BatchFits board b
     → colour_in b.stones ≡ Some brain → mover (with_batch_stones brain board b.stones) ≡ brain
 mover_in_batch brain board width height b e fits h =
-    subst (λ (c : Grid). mover (with_batch_stones brain c b.stones) ≡ brain) (sym e)
-    (let there : BatchFits (empty_board width height) b =
+    subst (λ (c : Grid). mover (with_batch_stones brain c b.stones) ≡ brain) (sym e) (let there : BatchFits (empty_board width height) b =
     subst (λ (c : Grid). BatchFits c b) e fits in batch-mover brain width height b.stones b.bad there.0 there.1 h)
 
 -- the game that a batch begins is one in which the brain is to move
@@ -148,12 +139,10 @@ row-lawful s c h = row-cases (LawfulRow s.held) s c (record {
   whole = λ rule b g by_wish read is. subst (λ (o : Option Game). IfSome o IsToMove) is (batch_game rule s.place b (batch_of s b read h));
   first = λ rule width height by_wish at.
       record { along = empty-lawful rule width height (subst LawfulPlace at h.place); turn = empty-mover width height };
-  second = λ rule width height p by_wish at.
-      move_lawful s (new_game rule (empty_board width height) White) p h (empty-lawful rule width height (subst LawfulPlace at h.place))
-      (ap other (empty-mover width height));
-  later = λ rule g p by_wish at going others.
-      move_lawful s g p h (not_ended g.ended g.rule g.start g.moves going (subst LawfulPlace at h.place))
-      (not_same (mover (board_of g)) g.brain others);
+  second = λ rule width height p by_wish at. move_lawful s (new_game rule (empty_board width height) White) p h
+      (empty-lawful rule width height (subst LawfulPlace at h.place)) (ap other (empty-mover width height));
+  later = λ rule g p by_wish at going others. move_lawful s g p h
+      (not_ended g.ended g.rule g.start g.moves going (subst LawfulPlace at h.place)) (not_same (mover (board_of g)) g.brain others);
   back = λ g p before at are.
       let went = subst LawfulPlace at h.place in
       let before_it = went_before g.ended g.rule g.start p before (subst (WentOn g.ended g.rule g.start) are went) in

@@ -1,15 +1,12 @@
 -- A plain move is at an empty point, where the position is lawful.
 use Rattle.std.proofs.Common.{◌≡◌, ◌<◌, Bool, true, ◌&&◌, not, refl, Option, Some, None, filter, rules}
-use Rattle.game_rules.proofs.Common.{Grid, IsBoard, is_empty, points_of, empties_of, five, IsPosition, outcome}
-use Rattle.game_rules.proofs.Common.{mover, other, is_foul}
-use Rattle.game_rules.specs.declared.RuleKind.{RuleKind}
-use Rattle.game_rules.specs.declared.Point.{Point}
+use Rattle.brain_session.proofs.Common.{Grid, IsBoard, is_empty, points_of, empties_of, five, IsPosition, outcome, mover, other, is_foul}
+use Rattle.brain_session.proofs.Common.{RuleKind, Point, or_else, five_to_make, five_to_block, next_to_middle, least_empty, plain_move}
 use Rattle.game_rules.proofs.Boards.{and_left}
 use Rattle.game_rules.proofs.Fives.{five-empty}
 use Rattle.game_rules.proofs.Points.{points-found, filter-passes}
 use Rattle.game_rules.proofs.Places.{find-in, find-passes, find-some}
 use Rattle.game_rules.proofs.ReadingOrder.{some_empty}
-use Rattle.brain_session.proofs.Common.{or_else, five_to_make, five_to_block, next_to_middle, least_empty, plain_move}
 
 -- ---- some point is empty
 
@@ -37,8 +34,7 @@ pub plain-is_empty : (rule : RuleKind) (b : Grid) → IsPosition rule b → is_e
 plain-is_empty rule b lawful = by_rule (five_to_make rule b) _ (make-is_empty rule b)
     (by_rule (five_to_block rule b) _ (block-is_empty rule b)
     (by_rule (next_to_middle rule b) _ (next-is_empty rule b) (least-is_empty b lawful.board lawful.open_points))) where
-      by_rule : (o : Option Point) (other : Unit {0} → Point) → ((p : Point) → o ≡ Some p → is_empty b p ≡ true)
-          → is_empty b (other tt) ≡ true
-          → is_empty b (or_else o other) ≡ true
+      by_rule : (o : Option Point) (other : Unit {0} → Point)
+          → ((p : Point) → o ≡ Some p → is_empty b p ≡ true) → is_empty b (other tt) ≡ true → is_empty b (or_else o other) ≡ true
       by_rule None other here rest = rest
       by_rule (Some p) other here rest = here p refl

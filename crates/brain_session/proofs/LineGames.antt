@@ -1,30 +1,14 @@
 -- A held game begins where a reader of the lines sees the position of a root, and is won.
-use Rattle.std.proofs.Common.{◌≡◌, ℕ, List, [], ◌∷◌, ◌++◌, refl, sym, ap, subst, ◌∙◌, arith, Option, Some, None}
-use Rattle.std.proofs.Common.{All, option_map, rules}
+use Rattle.std.proofs.Common.{◌≡◌, ℕ, List, [], ◌∷◌, ◌++◌, refl, sym, ap, subst, ◌∙◌, arith, Option, Some, None, All, option_map, rules}
 use Rattle.std.proofs.lemmas.Option.{same_Some}
 use Rattle.std.proofs.lemmas.List.Elements.{All-contains, Contains-append_right}
-use Rattle.game_rules.proofs.Common.{Grid}
-use Rattle.game_rules.specs.declared.RuleKind.{RuleKind}
-use Rattle.game_rules.specs.declared.Side.TheVariants.{Black}
-use Rattle.game_rules.specs.declared.Point.{Point}
-use Rattle.strategy_graph.specs.declared.roots.Root.{Root}
-use Rattle.strategy_graph.specs.declared.roots.Root.TheVariants.{Attack, Defend}
-use Rattle.strategy_graph.proofs.Common.{attacks}
-use Rattle.strategy_checker.specs.declared.held.HeldRoot.{HeldRoot}
-use Rattle.strategy_checker.specs.HeldRoots.{HeldTable}
-use Rattle.gomocup_text.specs.declared.Command.{Command}
-use Rattle.gomocup_text.specs.declared.Command.TheVariants.{Begin, Done}
-use Rattle.gomocup_text.specs.declared.Answer.{Answer}
-use Rattle.gomocup_text.specs.declared.Answer.TheVariants.{Move, Error}
-use Rattle.gomocup_text.specs.declared.ErrorText.TheVariants.{BadBoard, UnsupportedRule}
-use Rattle.brain_session.specs.declared.Reaction.{Reaction}
-use Rattle.brain_session.specs.declared.Reaction.TheVariants.{Says}
-use Rattle.brain_session.proofs.Common.{Game, board_after, board_of, empty_board, new_brain, new_game, Place, NoBoard, Fresh}
-use Rattle.brain_session.proofs.Common.{InGame, Batch, State, game_from, by_followed, Row}
-use Rattle.brain_session.proofs.Common.{Chooses, rule_of, if_supported, board_in, unread, batch_row, done_row, begin_row, if_not_reading}
-use Rattle.brain_session.proofs.Common.{row_of, step_by, brain_step, answer_texts, answers_from, session_text, state_after, then_answers}
-use Rattle.brain_session.proofs.Common.{AreReplies, RootWinsGames, game_answers, turn_lines, HasComeTo, IsNodeOf, IsThere, Drawing, Sheet}
-use Rattle.brain_session.proofs.Common.{drawn_board, sent_board, HeldLinesWin, begun_at, drawing_of}
+use Rattle.brain_session.proofs.Common.{Grid, RuleKind, Black, Point, Root, Attack, Defend, attacks, HeldRoot, HeldTable, Command, Begin}
+use Rattle.brain_session.proofs.Common.{Done, Answer, Move, Error, BadBoard, UnsupportedRule, Reaction, Says, Game, board_after, board_of}
+use Rattle.brain_session.proofs.Common.{empty_board, new_brain, new_game, Place, NoBoard, Fresh, InGame, Batch, State, game_from}
+use Rattle.brain_session.proofs.Common.{by_followed, Row, Chooses, rule_of, if_supported, board_in, unread, batch_row, done_row, begin_row}
+use Rattle.brain_session.proofs.Common.{if_not_reading, row_of, step_by, brain_step, answer_texts, answers_from, session_text, state_after}
+use Rattle.brain_session.proofs.Common.{then_answers, AreReplies, RootWinsGames, game_answers, turn_lines, HasComeTo, IsNodeOf, IsThere}
+use Rattle.brain_session.proofs.Common.{Drawing, Sheet, drawn_board, sent_board, HeldLinesWin, begun_at, drawing_of}
 use Rattle.brain_session.proofs.SessionLaws.{answers-append, answers-one}
 use Rattle.brain_session.proofs.LawfulStates.{LawfulState, session-lawful, new-lawful}
 use Rattle.brain_session.proofs.Drawings.{IsDrawn, batch-sent, drawn-session, sheet_of}
@@ -136,28 +120,27 @@ held-lines-win held is_held front r i qs begins root legal =
     let s : State = state_after (new_brain held) begins.before in
     let kept = session-lawful held (new_brain held) begins.before (new-lawful held) in
     let is = drawn-session (new_brain held) begins.before refl refl refl begins.no_end in
-    let says : (brain_step s begins.line).reaction ≡ Says (Move begins.move) =
-    moved_by (brain_step s begins.line).reaction begins.move (sym (answers-one s begins.line)
-    ∙ same_front (answers_from (new_brain held) begins.before) _ _
+    let says : (brain_step s begins.line).reaction ≡ Says (Move begins.move) = moved_by (brain_step s begins.line).reaction begins.move
+    (sym (answers-one s begins.line) ∙ same_front (answers_from (new_brain held) begins.before) _ _
     (sym (answers-append (new_brain held) begins.before (begins.line ∷ []) begins.no_end) ∙ begins.answered)) in
     let new = begins_anew s (drawing_of held begins.before) kept.0 is begins.move r.board begins.line says begins.position in
     let g : Game = new.game in
     let board : board_of g ≡ r.board = ap (board_after g.start) new.moves ∙ new.start in
     let rule : g.rule ≡ r.kind = same_Some _ _ (sym new.rule ∙ ap rule_of (sym is.wish) ∙ begins.rule) in
     let by = roots-begin_games held is_held begins.before begins.line g begins.earlier r begins.later begins.roots
-    (λ k e low. elsewhere _ r g rule board new.moves (begins.first k e low)) new.chooses (none_followed held g new.followed)
-    (record { rule = rule; there = subst (λ (x : Root). IsThere x r.board g) (sym root) board }) in
+    (λ k e low. elsewhere _ r g rule board new.moves (begins.first k e low)) new.chooses
+    (none_followed held g new.followed) (record { rule = rule; there = subst (λ (x : Root). IsThere x r.board g) (sym root) board }) in
     let node : by.node ≡ i = subst (λ (x : Root). IsNodeOf x g by.node) root by.is_its in
-    let Said : RuleKind → Grid → ℕ → Type 0 = λ k c j. AreReplies k c (attacks k held.table j c qs) qs
-    → session_text (new_brain held) (front ++ turn_lines qs)
+    let Said : RuleKind → Grid → ℕ → Type 0 =
+    λ k c j. AreReplies k c (attacks k held.table j c qs) qs → session_text (new_brain held) (front ++ turn_lines qs)
     ≡ answer_texts (answers_from (new_brain held) begins.before) ++ answer_texts (game_answers k held.table j c qs) in
     let said : Said g.rule (board_of g) by.node =
     replies-in_bytes held is_held front begins.before begins.line g by.node qs begins.whole begins.are begins.no_end by.begins in
     let Wins : HeldRoot → Type 0 = λ x. RootWinsGames x.kind held.table x.root x.board in
-    let wins : Wins r = All-contains Wins (begins.earlier ++ r ∷ begins.later) r
-    (subst (All Wins) begins.roots (whoever-holds_wins held is_held))
+    let wins : Wins r =
+    All-contains Wins (begins.earlier ++ r ∷ begins.later) r (subst (All Wins) begins.roots (whoever-holds_wins held is_held))
     (Contains-append_right begins.earlier (r ∷ begins.later) r (0, omega arith, refl)) in (
-      subst (Said r.kind r.board) node (subst (λ (c : Grid). Said r.kind c by.node) board
-          (subst (λ (k : RuleKind). Said k (board_of g) by.node) rule said)) legal,
+      subst (Said r.kind r.board) node
+          (subst (λ (c : Grid). Said r.kind c by.node) board (subst (λ (k : RuleKind). Said k (board_of g) by.node) rule said)) legal,
       subst (λ (x : Root). RootWinsGames r.kind held.table x r.board) root wins qs legal,
     )

@@ -1,42 +1,29 @@
 -- Games by a win of the brain's own go well: from the command that begins one, the answers to the replies are the chosen moves of the
 -- win; and they are the attacks of the table of the win.
-use Rattle.std.proofs.Common.{◌≡◌, ℕ, zero, suc, ◌+◌, ◌-◌, ◌≤◌, ◌<◌, Bool, true, false, cond, ◌&&◌, List, []}
-use Rattle.std.proofs.Common.{◌∷◌, length, refl, sym, ap, subst, ◌∙◌, arith, nat_le, Option, Some, None, slice_get, rules}
-use Rattle.std.proofs.Common.{◌++◌, IsSomeAnd, find, option_map, option_and_then}
+use Rattle.std.proofs.Common.{◌≡◌, ℕ, zero, suc, ◌+◌, ◌-◌, ◌≤◌, ◌<◌, Bool, true, false, cond, List, [], ◌∷◌, length, refl, sym, ap, subst}
+use Rattle.std.proofs.Common.{◌∙◌, arith, nat_le, Option, Some, None, slice_get, rules, IsSomeAnd, find, option_map, option_and_then}
 use Rattle.std.specs.List.{range_with_len}
 use Rattle.std.proofs.lemmas.Option.{same_Some}
-use Rattle.game_rules.proofs.Common.{Grid, points_of, five, IsPosition, outcome, after, mover, other, WinsOr, LosesOr, has_five, starts_win}
-use Rattle.game_rules.proofs.Common.{wins_by_fours, four_move}
-use Rattle.game_rules.specs.declared.RuleKind.{RuleKind}
-use Rattle.game_rules.specs.declared.Foul.{Foul}
-use Rattle.game_rules.specs.declared.Outcome.{Outcome}
-use Rattle.game_rules.specs.declared.Outcome.TheVariants.{Refused, Wins as WinsNow, Fouls, Draws, GoesOn}
-use Rattle.game_rules.specs.declared.Point.{Point}
+use Rattle.brain_session.proofs.Common.{Grid, points_of, five, IsPosition, outcome, after, mover, other, WinsOr, LosesOr, has_five}
+use Rattle.brain_session.proofs.Common.{wins_by_fours, RuleKind, Foul, Outcome, Refused, Fouls, Draws, GoesOn, Point, HeldTable, Node}
+use Rattle.brain_session.proofs.Common.{answers_of, answer, answer_at, is_winning, IsTable, Accepted, NoMove, Open, after_attack, one_later}
+use Rattle.brain_session.proofs.Common.{game, attacks, StandsFor, four_plan, four_cost, least_moves, Command, Answer, Move, Error}
+use Rattle.brain_session.proofs.Common.{OpponentFoul, OWN_MOVES, OWN_POSITIONS, Says, Followed, OwnWin, Game, board_of, State, new_brain}
+use Rattle.brain_session.proofs.Common.{Choice, followed_after, by_following, last_move, chosen, by_followed, first_node, own_win, Step}
+use Rattle.brain_session.proofs.Common.{step_by, with_choice, brain_step, state_after, AreReplies, IsWonWithin, replies, answers_to_replies}
+use Rattle.brain_session.proofs.Common.{answers_by, turns, BeginsOwnGame, PlaysWin, win_game, win_attacks, win_answers, OwnGameGoesWell}
+use Rattle.brain_session.proofs.Common.{OwnGamesGoWell, OwnRepliesAreAnswered}
+use Rattle.game_rules.proofs.Common.{starts_win, four_move}
+use Rattle.game_rules.specs.declared.Outcome.TheVariants.{Wins as WinsNow}
 use Rattle.game_rules.proofs.Boards.{and_right, other-other}
 use Rattle.game_rules.proofs.Games.{WinsOr-map, wins_or-WinsOr, each_reply, test-WinsUnder, wins-some}
 use Rattle.game_rules.proofs.Outcomes.{five-outcome}
 use Rattle.game_rules.proofs.Places.{find-passes}
 use Rattle.game_rules.proofs.Positions.{IsPosition-after, mover-then}
-use Rattle.strategy_checker.specs.HeldRoots.{HeldTable}
-use Rattle.strategy_graph.specs.declared.Node.{Node}
-use Rattle.strategy_graph.proofs.Common.{answers_of, answer, answer_at, is_winning, IsTable, Accepted, End, NoMove, Open, after_attack}
-use Rattle.strategy_graph.proofs.Common.{after_reply, if_node, one_later, points_on, points_from, game, attacks}
+use Rattle.strategy_graph.proofs.Common.{End, after_reply, if_node, points_on, points_from}
 use Rattle.strategy_graph.proofs.Answering.{IsSomeAnd-elim}
-use Rattle.strategy_compiler.proofs.Common.{StandsFor, IsTableOf, last}
-use Rattle.four_search.specs.Plans.{four_plan}
-use Rattle.four_search.specs.FourGame.{four_cost, least_moves}
+use Rattle.strategy_compiler.proofs.Common.{IsTableOf, last}
 use Rattle.four_search.proofs.Written.{four_move-some, plan-attacks, PlanAt, plan-replies, plan-written}
-use Rattle.gomocup_text.specs.declared.Command.{Command}
-use Rattle.gomocup_text.specs.declared.Answer.{Answer}
-use Rattle.gomocup_text.specs.declared.Answer.TheVariants.{Move, Error}
-use Rattle.gomocup_text.specs.declared.ErrorText.TheVariants.{OpponentFoul}
-use Rattle.brain_session.specs.declared.TheConstants.{OWN_MOVES, OWN_POSITIONS}
-use Rattle.brain_session.specs.declared.Reaction.TheVariants.{Says}
-use Rattle.brain_session.proofs.Common.{Followed, OwnWin, Game, board_of, State, new_brain, Choice, followed_after, by_following}
-use Rattle.brain_session.proofs.Common.{last_move, chosen, by_followed, first_node, own_win, Step, step_by, with_choice}
-use Rattle.brain_session.proofs.Common.{brain_step, state_after, AreReplies, IsWonWithin, replies, answers_to_replies, answers_by, turns}
-use Rattle.brain_session.proofs.Common.{BeginsOwnGame, PlaysWin, win_game, win_attacks, win_answers, OwnGameGoesWell, OwnGamesGoWell}
-use Rattle.brain_session.proofs.Common.{OwnRepliesAreAnswered}
 use Rattle.brain_session.proofs.OwnWins.{own_win-wins}
 use Rattle.brain_session.proofs.SessionGames.{along-lawful, chosen-followed}
 use Rattle.brain_session.proofs.Choosing.{chosen-own}
@@ -62,8 +49,7 @@ move-wins rule (suc n) b p h = by_five (has_five rule b (mover b)) h where
   by_five : (r : Bool) → cond r (find (five rule b (mover b)) (points_of b))
       (find (starts_win (has_five rule) rule b (wins_by_fours rule n)) (points_of b)) ≡ Some p
       → WinsOr (outcome rule b p) (RepliesLose rule (suc n - 1) (after b p))
-  by_five true e =
-      subst (λ (o : Outcome). WinsOr o (RepliesLose rule (suc n - 1) (after b p)))
+  by_five true e = subst (λ (o : Outcome). WinsOr o (RepliesLose rule (suc n - 1) (after b p)))
       (sym (five-outcome rule b p (find-passes (five rule b (mover b)) (points_of b) p e))) tt
   by_five false e =
       let fewer : n ≡ suc n - 1 = omega arith in
@@ -134,8 +120,7 @@ module _ (rule : RuleKind) (n : ℕ) (b : Grid) (p : Point) (chosen_is : four_mo
     won_next qs e h = rw (chosen_is, on, e) (won-later (n - 1) n (length qs) _ (omega (arith, some)) h)
 
     by_next : (v : Point) (qs : List Point) (said : List Answer) → outcome rule (after b p) q ≡ GoesOn
-        → GoesByWin rule (n - 1) (after (after b p) q) v qs said
-        → GoesByWin rule n b p (q ∷ qs) (Move v ∷ said)
+        → GoesByWin rule (n - 1) (after (after b p) q) v qs said → GoesByWin rule n b p (q ∷ qs) (Move v ∷ said)
     by_next v qs said e h = search (rules, said_next, attacks_are, attacks_next, won_next)
 
 -- ---- the win is followed
@@ -163,12 +148,11 @@ OwnGoes x g qs said = GoesByWin g.rule x.moves (board_of g) x.at qs said
 
 chosen_next : (h : HeldTable) (g : Game) (n : ℕ) (p q : Point) (before : List Point) → g.followed ≡ Some (OwnWin n) → g.moves ≡ q ∷ before
     → four_move g.rule (n - 1) (board_of g) ≡ Some p → chosen h g ≡ record { at = p; followed = Some (OwnWin (n - 1)) }
-chosen_next h g n p q before f ms e = chosen-followed h g (record { at = p; followed = Some (OwnWin (n - 1)) }) (
-    ap (λ (o : Option Followed). option_and_then (by_following h g)
+chosen_next h g n p q before f ms e = chosen-followed h g
+    (record { at = p; followed = Some (OwnWin (n - 1)) }) (ap (λ (o : Option Followed). option_and_then (by_following h g)
     (option_and_then (λ x. option_and_then (followed_after h x) (last_move g.moves)) o)) f
     ∙ ap (λ (l : List Point). option_and_then (by_following h g) (option_and_then (followed_after h (OwnWin n)) (last_move l))) ms
-    ∙ ap (option_map (λ (v : Point). let c : Choice = record { at = v; followed = Some (OwnWin (n - 1)) } in c)) e
-    )
+    ∙ ap (option_map (λ (v : Point). let c : Choice = record { at = v; followed = Some (OwnWin (n - 1)) } in c)) e)
 
 module _ (h : HeldTable) (x : OwnAt) (g : Game) (s : OwnStands x g) (o : outcome g.rule (board_of g) x.at ≡ GoesOn) where
   next_own : (q : Point) → outcome g.rule (after (board_of g) x.at) q ≡ GoesOn
@@ -194,8 +178,7 @@ module _ (h : HeldTable) (x : OwnAt) (g : Game) (s : OwnStands x g) (o : outcome
       }
 
   replies_lose : RepliesLose g.rule (x.moves - 1) (after (board_of g) x.at)
-  replies_lose =
-      subst (λ (r : Outcome). WinsOr r (RepliesLose g.rule (x.moves - 1) (after (board_of g) x.at))) o
+  replies_lose = subst (λ (r : Outcome). WinsOr r (RepliesLose g.rule (x.moves - 1) (after (board_of g) x.at))) o
       (move-wins g.rule x.moves (board_of g) x.at s.chosen_is)
 
   own_replied : (q : Point) → LosesOr (outcome g.rule (after (board_of g) x.at) q)
@@ -244,9 +227,8 @@ reply_same : (o : Outcome) (e f : End) → (o ≡ GoesOn → e ≡ f) → after_
 reply_same o e f same = search rules
 
 -- the accepted node i, which is m, is no winning node where its attack goes on
-no_winning : (rule : RuleKind) (t : List Node) (i : ℕ) (m : Node) (b : Grid) → Accepted rule t i b → slice_get t i ≡ Some m
-    → outcome rule b m.attack ≡ GoesOn
-    → is_winning m.rest ≡ false
+no_winning : (rule : RuleKind) (t : List Node) (i : ℕ) (m : Node) (b : Grid)
+    → Accepted rule t i b → slice_get t i ≡ Some m → outcome rule b m.attack ≡ GoesOn → is_winning m.rest ≡ false
 no_winning rule t i m b accepted at on = search (rules, accepted_node, same_Some)
 
 module _ (rule : RuleKind) (t : List Node) (table : IsTable t) where
@@ -286,11 +268,10 @@ module _ (rule : RuleKind) (t : List Node) (table : IsTable t) where
         both_on : outcome rule b m.attack ≡ GoesOn → outcome rule (after b m.attack) q ≡ GoesOn → GoesOnSame
         both_on on reply_on =
             let lawful_on = IsPosition-after rule b m.attack lawful on in
-            let answered = subst (λ (o : Outcome). LosesOr o
-            (IsSomeAnd (answer_at t i q) (λ j. PlanAt rule t (n - 1) j then_board))) reply_on
+            let answered =
+            subst (λ (o : Outcome). LosesOr o (IsSomeAnd (answer_at t i q) (λ j. PlanAt rule t (n - 1) j then_board))) reply_on
             ((plan-replies rule t table n i b m.attack lawful chosen_is on stands).1 q) in
-            IsSomeAnd-elim (answer (answers_of m) q) _ _
-            (λ j reply plan. answered_same j reply
+            IsSomeAnd-elim (answer (answers_of m) q) _ _ (λ j reply plan. answered_same j reply
             (later j then_board (IsPosition-after rule (after b m.attack) q lawful_on reply_on) plan.wins plan.stands))
             (subst (λ (o : Option Node). IsSomeAnd (option_and_then (λ x. answer (answers_of x) q) o)
             (λ j. PlanAt rule t (n - 1) j then_board)) at answered)
@@ -298,12 +279,10 @@ module _ (rule : RuleKind) (t : List Node) (table : IsTable t) where
         reply_same_there : PlaysSame n i b (q ∷ qs)
         unfolding attacks game win_attacks win_game
         reply_same_there = record {
-          same_attacks = rw (at, chosen_is) (ap (λ (l : List Point). m.attack ∷ l)
-              (on_same (outcome rule b m.attack) (is_winning m.rest) _ _
-              (λ on. (
+          same_attacks =
+              rw (at, chosen_is) (ap (λ (l : List Point). m.attack ∷ l) (on_same (outcome rule b m.attack) (is_winning m.rest) _ _ (λ on. (
                 no_winning_here on,
-                on_same (outcome rule (after b m.attack) q) false _ _
-                    (λ reply_on. (refl, (both_on on reply_on).attacks_on)),
+                on_same (outcome rule (after b m.attack) q) false _ _ (λ reply_on. (refl, (both_on on reply_on).attacks_on)),
               ))));
           same_end = rw (at, chosen_is) (after_same (outcome rule b m.attack) (is_winning m.rest) _ _
               (λ on. (no_winning_here on, reply_same (outcome rule (after b m.attack) q) _ _ (λ reply_on. (both_on on reply_on).end_on))));

@@ -1,17 +1,13 @@
 -- The win that the brain finds itself, by what the search of it answers.
 use Rattle.std.proofs.Common.{◌≡◌, ℕ, ◌≤◌, ◌<◌, true, false, subst, ◌∙◌, Some, None, rules}
-use Rattle.game_rules.proofs.Common.{Grid, wins_by_fours}
-use Rattle.game_rules.specs.declared.RuleKind.{RuleKind}
+use Rattle.brain_session.proofs.Common.{Grid, wins_by_fours, RuleKind, FourTable, four_cost, least_moves, OWN_MOVES, OWN_POSITIONS, own_win}
+use Rattle.brain_session.proofs.Common.{IsFound, IsOwnTable, OwnStandsAt}
 use Rattle.game_rules.proofs.Games.{wins-some}
 use Rattle.strategy_graph.proofs.Following.{accepted-in_table}
-use Rattle.four_search.specs.declared.fewest.FourTable.{FourTable}
 use Rattle.four_search.specs.declared.fewest.FewestWin.{FewestWin}
 use Rattle.four_search.specs.FewestWins.{IsFewestWin, win_of}
-use Rattle.four_search.specs.FourGame.{four_cost, least_moves}
 use Rattle.four_search.proofs.Written.{least-none}
 use Rattle.four_search.proofs.Costs.{within, above, wins_by}
-use Rattle.brain_session.specs.declared.TheConstants.{OWN_MOVES, OWN_POSITIONS}
-use Rattle.brain_session.proofs.Common.{own_win, IsFound, IsOwnTable, OwnStandsAt}
 
 -- there is no such win within the moves
 pub own_win-none : (rule : RuleKind) (b : Grid) → wins_by_fours rule OWN_MOVES b ≡ false → four_cost rule OWN_MOVES b ≤ OWN_POSITIONS

@@ -1,13 +1,10 @@
 -- The points of plain moves, where the points of the board come one by one.
-use Rattle.std.proofs.Common.{◌≡◌, ℕ, ◌≤◌, Bool, true, false, cond, ◌&&◌, not, nat_le, nat_lt, refl, sym, ap, ◌∙◌}
-use Rattle.std.proofs.Common.{List, [], ◌∷◌, le-leb, ltb-true, ltb-false, Option, Some, None, find, filter, rules}
+use Rattle.std.proofs.Common.{◌≡◌, ℕ, ◌≤◌, Bool, true, false, cond, ◌&&◌, not, nat_le, nat_lt, refl, sym, ap, ◌∙◌, List, [], ◌∷◌, le-leb}
+use Rattle.std.proofs.Common.{ltb-true, ltb-false, Option, Some, None, find, filter, rules}
 use Rattle.std.proofs.lemmas.Bool.{lt-leb, false_from_ne_true, and_left as no_left, and_right as no_right}
-use Rattle.game_rules.proofs.Common.{Grid, is_empty, points_of, five, mover, other, outcome, is_foul}
-use Rattle.game_rules.specs.declared.RuleKind.{RuleKind}
-use Rattle.game_rules.specs.declared.Side.{Side}
-use Rattle.brain_session.proofs.Common.{five_to_block, next_to_middle, off_middle, is_nearer}
+use Rattle.brain_session.proofs.Common.{Grid, is_empty, points_of, five, mover, other, outcome, is_foul, RuleKind, Side, five_to_block}
+use Rattle.brain_session.proofs.Common.{next_to_middle, off_middle, is_nearer, Point}
 use Rattle.std.specs.List.{list_all}
-use Rattle.game_rules.specs.declared.Point.{Point}
 use Rattle.game_rules.proofs.PointLists.{none_nearer, first_nearest, none_nearer-than, first_nearest-cons}
 
 -- the nearest of these points and of the best before them: the first of those to which none is nearer

@@ -1,19 +1,17 @@
 -- A board and the moves that were made on it: a move more, the last move taken back, and all stones taken off.
-use Rattle.std.proofs.Common.{◌≡◌, ℕ, ◌+◌, ◌*◌, ◌<◌, ◌≤◌, Bool, true, refl, sym, ap, subst, ◌∙◌, arith}
-use Rattle.std.proofs.Common.{List, [], ◌∷◌, ◌++◌, reverse, Decides, eqb-true, eq-eqb, Some, rules}
+use Rattle.std.proofs.Common.{◌≡◌, ℕ, ◌+◌, ◌*◌, ◌<◌, ◌≤◌, Bool, true, refl, sym, ap, subst, ◌∙◌, arith, List, [], ◌∷◌, ◌++◌, reverse}
+use Rattle.std.proofs.Common.{Decides, eqb-true, eq-eqb, Some, rules}
 use Rattle.std.proofs.lemmas.Bool.Decides.{same_from_decides}
 use Rattle.std.proofs.lemmas.List.Sums.{count_by-le-length}
 use lib.Pointwise.{pointwise, pointwise_decides}
-use Rattle.game_rules.proofs.Common.{Grid, IsBoard, is_empty, put, lift, empties_of, mover, after}
-use Rattle.game_rules.specs.declared.Side.{Side}
-use Rattle.game_rules.specs.declared.Cell.{Cell}
-use Rattle.game_rules.specs.declared.Point.{Point}
+use Rattle.brain_session.proofs.Common.{Grid, IsBoard, is_empty, put, empties_of, mover, after, Side, Cell, Point, board_after, empty_board}
+use Rattle.brain_session.proofs.Common.{same_cell, same_board, last_move, IsKept, without_last}
+use Rattle.game_rules.proofs.Common.{lift}
 use Rattle.game_rules.proofs.Boards.{and_left, and_right, lift-put, empties_of-put}
 use Rattle.game_rules.proofs.Positions.{IsBoard-put}
 use Rattle.game_rules.proofs.PointLists.{reverse-push}
 use Rattle.stone_board.specs.Steps.{holds_stone}
 use Rattle.stone_board.proofs.Stones.{put-holds_stone}
-use Rattle.brain_session.proofs.Common.{board_after, empty_board, same_cell, same_board, last_move, IsKept, without_last}
 use Rattle.brain_session.proofs.SessionBoards.{empty-board, width-after, height-after}
 
 -- ---- whether two boards are one
@@ -85,9 +83,8 @@ pub kept-back : (start board : Grid) (before : List Point) (made left room : ℕ
 kept-back start board before made left room p kept fewer =
     let b : Grid = board_after start before in
     let lifted : lift board p ≡ b = kept-lift start board before made room p kept in
-    let more : empties_of board + 1 ≡ empties_of (lift board p) =
-    ap (λ (c : Grid). empties_of c + 1) kept.now ∙ empties_of-put b (mover b) p (IsBoard-after start before kept.start_board)
-    kept.took_empty.1 ∙ ap empties_of (sym lifted) in
+    let more : empties_of board + 1 ≡ empties_of (lift board p) = ap (λ (c : Grid). empties_of c + 1) kept.now
+    ∙ empties_of-put b (mover b) p (IsBoard-after start before kept.start_board) kept.took_empty.1 ∙ ap empties_of (sym lifted) in
     record {
       start_board = kept.start_board;
       now = lifted;
@@ -143,7 +140,5 @@ pub kept-again : (start board lifted again : Grid) (before : List Point) (made r
     → IsKept (record { start = start; moves = p ∷ before }) board made room → lifted ≡ lift board p → side ≡ mover lifted
     → again ≡ put lifted side p → again ≡ board
 kept-again start board lifted again before made room p side kept lift_here moves put_here =
-    put_here
-    ∙ ap (λ (s : Side). put lifted s p) moves
-    ∙ ap (λ (b : Grid). after b p) (lift_here ∙ kept-lift start board before made room p kept)
-    ∙ sym kept.now
+    put_here ∙ ap (λ (s : Side). put lifted s p) moves
+    ∙ ap (λ (b : Grid). after b p) (lift_here ∙ kept-lift start board before made room p kept) ∙ sym kept.now

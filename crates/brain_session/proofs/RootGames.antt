@@ -1,24 +1,15 @@
 -- Where a game has come to a held root, a held game by it begins.
-use Rattle.std.proofs.Common.{◌≡◌, ℕ, suc, Bool, true, cond, refl, sym, ap, subst, ◌∙◌, arith, List, [], ◌∷◌, ◌++◌}
-use Rattle.std.proofs.Common.{Option, Some, None, All, option_map, rules}
+use Rattle.std.proofs.Common.{◌≡◌, ℕ, suc, Bool, true, cond, refl, sym, ap, subst, ◌∙◌, arith, List, [], ◌∷◌, ◌++◌, Option, Some, None, All}
+use Rattle.std.proofs.Common.{option_map, rules}
 use Rattle.std.specs.Option.{option_or}
 use Rattle.std.proofs.lemmas.List.Elements.{All-contains, Contains-append_right}
-use Rattle.game_rules.proofs.Common.{Grid, outcome}
-use Rattle.game_rules.specs.declared.RuleKind.{RuleKind}
-use Rattle.game_rules.specs.declared.Outcome.TheVariants.{GoesOn}
-use Rattle.game_rules.specs.declared.Point.{Point}
+use Rattle.brain_session.proofs.Common.{Grid, outcome, RuleKind, GoesOn, Point, Node, Root, Attack, Defend, Answers, answer, AcceptedRoot}
+use Rattle.brain_session.proofs.Common.{HeldRoot, HeldTable, IsHeldRoot, IsHeld, Command, Game, board_after, board_of, State, new_brain}
+use Rattle.brain_session.proofs.Common.{last_move, same_board, start_answer, node_at, root_node, first_node, by_followed, Step, Chooses}
+use Rattle.brain_session.proofs.Common.{row_of, state_after, GoesOnAlong, BeginsHeldGame, IsThere, IsNodeOf, HasComeTo, BeginsByRoot}
+use Rattle.brain_session.proofs.Common.{RootsBeginGames}
 use Rattle.game_rules.proofs.Outcomes.{going}
-use Rattle.strategy_graph.specs.declared.Node.{Node}
-use Rattle.strategy_graph.specs.declared.roots.Root.{Root}
-use Rattle.strategy_graph.specs.declared.roots.Root.TheVariants.{Attack, Defend}
-use Rattle.strategy_graph.proofs.Common.{Answers, answer, AcceptedRoot}
 use Rattle.strategy_graph.proofs.Answering.{IsSomeAnd-elim}
-use Rattle.strategy_checker.specs.declared.held.HeldRoot.{HeldRoot}
-use Rattle.strategy_checker.specs.HeldRoots.{HeldTable, IsHeldRoot, IsHeld}
-use Rattle.gomocup_text.specs.declared.Command.{Command}
-use Rattle.brain_session.proofs.Common.{Game, board_after, board_of, State, new_brain, last_move, same_board, start_answer}
-use Rattle.brain_session.proofs.Common.{node_at, root_node, first_node, by_followed, Step, Chooses, row_of, state_after, GoesOnAlong}
-use Rattle.brain_session.proofs.Common.{BeginsHeldGame, IsThere, IsNodeOf, HasComeTo, BeginsByRoot, RootsBeginGames}
 use Rattle.brain_session.proofs.PlayedMoves.{same_board-is, same_board-itself}
 use Rattle.brain_session.proofs.HeldNodes.{same_rule-is, if_some}
 use Rattle.brain_session.proofs.HeldGames.{begins, stands_where}
@@ -27,9 +18,8 @@ use Rattle.brain_session.proofs.LawfulStates.{LawfulState, IsToMove, LawfulRow, 
 
 -- ---- a root to which the game has come leads to its node
 
-start_leads : (a : Answers) (b start : Grid) (moves : List Point) (q : Point) (before : List Point) → moves ≡ q ∷ before
-    → board_after start before ≡ b
-    → start_answer a b start moves ≡ answer a q
+start_leads : (a : Answers) (b start : Grid) (moves : List Point) (q : Point) (before : List Point)
+    → moves ≡ q ∷ before → board_after start before ≡ b → start_answer a b start moves ≡ answer a q
 start_leads a b start moves q before are at = search (rules, same_board-itself)
 
 -- the node by which a root is followed in a game that has come to it
@@ -38,9 +28,8 @@ record Leads (root : Root) (b : Grid) (g : Game) : Type 0 where
   is_its : IsNodeOf root g node
   leads : node_at root b g ≡ Some node
 
-answered_at : (rule : RuleKind) (t : List Node) (a : Answers) (b : Grid) (q : Point) → AcceptedRoot rule t (Defend a) b
-    → outcome rule b q ≡ GoesOn
-    → (j : ℕ) × (answer a q ≡ Some j)
+answered_at : (rule : RuleKind) (t : List Node) (a : Answers) (b : Grid) (q : Point)
+    → AcceptedRoot rule t (Defend a) b → outcome rule b q ≡ GoesOn → (j : ℕ) × (answer a q ≡ Some j)
 answered_at rule t a b q accepted on = search (rules, IsSomeAnd-elim, going)
 
 there_leads : (t : List Node) (root : Root) (b : Grid) (g : Game) → AcceptedRoot g.rule t root b → GoesOnAlong g.rule g.start g.moves
@@ -75,8 +64,7 @@ start_there a b start (q ∷ before) i h = (
   q,
   before,
   refl,
-  sym
-      (same_board-is b (board_after start before) (if_some (same_board b (board_after start before)) (answer a q) i h).0),
+  sym (same_board-is b (board_after start before) (if_some (same_board b (board_after start before)) (answer a q) i h).0),
 )
 
 node_there : (root : Root) (b : Grid) (g : Game) (i : ℕ) → node_at root b g ≡ Some i → IsThere root b g
@@ -94,31 +82,23 @@ leads_nowhere r g elsewhere = by_node (root_node g r) refl where
 
 -- ---- the first root to which it has come
 
-first_come : (g : Game) (earlier : List HeldRoot) (r : HeldRoot) (later : List HeldRoot) (i : ℕ) → All (λ e. HasComeTo e g → ⊥) earlier
-    → root_node g r ≡ Some i
-    → first_node g (earlier ++ r ∷ later) ≡ Some i
+first_come : (g : Game) (earlier : List HeldRoot) (r : HeldRoot) (later : List HeldRoot) (i : ℕ)
+    → All (λ e. HasComeTo e g → ⊥) earlier → root_node g r ≡ Some i → first_node g (earlier ++ r ∷ later) ≡ Some i
 first_come g [] r later i none led = ap (λ (o : Option ℕ). option_or o (first_node g later)) led
-first_come g (e ∷ earlier) r later i none led =
-    ap (λ (o : Option ℕ). option_or o (first_node g (earlier ++ r ∷ later))) (leads_nowhere e g (none 0 e (omega arith)))
-    ∙ first_come g earlier r later i (λ k d low. none (suc k) d (omega (arith, low))) led
+first_come g (e ∷ earlier) r later i none led = ap (λ (o : Option ℕ). option_or o (first_node g (earlier ++ r ∷ later)))
+    (leads_nowhere e g (none 0 e (omega arith))) ∙ first_come g earlier r later i (λ k d low. none (suc k) d (omega (arith, low))) led
 
 -- the game by the root begins
-by_root : (s : State) (c : Command) (g : Game) (earlier : List HeldRoot) (r : HeldRoot) (later : List HeldRoot) → IsHeld s.held
-    → LawfulState s
-    → s.held.roots ≡ earlier ++ r ∷ later → All (λ e. HasComeTo e g → ⊥) earlier → row_of s c ≡ Chooses g → by_followed s.held g ≡ None
-    → HasComeTo r g
-    → BeginsByRoot s c g r
+by_root : (s : State) (c : Command) (g : Game) (earlier : List HeldRoot) (r : HeldRoot) (later : List HeldRoot)
+    → IsHeld s.held → LawfulState s → s.held.roots ≡ earlier ++ r ∷ later
+    → All (λ e. HasComeTo e g → ⊥) earlier → row_of s c ≡ Chooses g → by_followed s.held g ≡ None → HasComeTo r g → BeginsByRoot s c g r
 by_root s c g earlier r later held lawful roots none row followed come =
     let to_move : IsToMove g = subst (LawfulRow s.held) row (row-lawful s c lawful) in
     let is_held : IsHeldRoot s.held.table r = All-contains (IsHeldRoot s.held.table) (earlier ++ r ∷ later) r
-    (subst (All (IsHeldRoot s.held.table)) roots held.roots)
-    (Contains-append_right earlier (r ∷ later) r (0, omega arith, refl)) in
+    (subst (All (IsHeldRoot s.held.table)) roots held.roots) (Contains-append_right earlier (r ∷ later) r (0, omega arith, refl)) in
     let led = come_leads s.held.table r g is_held to_move.along come in
-    let b : BeginsHeldGame s c g led.0 = record {
-      chooses = row;
-      not_followed = followed;
-      leads = ap (first_node g) roots ∙ first_come g earlier r later led.0 none led.2;
-    } in
+    let b : BeginsHeldGame s c g led.0 =
+    record { chooses = row; not_followed = followed; leads = ap (first_node g) roots ∙ first_come g earlier r later led.0 none led.2 } in
     let at = stands_where s c g led.0 held lawful b in
     let step = begins s c g led.0 at.1 b at.3.node in
     record {

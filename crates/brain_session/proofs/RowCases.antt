@@ -1,24 +1,16 @@
 -- The rows of the protocol, case by case: what holds of each row that a command may have holds of the row of any command.
-use Rattle.std.proofs.Common.{◌≡◌, ℕ, Bool, true, false, cond, ◌&&◌, List, [], ◌∷◌, refl, ◌≢◌, Option, Some}
-use Rattle.std.proofs.Common.{None, rules}
-use Rattle.game_rules.proofs.Common.{is_on, outcome, mover}
-use Rattle.game_rules.specs.declared.RuleKind.{RuleKind}
-use Rattle.game_rules.specs.declared.Side.TheVariants.{Black, White}
-use Rattle.game_rules.specs.declared.Point.{Point}
+use Rattle.std.proofs.Common.{◌≡◌, ℕ, Bool, true, false, cond, List, ◌∷◌, refl, ◌≢◌, Option, Some, None, rules}
+use Rattle.brain_session.proofs.Common.{is_on, outcome, mover, RuleKind, Black, White, Point, Command, Start, RectStart, Begin, Turn, Board}
+use Rattle.brain_session.proofs.Common.{Stone, Done, Restart, Takeback, Rule, Info, About, Blank, Malformed, Unknown, Answer, Error}
+use Rattle.brain_session.proofs.Common.{NotReading, UnsupportedRule, BadBoard, BadArguments, GameOver, WrongTurn, Silent, Says, Ends, Game}
+use Rattle.brain_session.proofs.Common.{board_of, empty_board, new_game, point_at, Place, NoBoard, Fresh, InGame, Batch, State, new_batch}
+use Rattle.brain_session.proofs.Common.{spoiled, with_batch_stone, game_from, Row, Reacts, Chooses, fails, unread, reading, placed, rule_of}
+use Rattle.brain_session.proofs.Common.{if_supported, is_side, start_row, restart_row, board_row, board_in, stone_row, batch_row, done_row}
+use Rattle.brain_session.proofs.Common.{begin_row, same_side, move_row, turn_row, place_before, takeback_row, if_not_reading, row_of}
 use Rattle.game_rules.proofs.Boards.{and_left, and_right}
-use Rattle.gomocup_text.specs.declared.Command.{Command}
-use Rattle.gomocup_text.specs.declared.Command.TheVariants.{Start, RectStart, Begin, Turn, Board, Stone, Done, Restart, Takeback, Rule}
-use Rattle.gomocup_text.specs.declared.Command.TheVariants.{Info, About, End, Blank, Malformed, Unknown}
-use Rattle.gomocup_text.specs.declared.Answer.{Answer}
-use Rattle.gomocup_text.specs.declared.Answer.TheVariants.{Ok as SaysOk, About as SaysAbout, Error, Unknown as SaysUnknown}
-use Rattle.gomocup_text.specs.declared.ErrorText.TheVariants.{NoBoard as NoBoardText, NotReading, UnsupportedRule}
-use Rattle.gomocup_text.specs.declared.ErrorText.TheVariants.{BadBoard, BadArguments, GameOver, WrongTurn}
-use Rattle.brain_session.specs.declared.Reaction.TheVariants.{Silent, Says, Ends}
-use Rattle.brain_session.proofs.Common.{Game, board_of, empty_board, new_game, point_at, Place, NoBoard, Fresh, InGame, Batch, State}
-use Rattle.brain_session.proofs.Common.{new_batch, spoiled, with_batch_stone, game_from, Row, Reacts, Chooses, fails, unread, reading}
-use Rattle.brain_session.proofs.Common.{placed, rule_of, if_supported, is_side, start_row, restart_row, board_row, board_in, stone_row}
-use Rattle.brain_session.proofs.Common.{batch_row, done_row, begin_row, same_side, move_row, turn_row, place_before, takeback_row}
-use Rattle.brain_session.proofs.Common.{if_not_reading, row_of}
+use Rattle.gomocup_text.specs.declared.Command.TheVariants.{End}
+use Rattle.gomocup_text.specs.declared.Answer.TheVariants.{Ok as SaysOk, About as SaysAbout, Unknown as SaysUnknown}
+use Rattle.gomocup_text.specs.declared.ErrorText.TheVariants.{NoBoard as NoBoardText}
 
 -- each row that the command c may have in the state s, with what is known where it has it
 pub record RowCases (P : Row → Type 0) (s : State) (c : Command) : Type 0 where
@@ -43,9 +35,8 @@ pub record RowCases (P : Row → Type 0) (s : State) (c : Command) : Type 0 wher
       → P (Chooses (new_game rule (empty_board width height) Black))
   pub second : (rule : RuleKind) (width height : ℕ) (p : Point) → rule_of s.wish ≡ Some rule → s.place ≡ Fresh width height
       → P (move_row s (new_game rule (empty_board width height) White) p (outcome rule (empty_board width height) p))
-  pub later : (rule : RuleKind) (g : Game) (p : Point) → rule_of s.wish ≡ Some rule → s.place ≡ InGame g → g.ended ≡ false
-      → same_side (mover (board_of g)) g.brain ≡ false
-      → P (move_row s g p (outcome g.rule (board_of g) p))
+  pub later : (rule : RuleKind) (g : Game) (p : Point) → rule_of s.wish ≡ Some rule → s.place ≡ InGame g
+      → g.ended ≡ false → same_side (mover (board_of g)) g.brain ≡ false → P (move_row s g p (outcome g.rule (board_of g) p))
   pub back : (g : Game) (p : Point) (before : List Point) → s.place ≡ InGame g → g.moves ≡ p ∷ before
       → P (Reacts (Says SaysOk) (placed s (place_before g before)))
 
@@ -85,9 +76,8 @@ module _ (P : Row → Type 0) (s : State) (c : Command) (cases : RowCases P s c)
   turn_case NoBoard p e = cases.says (Error NoBoardText)
   turn_case (Fresh width height) p e = by_rule (rule_of s.wish) s _ (cases.says (Error UnsupportedRule))
       (λ rule supported. cases.second rule width height p supported e)
-  turn_case (InGame g) p e =
-      by_test g.ended _ _ (λ over. cases.says (Error GameOver)) (λ going.
-      by_test (same_side (mover (board_of g)) g.brain) _ _ (λ own. cases.says (Error WrongTurn)) (λ others.
+  turn_case (InGame g) p e = by_test g.ended _ _ (λ over. cases.says (Error GameOver))
+      (λ going. by_test (same_side (mover (board_of g)) g.brain) _ _ (λ own. cases.says (Error WrongTurn)) (λ others.
       by_rule (rule_of s.wish) s _ (cases.says (Error UnsupportedRule)) (λ rule supported. cases.later rule g p supported e going others)))
 
   takeback_case : (place : Place) (p : Point) → s.place ≡ place → P (takeback_row s place p)

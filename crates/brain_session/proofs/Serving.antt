@@ -1,34 +1,27 @@
 -- What a session has read, said and become when it comes to its next line, and how it may end there.
-use Rattle.std.proofs.Common.{◌≡◌, ◌≢◌, ◌<◌, ◌≤◌, ◌+◌, Bool, true, false, cond, List, [], ◌∷◌, ◌++◌}
-use Rattle.std.proofs.Common.{length, take, refl, sym, ap, subst, ◌∙◌, append_assoc, add_comm, arith, length-append, Option, Some}
-use Rattle.std.proofs.Common.{None, ◌⊎◌, inl, inr, ℕ, IfSome, option_to_list, rules}
+use Rattle.std.proofs.Common.{◌≡◌, ◌≢◌, ◌<◌, ◌≤◌, ◌+◌, Bool, true, false, cond, List, [], ◌∷◌, ◌++◌, length, take, refl, sym, ap, subst}
+use Rattle.std.proofs.Common.{◌∙◌, append_assoc, add_comm, arith, length-append, Option, Some, None, ◌⊎◌, inl, inr, ℕ, IfSome}
+use Rattle.std.proofs.Common.{option_to_list, rules}
 use Rattle.std.specs.Io.KnownBytes.{IsAtEnd}
 use Rattle.std.proofs.lemmas.List.{append-nil, map-append}
 use Rattle.std.proofs.Math.Seq.{take-append_seam}
 use Rattle.std.proofs.lemmas.Grind.{flat_map-append}
-use Rattle.renju_io.specs.Asked.{GivesByEach, IsAsked, IsAskedAtMost, IsAskedOnce, IsAskedWithin}
+use Rattle.renju_io.specs.Asked.{GivesByEach, IsAsked, IsAskedAtMost, IsAskedOnce}
+use Rattle.brain_session.proofs.Common.{IsAskedWithin, lines, whole_lines, ReaderState, reads_for, MAX_SESSION_BYTES, commands}
+use Rattle.brain_session.proofs.Common.{command_told, answer_text, Command, Answer, Reaction, Ends, State, brain_step, takes_none}
+use Rattle.brain_session.proofs.Common.{then_answers, answers_from, answer_texts, state_after, TakesCommands, IsWritten, IsAnswered}
+use Rattle.brain_session.proofs.Common.{IsHalfAnswered, Output, Served, served, Writes, HasAnswered, HasNoEnd, IsReadToEnd}
+use Rattle.brain_session.proofs.Common.{ReadsAfterAnswers, StopsAtRead, StopsAtWrite, StopsInTurn, StopsAtStep, within_limit, IsTooLong}
 use Rattle.renju_io.specs.Told.{Gives, GivesSome, Takes}
-use Rattle.renju_io.specs.Lines.{LineText, lines, whole_lines, Tells, TellsLast, ReaderState, KnowsEnd, TakesLines, KeepsLine, GoesPast}
-use Rattle.renju_io.specs.Lines.{TakesTooMany, reads_for}
+use Rattle.renju_io.specs.Lines.{LineText, Tells, TellsLast, KnowsEnd, TakesLines, KeepsLine, GoesPast, TakesTooMany}
 use Rattle.renju_io.specs.LineReads.{ReadsNoFurther}
-use Rattle.renju_io.specs.declared.TheConstants.{MAX_SESSION_BYTES}
 use Rattle.renju_io.proofs.AskedCalls.{IsAsked-then, few_more, within_few}
 use Rattle.renju_io.proofs.GivenBytes.{Gives-none, Gives-then, Gives-some}
 use Rattle.renju_io.proofs.TakenText.{Takes-then}
 use Rattle.renju_io.proofs.ToldSoFar.{Reading, new_reader, read_on, HasTold, Takes-none, open_tells, told_then, open_after, bytes_of}
 use Rattle.renju_io.proofs.ToldSoFar.{begins, all_told}
-use Rattle.gomocup_text.specs.Commands.{commands, command_told}
-use Rattle.gomocup_text.specs.Answers.{answer_text}
-use Rattle.gomocup_text.specs.declared.Command.{Command}
 use Rattle.gomocup_text.specs.declared.Command.TheVariants.{End}
-use Rattle.gomocup_text.specs.declared.Answer.{Answer}
 use Rattle.gomocup_text.proofs.AskedLines.{asked, one_line, no_line, end_among}
-use Rattle.brain_session.specs.declared.Reaction.{Reaction}
-use Rattle.brain_session.specs.declared.Reaction.TheVariants.{Ends}
-use Rattle.brain_session.proofs.Common.{State, brain_step, takes_none, then_answers, answers_from, answer_texts, state_after, TakesCommands}
-use Rattle.brain_session.proofs.Common.{IsWritten, IsAnswered, IsHalfAnswered, Output, Served, served, Writes, HasAnswered, HasNoEnd}
-use Rattle.brain_session.proofs.Common.{IsReadToEnd, ReadsAfterAnswers, StopsAtRead, StopsAtWrite, StopsInTurn, StopsAtStep, within_limit}
-use Rattle.brain_session.proofs.Common.{IsTooLong}
 use Rattle.brain_session.proofs.SessionLaws.{end_ends, HasNoEnd-none, HasNoEnd-push, answers-append, state-append, answers-one, state-one}
 use Rattle.brain_session.proofs.SessionLaws.{answers-end, state-end, state-none, answers-none}
 
@@ -94,9 +87,8 @@ SoFar-begun s left output reader fresh = subst (λ (x : ReaderState). SoFar (rec
 
 -- one more line is read, where a call tells what may be a command
 pub Asked-told : (r : Reading) (v : Served) (told : Option Command) (c : Command) (next : ReaderState) (left : Option (List ℕ))
-    → SoFar r v →
-    told ≡ Some c → (r.reader.ended ≡ true → told ≡ None) → TakesCommands r.reader r.left (option_to_list told) next left →
-    next.taken ≤ MAX_SESSION_BYTES → (KnowsEnd r.reader r.left → KnowsEnd next left) → Asked (read_on r next left) v c
+    → SoFar r v → told ≡ Some c → (r.reader.ended ≡ true → told ≡ None) → TakesCommands r.reader r.left (option_to_list told) next left
+    → next.taken ≤ MAX_SESSION_BYTES → (KnowsEnd r.reader r.left → KnowsEnd next left) → Asked (read_on r next left) v c
 Asked-told r v told c next left so_far is asks took few knows =
     let one = one_line c took.lines (ap option_to_list (sym is) ∙ took.are) in
     record {
@@ -104,9 +96,8 @@ Asked-told r v told c next left so_far is asks took few knows =
       line = one.0;
       is = one.2;
       read = record {
-        takes = told_then r so_far.told so_far.read (open_tells r so_far.told so_far.read (λ e. let none = asks e in cc)) (one.0 ∷ []) next
-            left
-            (subst (λ (ls : List LineText). TakesLines r.reader r.left ls next left) one.1 took.takes);
+        takes = told_then r so_far.told so_far.read (open_tells r so_far.told so_far.read (λ e. let none = asks e in cc))
+            (one.0 ∷ []) next left (subst (λ (ls : List LineText). TakesLines r.reader r.left ls next left) one.1 took.takes);
         few = few;
         knows = knows so_far.read.knows;
       };
@@ -263,11 +254,10 @@ pub HasAnswered-end : (r : Reading) (v : Served) (c : Command) (next : State) (w
     IsAnswered v.after c false next v.output_after written → c ≡ End
     → IfSome r.left_before (λ bytes. HasAnswered (served_on v next written) (commands bytes))
 HasAnswered-end r v c next written so_far answered is =
-    let silent : written ≡ v.output_after =
-    wrote_end (brain_step v.after c).reaction v.output_after written (ap (λ d. (brain_step v.after d).reaction) is ∙ end_ends v.after)
-    answered.wrote in
-    among r v c so_far (HasAnswered (served_on v next written)) (λ later.
-    subst (λ (d : Command). HasAnswered (served_on v next written) (asked so_far.told ++ (d ∷ later))) (sym is)
+    let silent : written ≡ v.output_after = wrote_end (brain_step v.after c).reaction v.output_after written
+    (ap (λ d. (brain_step v.after d).reaction) is ∙ end_ends v.after) answered.wrote in
+    among r v c so_far (HasAnswered (served_on v next written))
+    (λ later. subst (λ (d : Command). HasAnswered (served_on v next written) (asked so_far.told ++ (d ∷ later))) (sym is)
     (answered_then v (asked so_far.told) so_far.no_end so_far.answered next (End ∷ later) written
     (answered.state ∙ ap (λ d. (brain_step v.after d).next) is ∙ sym (state-end v.after later))
     (subst (λ (answers : List Answer). Writes answers v.output_after written) (sym (answers-end v.after later))
@@ -351,10 +341,9 @@ pub record EndsAt (r : Reading) (v : Served) : Type 0 where
   pub read : IsReadToEnd r.left_before r.left
   pub by_each : (a b : ℕ) → IsAskedWithin 0 (reads_for r.reader) a b → GivesByEach r.left_before r.left a b
 
-pub EndsAt-told : (r : Reading) (v : Served) (next : ReaderState) (left : Option (List ℕ)) → SoFar r v
-    → TakesCommands r.reader r.left [] next left →
-    next ≡ (record r.reader { ended = true }) → r.reader.kept ≡ [] → (KnowsEnd r.reader r.left → IsAtEnd left)
-    → (r.reader.ended ≡ true → left ≡ r.left) → EndsAt (read_on r next left) v
+pub EndsAt-told : (r : Reading) (v : Served) (next : ReaderState) (left : Option (List ℕ))
+    → SoFar r v → TakesCommands r.reader r.left [] next left → next ≡ (record r.reader { ended = true }) → r.reader.kept ≡ []
+    → (KnowsEnd r.reader r.left → IsAtEnd left) → (r.reader.ended ≡ true → left ≡ r.left) → EndsAt (read_on r next left) v
 EndsAt-told r v next left so_far took is none ends stays =
     let all = all_told r so_far.told so_far.read next left
     (subst (λ (told : List LineText). TakesLines r.reader r.left told next left) (no_line took.lines took.are) took.takes)
@@ -433,9 +422,8 @@ by_each_told r told read a b few = record {
 }
 
 -- nor where a read failed within a line
-pub by_each_open : (r : Reading) (v : Served) (next : ReaderState) (left : Option (List ℕ)) (a b : ℕ) → SoFar r v
-    → KeepsLine r.reader r.left next left
-    → IsAskedWithin 0 (next.taken + 1) a b → GivesByEach r.left_before left a b
+pub by_each_open : (r : Reading) (v : Served) (next : ReaderState) (left : Option (List ℕ)) (a b : ℕ)
+    → SoFar r v → KeepsLine r.reader r.left next left → IsAskedWithin 0 (next.taken + 1) a b → GivesByEach r.left_before left a b
 by_each_open r v next left a b so_far keeps few =
     let read = so_far.read.takes in
     record {

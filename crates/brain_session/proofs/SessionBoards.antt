@@ -1,39 +1,26 @@
 -- The place of a session's board: empty boards, the size of a board along the moves, the board of a running game, and the rows of
 -- the protocol there.
-use Rattle.std.proofs.Common.{Option, Some, None, Result, OnOk, OnErr, ◌==◌, is_none, IfOk, if◌then◌else◌, rules}
-use Rattle.std.proofs.Common.{◌≡◌, inl, ℕ, ◌*◌, ◌<◌, ◌≤◌, Bool, true, false, ◌&&◌, cond, refl, sym, ap, subst}
-use Rattle.std.proofs.Common.{◌∙◌, arith, eqb-true, List, [], ◌∷◌}
+use Rattle.std.proofs.Common.{Option, Some, None, Result, OnOk, OnErr, is_none, IfOk, if◌then◌else◌, rules, ◌≡◌, inl, ℕ, ◌*◌, ◌<◌, ◌≤◌}
+use Rattle.std.proofs.Common.{Bool, true, false, ◌&&◌, cond, refl, sym, ap, subst, ◌∙◌, arith, eqb-true, List, [], ◌∷◌}
 use Rattle.std.proofs.Math.Nat.{mul-pos}
 use Rattle.std.proofs.lemmas.List.Folds.{sum_by-replicate}
 use Rattle.std.proofs.lemmas.List.{length-replicate}
-use Rattle.game_rules.proofs.Common.{Grid, IsBoard, is_on, is_empty, is_empty_cell, place_of as cell_place, holds}
-use Rattle.game_rules.proofs.Common.{stones_of, empties_of, IsPosition, outcome, after, mover, is_same_point}
-use Rattle.game_rules.specs.declared.TheConstants.{MIN_SIDE, MAX_SIDE}
-use Rattle.game_rules.specs.declared.RuleKind.{RuleKind}
-use Rattle.game_rules.specs.declared.Side.{Side}
-use Rattle.game_rules.specs.declared.Side.TheVariants.{Black, White}
-use Rattle.game_rules.specs.declared.Cell.{Cell}
-use Rattle.game_rules.specs.declared.Cell.TheVariants.{Empty}
-use Rattle.game_rules.specs.declared.Outcome.TheVariants.{Refused}
-use Rattle.game_rules.specs.declared.Point.{Point}
-use Rattle.game_rules.specs.declared.Outcome.{Outcome}
+use Rattle.brain_session.proofs.Common.{Grid, IsBoard, is_on, is_empty, is_empty_cell, holds, stones_of, empties_of, IsPosition, outcome}
+use Rattle.brain_session.proofs.Common.{after, mover, is_same_point, MAX_SIDE, RuleKind, Side, Black, White, Cell, Empty, Refused, Point}
+use Rattle.brain_session.proofs.Common.{Outcome, HeldTable, Error, ErrorText, UnsupportedRule, GameOver, WrongTurn, BadMove, SessionGame}
+use Rattle.brain_session.proofs.Common.{Game, Fresh, board_after, empty_board, new_game, Place, InGame, State, board_of, last_move, is_game}
+use Rattle.brain_session.proofs.Common.{board_in, is_bare, Row, Step, fails, placed, if_supported, move_row, turn_row, last_row}
+use Rattle.brain_session.proofs.Common.{restart_row, takeback_row, EndsAlong, IsPlayed, IsRunning, IsPlace, Moves, IsKeptUp, IsSessionBoard}
+use Rattle.brain_session.proofs.Common.{IsUntouched, without_last, game_of, place_of, IsPointOn, are_one, in_place, IsRow, IsStateOf, Takes}
+use Rattle.brain_session.proofs.Common.{turn_refusal, Reaction, Says}
+use Rattle.game_rules.proofs.Common.{place_of as cell_place}
+use Rattle.game_rules.specs.declared.TheConstants.{MIN_SIDE}
 use Rattle.game_rules.proofs.Boards.{and_left, and_right, is_empty-on}
 use Rattle.game_rules.proofs.Positions.{GoesOn-empty}
 use Rattle.game_rules.proofs.Points.{taken_refused, same_point-on}
 use Rattle.game_rules.proofs.Outcomes.{moved}
 use Rattle.game_rules.proofs.Cells.{empty_cell, bare-cells, empty_stone}
-use Rattle.strategy_checker.specs.HeldRoots.{HeldTable}
-use Rattle.gomocup_text.specs.declared.Answer.TheVariants.{Error, Ok as SaysOk}
-use Rattle.gomocup_text.specs.declared.ErrorText.{ErrorText}
-use Rattle.gomocup_text.specs.declared.ErrorText.TheVariants.{UnsupportedRule, GameOver, WrongTurn, BadMove}
-use Rattle.brain_session.specs.declared.game.SessionGame.{SessionGame}
-use Rattle.brain_session.proofs.Common.{Game, Fresh, board_after, empty_board, new_game, Place, InGame, State, board_of, last_move}
-use Rattle.brain_session.proofs.Common.{is_game, board_in, is_bare, Row, Step, fails, placed, if_supported, move_row, turn_row}
-use Rattle.brain_session.proofs.Common.{last_row, restart_row, takeback_row, EndsAlong, IsPlayed, IsRunning, IsPlace, Moves, IsKeptUp}
-use Rattle.brain_session.proofs.Common.{IsSessionBoard, IsUntouched, without_last, game_of, place_of, IsPointOn, are_one, in_place, IsRow}
-use Rattle.brain_session.proofs.Common.{IsStateOf, Takes, turn_refusal}
-use Rattle.brain_session.specs.declared.Reaction.{Reaction}
-use Rattle.brain_session.specs.declared.Reaction.TheVariants.{Says}
+use Rattle.gomocup_text.specs.declared.Answer.TheVariants.{Ok as SaysOk}
 use Rattle.brain_session.proofs.SessionGames.{start-lawful, ends-empty}
 
 -- ---- empty boards
@@ -150,9 +137,8 @@ pub session_board-kept : (h : HeldTable) (m : Moves) (c : SessionGame) → IsKep
 session_board-kept h m c kept = (running-board h (game_of m c) kept.running, kept.guided)
 
 -- the session's board after a call that kept it up, or that failed and left it as it was
-pub session_board-after : {T E : Type 0} (h : HeldTable) (m n : Moves) (c d : SessionGame) (r : Result T E) → OnOk r (IsKeptUp h n d)
-    → OnErr r (n ≡ m)
-    → OnErr r (d ≡ c) → IsSessionBoard m (Some c) → IsSessionBoard n (Some d)
+pub session_board-after : {T E : Type 0} (h : HeldTable) (m n : Moves) (c d : SessionGame) (r : Result T E)
+    → OnOk r (IsKeptUp h n d) → OnErr r (n ≡ m) → OnErr r (d ≡ c) → IsSessionBoard m (Some c) → IsSessionBoard n (Some d)
 session_board-after h m n c d r kept played game session_board = search (rules, session_board-kept)
 
 -- a session's board that is untouched after the last move was taken back
@@ -238,11 +224,10 @@ pub turn-off : (h : HeldTable) (m : Moves) (o : Option SessionGame) (rule : Opti
 turn-off h m None None s p e at off = absurd (cc)
 turn-off h m None (Some kind) s p e at off =
     let g : Game = new_game kind (empty_board m.start.width m.start.height) White in
-    let row : turn_row s (Fresh m.start.width m.start.height) p ≡ fails BadMove s =
-    turn-fresh h m.start.width m.start.height kind s p at
+    let row : turn_row s (Fresh m.start.width m.start.height) p ≡ fails BadMove s = turn-fresh h m.start.width m.start.height kind s p at
     ∙ ap (move_row s g p) (off-refused kind (empty_board m.start.width m.start.height) [] p off) in
-    subst (λ (w : Row). Takes w s (Says (Error BadMove)) (placed s (Fresh m.start.width m.start.height))) (sym row)
-    (fails-takes s BadMove _ _ at.unread refl (sym at.place_is))
+    subst (λ (w : Row). Takes w s (Says (Error BadMove)) (placed s (Fresh m.start.width m.start.height)))
+    (sym row) (fails-takes s BadMove _ _ at.unread refl (sym at.place_is))
 turn-off h m (Some c) rule s p e at off =
     let g : Game = game_of m c in
     let row : turn_row s (InGame g) p ≡ fails BadMove s =

@@ -1,23 +1,15 @@
 -- A game that is kept up: after each move of the brain, and after each of the opponent.
-use Rattle.std.proofs.Common.{◌≡◌, ◌≢◌, ◌-◌, Bool, true, false, not, List, [], ◌∷◌, ap, subst, rules}
-use Rattle.std.proofs.Common.{◌∙◌, Option, Some, None, IfSome, MatchOption, option_map, option_and_then}
-use Rattle.game_rules.proofs.Common.{Grid, is_empty, IsPosition, outcome, after, mover, other, goes_on}
-use Rattle.game_rules.specs.declared.RuleKind.{RuleKind}
-use Rattle.game_rules.specs.declared.Outcome.{Outcome}
-use Rattle.game_rules.specs.declared.Outcome.TheVariants.{Refused, GoesOn}
-use Rattle.game_rules.specs.declared.Point.{Point}
+use Rattle.std.proofs.Common.{◌≡◌, Bool, true, false, not, List, [], ◌∷◌, ap, subst, rules, ◌∙◌, Option, Some, None, IfSome, MatchOption}
+use Rattle.std.proofs.Common.{option_map, option_and_then}
+use Rattle.brain_session.proofs.Common.{Grid, is_empty, IsPosition, outcome, after, mover, other, goes_on, RuleKind, GoesOn, Point}
+use Rattle.brain_session.proofs.Common.{HeldTable, Guide, SessionGame, Followed, Game, board_after, board_of, Choice, or_else}
+use Rattle.brain_session.proofs.Common.{followed_after, last_move, move_by, by_following, followed_on, by_followed, chosen_anew, chosen}
+use Rattle.brain_session.proofs.Common.{GoesOnAlong, EndsGame, FollowsAt, IsOpponentNext, IsPlayed, Moves, GuidesAt, GoesOnAfter, IsKeptUp}
+use Rattle.brain_session.proofs.Common.{IsInTable, IsReady, NodeStandsAt, StandsAt, followed_of, game_of, guide_after}
 use Rattle.game_rules.proofs.Positions.{IsPosition-after, mover-other, mover-then}
 use Rattle.game_rules.proofs.Points.{taken_refused}
 use Rattle.game_rules.proofs.Outcomes.{goes_on-is, moved}
 use Rattle.game_rules.proofs.Games.{wins-some}
-use Rattle.strategy_checker.specs.HeldRoots.{HeldTable}
-use Rattle.brain_session.specs.declared.guide.Guide.{Guide}
-use Rattle.brain_session.specs.declared.game.SessionGame.{SessionGame}
-use Rattle.brain_session.proofs.Common.{Followed, Game, board_after, board_of, Choice, or_else, followed_after, last_move}
-use Rattle.brain_session.proofs.Common.{move_by, by_following, followed_on, by_followed}
-use Rattle.brain_session.proofs.Common.{chosen_anew, chosen, GoesOnAlong, EndsGame, FollowsAt, IsOpponentNext}
-use Rattle.brain_session.proofs.Common.{IsPlayed, Moves, GuidesAt, GoesOnAfter, IsKeptUp, IsInTable, IsReady, NodeStandsAt}
-use Rattle.brain_session.proofs.Common.{StandsAt, followed_of, game_of, guide_after}
 use Rattle.brain_session.proofs.Guiding.{stands-goes_on, goes_on-after}
 
 -- ---- the position

@@ -1,19 +1,10 @@
 -- What a session says and where it stands, command by command, up to END.
-use Rattle.std.proofs.Common.{◌≡◌, ◌≢◌, List, [], ◌∷◌, ◌++◌, refl, sym, ap, ◌∙◌, arith, suc, inl, inr}
-use Rattle.std.proofs.Common.{Contains, rules}
+use Rattle.std.proofs.Common.{◌≡◌, ◌≢◌, List, [], ◌∷◌, ◌++◌, refl, sym, ap, ◌∙◌, arith, suc, inl, inr, Contains, rules}
 use Rattle.std.proofs.lemmas.List.Elements.{Contains-append_cases}
-use Rattle.game_rules.proofs.Common.{outcome}
-use Rattle.game_rules.specs.declared.Side.TheVariants.{White}
-use Rattle.game_rules.specs.declared.Outcome.{Outcome}
-use Rattle.game_rules.specs.declared.Outcome.TheVariants.{GoesOn}
-use Rattle.game_rules.specs.declared.Point.{Point}
-use Rattle.gomocup_text.specs.declared.Command.{Command}
+use Rattle.brain_session.proofs.Common.{outcome, White, Outcome, GoesOn, Point, Command, Answer, Reaction, Ends, Game, board_of}
+use Rattle.brain_session.proofs.Common.{empty_board, new_game, State, move_row, row_of, step_by, brain_step, then_answers, answers_from}
+use Rattle.brain_session.proofs.Common.{then_state, state_after, HasNoEnd}
 use Rattle.gomocup_text.specs.declared.Command.TheVariants.{End}
-use Rattle.gomocup_text.specs.declared.Answer.{Answer}
-use Rattle.brain_session.specs.declared.Reaction.{Reaction}
-use Rattle.brain_session.specs.declared.Reaction.TheVariants.{Ends}
-use Rattle.brain_session.proofs.Common.{Game, board_of, empty_board, new_game, State, move_row, row_of, step_by, brain_step, then_answers}
-use Rattle.brain_session.proofs.Common.{answers_from, then_state, state_after, HasNoEnd}
 use Rattle.brain_session.proofs.RowCases.{row-cases}
 
 -- a command whose step ends the session is END
@@ -59,10 +50,8 @@ only_item : (c d : Command) → Contains (c ∷ []) d → c ≡ d
 only_item c d h = search rules
 
 pub HasNoEnd-push : (cs : List Command) (c : Command) → HasNoEnd cs → c ≢ End → HasNoEnd (cs ++ (c ∷ []))
-HasNoEnd-push cs c no_end goes_on = λ w. elim (Contains-append_cases cs (c ∷ []) End w) [
-  | inl before ↦ no_end before
-  | inr last ↦ goes_on (only_item c End last)
-]
+HasNoEnd-push cs c no_end goes_on =
+    λ w. elim (Contains-append_cases cs (c ∷ []) End w) [ inl before ↦ no_end before | inr last ↦ goes_on (only_item c End last) ]
 
 answers_go_on : (r : Reaction) (xs ys : List Answer) → r ≢ Ends → then_answers r (xs ++ ys) ≡ then_answers r xs ++ ys
 answers_go_on r xs ys goes_on = search rules
@@ -90,9 +79,8 @@ state-append s [] ds no_end = refl
 state-append s (c ∷ cs) ds no_end =
     let step = brain_step s c in
     let goes_on : step.reaction ≢ Ends = λ e. first_goes_on c cs no_end (only_end_ends s c e) in
-    state_goes_on step.reaction step.next (state_after step.next (cs ++ ds)) goes_on
-    ∙ state-append step.next cs ds (later_go_on c cs no_end)
-    ∙ ap (λ t. state_after t ds) (sym (state_goes_on step.reaction step.next (state_after step.next cs) goes_on))
+    state_goes_on step.reaction step.next (state_after step.next (cs ++ ds)) goes_on ∙ state-append step.next cs ds
+    (later_go_on c cs no_end) ∙ ap (λ t. state_after t ds) (sym (state_goes_on step.reaction step.next (state_after step.next cs) goes_on))
 
 -- one command alone
 pub answers-one : (s : State) (c : Command) → answers_from s (c ∷ []) ≡ then_answers (brain_step s c).reaction []

@@ -1,26 +1,17 @@
 -- Steps of the brain: the step of a command by what its row says, and the stones of a batch that fit the board.
-use Rattle.std.proofs.Common.{◌≡◌, ℕ, ◌<◌, Bool, true, false, ◌&&◌, ◌||◌, not, refl, sym, ap, subst, ◌∙◌, arith}
-use Rattle.std.proofs.Common.{List, [], ◌∷◌, ◌++◌, length, get_or, Option, Some, None, Result, IfOk, IfSome, IsOk, rules}
-use Rattle.std.proofs.Common.{IsNone, is_some, All, ◌==◌, if◌then◌else◌, option_map}
+use Rattle.std.proofs.Common.{◌≡◌, ℕ, ◌<◌, Bool, true, false, ◌&&◌, ◌||◌, not, refl, sym, ap, subst, ◌∙◌, arith, List, [], ◌∷◌, ◌++◌}
+use Rattle.std.proofs.Common.{length, get_or, Option, Some, None, Result, IfOk, IfSome, IsOk, rules, IsNone, is_some, All, ◌==◌}
+use Rattle.std.proofs.Common.{if◌then◌else◌, option_map}
 use Rattle.std.proofs.lemmas.List.Elements.{All-push}
 use Rattle.std.proofs.lemmas.List.Quantifiers.{all_pairs_push}
 use Rattle.std.proofs.lemmas.List.Folds.{list_any_at}
-use Rattle.game_rules.proofs.Common.{Grid, is_on, is_same_point}
-use Rattle.game_rules.specs.declared.RuleKind.{RuleKind}
-use Rattle.game_rules.specs.declared.Point.{Point}
+use Rattle.brain_session.proofs.Common.{Grid, is_on, is_same_point, RuleKind, Point, HeldTable, IsHeld, Command, Done, Turn, Reaction}
+use Rattle.brain_session.proofs.Common.{Silent, BatchStone, Game, Batch, Place, NoBoard, State, empty_board, point_at, new_batch, spoiled}
+use Rattle.brain_session.proofs.Common.{has_stone_at, with_batch_stone, with_stone_at, game_from, Row, Reacts, reading, placed, rule_of}
+use Rattle.brain_session.proofs.Common.{turn_row, done_row, board_in, row_of, brain_step, if_not_reading, IsPlace, IsBrain, StonesFit}
+use Rattle.brain_session.proofs.Common.{begins_none, is_following, is_settled, takes_none, IsBegun, IsPointOn, IsStateOf, Takes}
+use Rattle.brain_session.proofs.Common.{has_no_place_in_batch, is_spoiled}
 use Rattle.foul_judge.specs.Lawful.{refusal}
-use Rattle.strategy_checker.specs.HeldRoots.{HeldTable, IsHeld}
-use Rattle.gomocup_text.specs.declared.Command.{Command}
-use Rattle.gomocup_text.specs.declared.Command.TheVariants.{Done, Turn}
-use Rattle.brain_session.specs.declared.Reaction.{Reaction}
-use Rattle.brain_session.specs.declared.Reaction.TheVariants.{Silent}
-use Rattle.brain_session.specs.declared.batch.BatchStone.{BatchStone}
-use Rattle.brain_session.proofs.Common.{Game, Batch, Place, NoBoard, State, empty_board, point_at, new_batch, spoiled, has_stone_at}
-use Rattle.brain_session.proofs.Common.{with_batch_stone, with_stone_at, game_from, Row, Reacts, reading, placed}
-use Rattle.brain_session.proofs.Common.{rule_of, turn_row, done_row}
-use Rattle.brain_session.proofs.Common.{board_in, row_of, brain_step, if_not_reading, IsPlace, IsBrain, StonesFit, begins_none}
-use Rattle.brain_session.proofs.Common.{is_following, is_settled, takes_none, IsBegun, IsPointOn, IsStateOf, Takes, has_no_place_in_batch}
-use Rattle.brain_session.proofs.Common.{is_spoiled}
 use Rattle.game_rules.proofs.Boards.{and_left, and_right, on_x}
 
 none_from : {X : Type 0} (o : Option X) → IsNone o → o ≡ None

@@ -1,31 +1,23 @@
 -- The lines TURN of points are read as these turns.
-use Rattle.std.proofs.Common.{◌≡◌, ℕ, suc, ◌≤◌, nat_lt, Bool, true, false, ◌&&◌, not, List, [], ◌∷◌, ◌++◌, map}
-use Rattle.std.proofs.Common.{refl, sym, ap, subst, ◌∙◌, arith, append_assoc, eqb-true, nat_eq, lt-ltb, All, codes, rules}
+use Rattle.std.proofs.Common.{◌≡◌, ℕ, suc, ◌≤◌, nat_lt, Bool, true, false, ◌&&◌, not, List, [], ◌∷◌, ◌++◌, map, refl, sym, ap, subst, ◌∙◌}
+use Rattle.std.proofs.Common.{arith, append_assoc, eqb-true, nat_eq, lt-ltb, All, codes, rules}
 use Rattle.std.specs.List.{list_all}
 use Rattle.std.specs.Fmt.{digits}
 use Rattle.std.proofs.lemmas.List.{map-append}
 use Rattle.std.proofs.lemmas.List.Elements.{All-cons, All-nil}
 use Rattle.std.proofs.lemmas.Grind.{flat_map-append}
-use Rattle.game_rules.proofs.Common.{Grid, is_on, points_of, after}
-use Rattle.game_rules.specs.declared.TheConstants.{MAX_SIDE}
-use Rattle.game_rules.specs.declared.Point.{Point}
+use Rattle.brain_session.proofs.Common.{Grid, is_on, points_of, after, MAX_SIDE, Point, lines, whole_lines, command_told, commands}
+use Rattle.brain_session.proofs.Common.{answer_text, Move, Command, Turn, RuleKind, HeldTable, IsHeld, Answer, board_of, empty_board}
+use Rattle.brain_session.proofs.Common.{new_brain, State, answer_texts, answers_from, session_text, state_after, HasNoEnd, AreReplies}
+use Rattle.brain_session.proofs.Common.{turns, turn_line, turn_lines, IsSomeBoards, OwnRepliesAreAnsweredInBytes, RepliesAreAnsweredInBytes}
+use Rattle.brain_session.proofs.Common.{TurnLinesAreRead}
 use Rattle.game_rules.proofs.Boards.{and_left, and_right, on_x, on_y}
 use Rattle.game_rules.proofs.Points.{all_at}
-use Rattle.renju_io.specs.Lines.{is_line_feed, line_of, lines, whole_lines, HasNoLineFeed}
+use Rattle.renju_io.specs.Lines.{is_line_feed, line_of, HasNoLineFeed}
 use Rattle.renju_io.specs.declared.TheConstants.{LINE_FEED}
 use Rattle.renju_io.proofs.LineLaws.{pieces-ended}
 use Rattle.renju_io.proofs.WholeLines.{whole_cut}
-use Rattle.gomocup_text.specs.Commands.{command_told, commands}
-use Rattle.gomocup_text.specs.Answers.{answer_words, answer_text}
-use Rattle.gomocup_text.specs.declared.Answer.TheVariants.{Move}
-use Rattle.gomocup_text.specs.declared.Command.{Command}
-use Rattle.gomocup_text.specs.declared.Command.TheVariants.{Turn}
-use Rattle.game_rules.specs.declared.RuleKind.{RuleKind}
-use Rattle.strategy_checker.specs.HeldRoots.{HeldTable, IsHeld}
-use Rattle.gomocup_text.specs.declared.Answer.{Answer}
-use Rattle.brain_session.proofs.Common.{board_of, empty_board, new_brain, State, answer_texts, answers_from, session_text, state_after}
-use Rattle.brain_session.proofs.Common.{HasNoEnd, AreReplies, turns, turn_line, turn_lines, IsSomeBoards, OwnRepliesAreAnsweredInBytes}
-use Rattle.brain_session.proofs.Common.{RepliesAreAnsweredInBytes, TurnLinesAreRead}
+use Rattle.gomocup_text.specs.Answers.{answer_words}
 use Rattle.brain_session.proofs.SessionLaws.{answers-append}
 use Rattle.brain_session.proofs.LawfulStates.{new-lawful, session-lawful}
 use Rattle.brain_session.proofs.HeldGames.{stands_where}
@@ -79,16 +71,13 @@ line_read q more some =
 
 lines_read : (qs : List Point) → All IsSomeBoards qs → commands (turn_lines qs) ≡ turns qs
 lines_read [] all = refl
-lines_read (q ∷ qs) all =
-    line_read q (turn_lines qs) (all 0 q (omega arith))
+lines_read (q ∷ qs) all = line_read q (turn_lines qs) (all 0 q (omega arith))
     ∙ ap (λ (cs : List Command). Turn q.x q.y ∷ cs) (lines_read qs (λ k d low. all (suc k) d (omega (arith, low))))
 
 pub turn_lines-are_read : TurnLinesAreRead
-turn_lines-are_read front qs whole all =
-    ap (map command_told) (subst (λ (f : List ℕ). lines (f ++ turn_lines qs) ≡ lines f ++ lines (turn_lines qs)) whole
-    ((whole_cut front).splits (turn_lines qs)))
-    ∙ map-append command_told (lines front) (lines (turn_lines qs))
-    ∙ ap (λ (cs : List Command). commands front ++ cs) (lines_read qs all)
+turn_lines-are_read front qs whole all = ap (map command_told)
+    (subst (λ (f : List ℕ). lines (f ++ turn_lines qs) ≡ lines f ++ lines (turn_lines qs)) whole ((whole_cut front).splits (turn_lines qs)))
+    ∙ map-append command_told (lines front) (lines (turn_lines qs)) ∙ ap (λ (cs : List Command). commands front ++ cs) (lines_read qs all)
 
 -- ---- legal replies, as lines
 
@@ -119,14 +108,12 @@ replies-in_bytes held is_held front before c g i qs whole are no_end begins lega
     let kept = session-lawful held (new_brain held) before (new-lawful held) in
     let at = stands_where (state_after (new_brain held) before) c g i (subst IsHeld (sym kept.1) is_held) kept.0 begins in
     let board = at.3.lawful.board in
-    in_bytes held front before c qs _ whole are no_end
-    (legal_somes g.rule (board_of g) _ qs board.width_fits board.height_fits legal)
+    in_bytes held front before c qs _ whole are no_end (legal_somes g.rule (board_of g) _ qs board.width_fits board.height_fits legal)
     (legal-replies-are_answered held is_held before c g i qs begins legal)
 
 pub own-replies-in_bytes : OwnRepliesAreAnsweredInBytes
 own-replies-in_bytes held is_held front before c g m qs whole are no_end begins legal =
     let kept = session-lawful held (new_brain held) before (new-lawful held) in
     let board = (own-position (state_after (new_brain held) before) c g m kept.0 begins).board in
-    in_bytes held front before c qs _ whole are no_end
-    (legal_somes g.rule (board_of g) _ qs board.width_fits board.height_fits legal)
+    in_bytes held front before c qs _ whole are no_end (legal_somes g.rule (board_of g) _ qs board.width_fits board.height_fits legal)
     (own-replies-are_answered held is_held before c g m qs begins legal)

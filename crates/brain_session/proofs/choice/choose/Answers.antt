@@ -1,7 +1,5 @@
 use Rattle.std.proofs.Common.{◌≡◌, true, sym, ap, subst, ◌∙◌, None}
-use Rattle.game_rules.proofs.Common.{is_empty, IsPosition}
-use Rattle.game_rules.specs.declared.Point.{Point}
-use Rattle.brain_session.proofs.Common.{Choice, plain_move, Moves, game_of, board_of}
+use Rattle.brain_session.proofs.Common.{is_empty, IsPosition, Point, Choice, plain_move, Moves, game_of, board_of}
 use Rattle.brain_session.specs.declared.guide.Guide.TheVariants.{HeldNode as HeldGuide, OwnWin as OwnGuide}
 use Rattle.brain_session.proofs.SessionGames.{along-lawful}
 use Rattle.brain_session.proofs.HeldNodes.{first-accepted}
@@ -17,8 +15,7 @@ pub by_following-requires : goal.by_following-requires
 by_following-requires c =
     let g = game_of c.args.played.now c.args.game.now in
     record {
-      in_table = (first-accepted c.args.held.now c.held_node.ensures.held g c.requires.along c.in-Some.node
-          (sym c.in-Some.ensures.node)).0;
+      in_table = (first-accepted c.args.held.now c.held_node.ensures.held g c.requires.along c.in-Some.node (sym c.in-Some.ensures.node)).0;
     }
 
 pub returns-in-Some-clause-chosen : goal.returns-in-Some-clause-chosen
@@ -59,13 +56,11 @@ pub by_following-requires-in-Some-2 : goal.by_following-requires-in-Some-2
 by_following-requires-in-Some-2 c =
     let same = c.board.ensures.board ∙ ap (λ (m : Moves). board_of (game_of m c.args.game.now)) c.held_node.ensures.same in
     let g = game_of c.args.played.now c.args.game.now in
-    let is = found-own g.rule (board_of g) c.board.result.now c.in_ok-own.field-0 c.in-Some-2.own c.in-Some-2.is same
-    c.in_ok-own.ensures.found in
+    let is =
+    found-own g.rule (board_of g) c.board.result.now c.in_ok-own.field-0 c.in-Some-2.own c.in-Some-2.is same c.in_ok-own.ensures.found in
     record {
-      in_table = (
-        (own_table-stands g.rule (board_of g) c.in-Some-2.own is).in_table,
-        own_table-moves g.rule (board_of g) c.in-Some-2.own is,
-      );
+      in_table =
+          ((own_table-stands g.rule (board_of g) c.in-Some-2.own is).in_table, own_table-moves g.rule (board_of g) c.in-Some-2.own is);
     }
 
 pub returns-in-Some-2-clause-chosen : goal.returns-in-Some-2-clause-chosen
@@ -117,8 +112,7 @@ returns-in-None-clause-chosen c =
 pub returns-in-None-clause-empty : goal.returns-in-None-clause-empty
 returns-in-None-clause-empty c =
     let g = game_of c.args.played.now c.args.game.now in
-    let plain = c.plain_move.ensures.plain ∙ ap (λ (m : Moves). plain_move c.args.game.now.kind (board_of (game_of m c.args.game.now)))
-    c.held_node.ensures.same in
-    subst (λ (p : Point). is_empty (board_of g) p ≡ true) (sym plain)
-    (plain-is_empty g.rule (board_of g)
+    let plain = c.plain_move.ensures.plain
+    ∙ ap (λ (m : Moves). plain_move c.args.game.now.kind (board_of (game_of m c.args.game.now))) c.held_node.ensures.same in
+    subst (λ (p : Point). is_empty (board_of g) p ≡ true) (sym plain) (plain-is_empty g.rule (board_of g)
     (along-lawful c.args.game.now.kind c.args.played.now.start c.args.played.now.moves c.requires.along))

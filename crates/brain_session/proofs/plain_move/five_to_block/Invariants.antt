@@ -1,6 +1,5 @@
 use Rattle.std.proofs.Common.{◌≡◌, ◌&&◌, not, find}
-use Rattle.game_rules.proofs.Common.{five, outcome, is_foul}
-use Rattle.brain_session.proofs.Common.{five_to_block}
+use Rattle.brain_session.proofs.Common.{five, outcome, is_foul, five_to_block}
 use Rattle.brain_session.proofs.plain_move.five_to_block.Given as goal
 
 -- the board is as before; the first of those left is the first of all

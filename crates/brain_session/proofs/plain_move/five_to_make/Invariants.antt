@@ -1,6 +1,5 @@
 use Rattle.std.proofs.Common.{◌≡◌, find}
-use Rattle.game_rules.proofs.Common.{five}
-use Rattle.brain_session.proofs.Common.{five_to_make}
+use Rattle.brain_session.proofs.Common.{five, five_to_make}
 use Rattle.brain_session.proofs.plain_move.five_to_make.Given as goal
 
 -- the first five point of those left is the first of all

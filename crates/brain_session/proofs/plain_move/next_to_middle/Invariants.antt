@@ -1,6 +1,5 @@
 use Rattle.std.proofs.Common.{◌≡◌, ◌&&◌, not, filter}
-use Rattle.game_rules.proofs.Common.{is_empty, outcome, is_foul}
-use Rattle.brain_session.proofs.Common.{next_to_middle, off_middle}
+use Rattle.brain_session.proofs.Common.{is_empty, outcome, is_foul, next_to_middle, off_middle}
 use Rattle.brain_session.proofs.PlainMoves.{nearest_of}
 use Rattle.brain_session.proofs.plain_move.next_to_middle.Given as goal
 

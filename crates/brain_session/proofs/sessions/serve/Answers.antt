@@ -1,15 +1,12 @@
-use Rattle.std.proofs.Common.{◌≡◌, ◌∙◌, true, false, sym, ap, subst, refl, arith, inl, inr, Option, Some, None, Result, Ok, Err}
-use Rattle.std.proofs.Common.{◌++◌, IsErrOf, is_some, option_to_list, rules}
+use Rattle.std.proofs.Common.{◌≡◌, ◌∙◌, true, false, sym, ap, subst, refl, arith, inl, inr, Option, Some, None, Result, Ok, Err, ◌++◌}
+use Rattle.std.proofs.Common.{IsErrOf, is_some, option_to_list, rules}
 use Rattle.std.specs.Result.{IsErrAnd}
-use Rattle.renju_io.specs.Asked.{IsAskedWithin}
-use Rattle.renju_io.specs.Lines.{ReaderState, reads_for}
+use Rattle.brain_session.proofs.Common.{IsAskedWithin, ReaderState, reads_for, Command, TakesCommands, IsAnswered, output_of, served}
 use Rattle.renju_io.proofs.AskedCalls.{none_within, within_then}
 use Rattle.renju_io.proofs.GivenBytes.{Gives-some, Gives-then}
 use Rattle.renju_io.proofs.TakenText.{Takes-then}
-use Rattle.gomocup_text.specs.declared.Command.{Command}
 use Rattle.brain_session.specs.declared.sessions.ServeError.{ServeError}
 use Rattle.brain_session.specs.declared.sessions.ServeError.TheVariants.{ReadFailed, WriteFailed, Exhausted, Memory}
-use Rattle.brain_session.proofs.Common.{TakesCommands, IsAnswered, output_of, served}
 use Rattle.brain_session.proofs.Serving.{Asked, EndsAt, PastLimit, SoFar-begun, Asked-told, AskedInTurn-told, InTurn-answered}
 use Rattle.brain_session.proofs.Serving.{HasAnswered-end, IsReadToEnd-end, StopsAtWrite-asked, StopsInTurn-asked, StopsAtStep-asked}
 use Rattle.brain_session.proofs.Serving.{EndsAt-told, StopsAtRead-open, PastLimit-taken, GivesSome-past, by_each_told, by_each_open}
@@ -37,8 +34,7 @@ loop-lines-init g c = record {
   source_stayed = refl;
   sink_stayed = refl;
   reads = subst (λ (reader : ReaderState). IsAskedWithin 0 (reads_for reader) (g.S.Source.asked c.args.source.now)
-      (g.S.Source.asked c.args.source.now))
-      (sym c.in-Ok.ensures.fresh) (none_within 0 (g.S.Source.asked c.args.source.now));
+      (g.S.Source.asked c.args.source.now)) (sym c.in-Ok.ensures.fresh) (none_within 0 (g.S.Source.asked c.args.source.now));
 }
 
 -- a read failed, or the input is too long
@@ -56,10 +52,8 @@ returns-in_err-command-clause-read_last g c = λ failed.
     let last = c.in_err-command.ensures.failed (ap (λ x. Err x) is) in
     record {
       before = last.before;
-      gave = record {
-        given = read.given ++ last.gave.given;
-        gives = Gives-then _ _ _ read.given last.gave.given read.gives last.gave.gives;
-      };
+      gave =
+          record { given = read.given ++ last.gave.given; gives = Gives-then _ _ _ read.given last.gave.given read.gives last.gave.gives };
       uncounted = last.uncounted ∙ c.loop-lines.invariant.source_stayed;
       kept = last.kept;
       risen = last.risen;
@@ -69,8 +63,7 @@ too_long : (g : Over) (c : goal.After-drop-lines-inside-in_err-command-2 g) → 
     PastLimit (g.S.Source.left c.args.source.now)
     (served c.args.brain.now c.loop-lines.brain (output_of g.O.Sink.written g.O.Sink.asked c.args.sink.now)
     (output_of g.O.Sink.written g.O.Sink.asked c.loop-lines.sink))
-too_long g c is =
-    PastLimit-taken _ _ c.next_command.new.lines _ c.loop-lines.invariant.so_far
+too_long g c is = PastLimit-taken _ _ c.next_command.new.lines _ c.loop-lines.invariant.so_far
     (λ e. not_error None c.in_err-command.field-0.0 (c.in_err-command.ensures.asks_no_more e).0)
     (c.in_err-command.ensures.past (ap (λ x. Err x) is))
 
@@ -112,37 +105,32 @@ returns-in_err-command-clause-taken g c =
     ]
 
 -- one more line was read, and its answer was not written, or there was no memory for its step
-asked : (g : Over) (c : goal.After-drop-lines-inside-in_err-answer-3 g) →
-    Asked (record {
-      left_before = g.S.Source.left c.args.source.now;
-      reader = c.next_command.new.lines;
-      left = g.S.Source.left c.next_command.new.source;
-    })
-    (served c.args.brain.now c.loop-lines.brain (output_of g.O.Sink.written g.O.Sink.asked c.args.sink.now)
+asked : (g : Over) (c : goal.After-drop-lines-inside-in_err-answer-3 g) → Asked (record {
+  left_before = g.S.Source.left c.args.source.now;
+  reader = c.next_command.new.lines;
+  left = g.S.Source.left c.next_command.new.source;
+}) (served c.args.brain.now c.loop-lines.brain (output_of g.O.Sink.written g.O.Sink.asked c.args.sink.now)
     (output_of g.O.Sink.written g.O.Sink.asked c.loop-lines.sink)) c.in-Some.command
-asked g c =
-    Asked-told _ _ c.in_ok-command.field-0 c.in-Some.command c.next_command.new.lines _ c.loop-lines.invariant.so_far c.in-Some.is
+asked g c = Asked-told _ _ c.in_ok-command.field-0 c.in-Some.command c.next_command.new.lines _ c.loop-lines.invariant.so_far c.in-Some.is
     (λ e. ok_is c.in_ok-command.field-0 None (c.in_ok-command.ensures.asks_no_more e).0) c.in_ok-command.ensures.told
     c.in_ok-command.ensures.limit c.in_ok-command.ensures.knows_end
 
 pub returns-in_err-answer-clause-write_failed : goal.returns-in_err-answer-clause-write_failed
 returns-in_err-answer-clause-write_failed g c = λ failed.
-    let is = same_error c.from_residual-in_err-answer.result c.in_err-answer.field-0.0 WriteFailed c.from_residual-in_err-answer.ensures.1
-    failed in
-    StopsAtWrite-asked _ _ c.in-Some.command c.answer.new.brain _ (asked g c)
-    (c.in_err-answer.ensures.write_failed (ap (λ x. Err x) is))
+    let is =
+    same_error c.from_residual-in_err-answer.result c.in_err-answer.field-0.0 WriteFailed c.from_residual-in_err-answer.ensures.1 failed in
+    StopsAtWrite-asked _ _ c.in-Some.command c.answer.new.brain _ (asked g c) (c.in_err-answer.ensures.write_failed (ap (λ x. Err x) is))
 
 -- no read was made once the line had ended
 pub returns-in_err-answer-clause-in_turn : goal.returns-in_err-answer-clause-in_turn
 returns-in_err-answer-clause-in_turn g c = λ failed.
-    let is = same_error c.from_residual-in_err-answer.result c.in_err-answer.field-0.0 WriteFailed c.from_residual-in_err-answer.ensures.1
-    failed in
+    let is =
+    same_error c.from_residual-in_err-answer.result c.in_err-answer.field-0.0 WriteFailed c.from_residual-in_err-answer.ensures.1 failed in
     StopsInTurn-asked _ _ c.in-Some.command c.answer.new.brain _ _
     (AskedInTurn-told _ _ c.in_ok-command.field-0 c.in-Some.command c.next_command.new.lines _ _ _ c.loop-lines.invariant.so_far
     c.in-Some.is (λ e. ok_is c.in_ok-command.field-0 None (c.in_ok-command.ensures.asks_no_more e).0) c.in_ok-command.ensures.told
     c.in_ok-command.ensures.limit c.in_ok-command.ensures.knows_end c.loop-lines.invariant.turn c.in_ok-command.ensures.no_further
-    (c.in_ok-command.ensures.advances (ap is_some c.in-Some.is)))
-    (c.in_err-answer.ensures.write_failed (ap (λ x. Err x) is))
+    (c.in_ok-command.ensures.advances (ap is_some c.in-Some.is))) (c.in_err-answer.ensures.write_failed (ap (λ x. Err x) is))
 
 pub returns-in_err-answer-clause-written_last : goal.returns-in_err-answer-clause-written_last
 returns-in_err-answer-clause-written_last g c = λ failed.
@@ -175,13 +163,11 @@ returns-in_err-answer-clause-by_each g c =
     by_each_told _ _ (asked g c).read _ _ (within_then _ _ _ _ _ _ c.loop-lines.invariant.reads c.in_ok-command.ensures.few_reads)
 
 -- END was read
-asked_end : (g : Over) (c : goal.After-drop-lines-inside-then-not-branch-3 g) →
-    Asked (record {
-      left_before = g.S.Source.left c.args.source.now;
-      reader = c.next_command.new.lines;
-      left = g.S.Source.left c.next_command.new.source;
-    })
-    (served c.args.brain.now c.loop-lines.brain (output_of g.O.Sink.written g.O.Sink.asked c.args.sink.now)
+asked_end : (g : Over) (c : goal.After-drop-lines-inside-then-not-branch-3 g) → Asked (record {
+  left_before = g.S.Source.left c.args.source.now;
+  reader = c.next_command.new.lines;
+  left = g.S.Source.left c.next_command.new.source;
+}) (served c.args.brain.now c.loop-lines.brain (output_of g.O.Sink.written g.O.Sink.asked c.args.sink.now)
     (output_of g.O.Sink.written g.O.Sink.asked c.loop-lines.sink)) c.in-Some.command
 asked_end g c =
     Asked-told _ _ c.in_ok-command.field-0 c.in-Some.command c.next_command.new.lines _ c.loop-lines.invariant.so_far c.in-Some.is
@@ -214,8 +200,7 @@ returns-then-not-branch-clause-by_each g c =
 pub loop-lines-preserved : goal.loop-lines-preserved
 loop-lines-preserved g c =
     let goes_on : c.in_ok-answer.field-0 ≡ true = grind (arith, c.if-not-branch.false) in
-    let now =
-    AskedInTurn-told _ _ c.in_ok-command.field-0 c.in-Some.command c.next_command.new.lines _ _ _ c.loop-lines.invariant.so_far
+    let now = AskedInTurn-told _ _ c.in_ok-command.field-0 c.in-Some.command c.next_command.new.lines _ _ _ c.loop-lines.invariant.so_far
     c.in-Some.is (λ e. ok_is c.in_ok-command.field-0 None (c.in_ok-command.ensures.asks_no_more e).0) c.in_ok-command.ensures.told
     c.in_ok-command.ensures.limit c.in_ok-command.ensures.knows_end c.loop-lines.invariant.turn c.in_ok-command.ensures.no_further
     (c.in_ok-command.ensures.advances (ap is_some c.in-Some.is)) in
@@ -232,13 +217,11 @@ loop-lines-preserved g c =
     }
 
 -- the input has ended
-ends : (g : Over) (c : goal.After-drop-lines-inside-4 g) →
-    EndsAt (record {
-      left_before = g.S.Source.left c.args.source.now;
-      reader = c.next_command.new.lines;
-      left = g.S.Source.left c.next_command.new.source;
-    })
-    (served c.args.brain.now c.loop-lines.brain (output_of g.O.Sink.written g.O.Sink.asked c.args.sink.now)
+ends : (g : Over) (c : goal.After-drop-lines-inside-4 g) → EndsAt (record {
+  left_before = g.S.Source.left c.args.source.now;
+  reader = c.next_command.new.lines;
+  left = g.S.Source.left c.next_command.new.source;
+}) (served c.args.brain.now c.loop-lines.brain (output_of g.O.Sink.written g.O.Sink.asked c.args.sink.now)
     (output_of g.O.Sink.written g.O.Sink.asked c.loop-lines.sink))
 ends g c =
     let none = none_is c.in_ok-command.field-0 c.in_default-2.not-Some in
@@ -258,5 +241,4 @@ pub returns-clause-taken : goal.returns-clause-taken
 returns-clause-taken g c = Gives-some _ _ (ends g c).read.given (ends g c).read.gives
 
 pub returns-clause-by_each : goal.returns-clause-by_each
-returns-clause-by_each g c =
-    (ends g c).by_each _ _ (within_then _ _ _ _ _ _ c.loop-lines.invariant.reads c.in_ok-command.ensures.few_reads)
+returns-clause-by_each g c = (ends g c).by_each _ _ (within_then _ _ _ _ _ _ c.loop-lines.invariant.reads c.in_ok-command.ensures.few_reads)

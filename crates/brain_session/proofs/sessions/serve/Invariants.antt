@@ -1,9 +1,6 @@
 use Rattle.std.proofs.Common.{length, ◌+◌, ◌-◌}
-use Rattle.renju_io.specs.Asked.{IsAskedWithin}
+use Rattle.brain_session.proofs.Common.{IsAskedWithin, reads_for, output_of, served, MAX_SESSION_BYTES}
 use Rattle.renju_io.specs.Faults.{HasStayed}
-use Rattle.renju_io.specs.Lines.{reads_for}
-use Rattle.brain_session.specs.Serving.{output_of, served}
-use Rattle.renju_io.specs.declared.TheConstants.{MAX_SESSION_BYTES}
 use Rattle.gomocup_text.proofs.AskedLines.{asked}
 use Rattle.brain_session.proofs.Serving.{ReadsInTurn, SoFar}
 use Rattle.brain_session.proofs.sessions.serve.Given as goal

@@ -1,6 +1,5 @@
 use Rattle.std.proofs.Common.{inl, inr, refl, ap, sym}
-use Rattle.brain_session.specs.declared.Reaction.{Reaction}
-use Rattle.brain_session.specs.Steps.{row_of}
+use Rattle.brain_session.proofs.Common.{Reaction, row_of}
 use Rattle.brain_session.proofs.Takings.{at-command, said-at, if-unread, said-unread, unread-at, done-free, turn-free}
 use Rattle.brain_session.proofs.brain.Brain.take.Goals as goal
 
@@ -70,10 +69,8 @@ returns-in-Unknown-clause-row c = said-at c.args.self.now c.args.self.now c.args
     (unread-at c.args.self.now c.args.command.now _ c.in-Unknown.is refl c.requires.unspoiled) refl)
 
 pub returns-in-Turn-clause-no_memory : goal.returns-in-Turn-clause-no_memory
-returns-in-Turn-clause-no_memory c =
-    turn-free c.turn.result c.args.self.now c.args.command.now c.in-Turn.x c.in-Turn.y c.in-Turn.is
-    (unread-at c.args.self.now c.args.command.now _ c.in-Turn.is refl c.requires.unspoiled) c.turn.ensures.following
-    c.turn.ensures.settled
+returns-in-Turn-clause-no_memory c = turn-free c.turn.result c.args.self.now c.args.command.now c.in-Turn.x c.in-Turn.y c.in-Turn.is
+    (unread-at c.args.self.now c.args.command.now _ c.in-Turn.is refl c.requires.unspoiled) c.turn.ensures.following c.turn.ensures.settled
 
 pub returns-in-Done-clause-no_memory : goal.returns-in-Done-clause-no_memory
 returns-in-Done-clause-no_memory c = done-free c.done.result c.args.self.now c.args.command.now c.in-Done.is c.done.ensures.begins_none
@@ -84,14 +81,12 @@ pub returns-in-Info-clause-row : goal.returns-in-Info-clause-row
 unfolding row_of
 returns-in-Info-clause-row c = elim c.in-Info.is [
   | inl info ↦ said-at c.args.self.now c.args.self.now c.args.command.now _ _ info refl
-  | inr blank ↦
-      said-at c.args.self.now c.args.self.now c.args.command.now _ _ blank refl
+  | inr blank ↦ said-at c.args.self.now c.args.self.now c.args.command.now _ _ blank refl
 ]
 
 pub returns-in-Malformed-clause-row : goal.returns-in-Malformed-clause-row
 unfolding row_of
 returns-in-Malformed-clause-row c =
-    said-at c.args.self.now c.args.self.now c.args.command.now _ _ c.in-Malformed.is
-    (said-unread c.args.self.now c.args.self.now _ _
+    said-at c.args.self.now c.args.self.now c.args.command.now _ _ c.in-Malformed.is (said-unread c.args.self.now c.args.self.now _ _
     (unread-at c.args.self.now c.args.command.now _ c.in-Malformed.is refl c.requires.unspoiled)
     (ap (λ (r : Reaction). record { reaction = r; next = c.args.self.now }) (sym c.error.ensures.says)))

@@ -4,6 +4,5 @@ use Rattle.brain_session.proofs.game.SessionGame.end.Goals as goal
 
 pub play-requires : goal.play-requires
 play-requires c = record {
-  empty = ends-empty c.args.self.now.kind (board_after c.args.played.now.start c.args.played.now.moves) c.args.p
-      c.requires.ends;
+  empty = ends-empty c.args.self.now.kind (board_after c.args.played.now.start c.args.played.now.moves) c.args.p c.requires.ends;
 }

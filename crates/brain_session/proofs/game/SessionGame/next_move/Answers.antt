@@ -1,6 +1,5 @@
 use Rattle.std.proofs.Common.{ap, sym, subst, ◌∙◌}
-use Rattle.brain_session.specs.declared.game.SessionGame.{SessionGame}
-use Rattle.brain_session.proofs.Common.{GoesOnAlong, chosen_anew, game_of}
+use Rattle.brain_session.proofs.Common.{SessionGame, GoesOnAlong, chosen_anew, game_of}
 use Rattle.brain_session.proofs.SessionGames.{chosen-anew, chosen-followed}
 use Rattle.brain_session.proofs.game.SessionGame.next_move.Goals as goal
 
@@ -18,5 +17,4 @@ returns-clause-chosen c =
     let m = c.args.played.now in
     let k = c.args.self.now in
     chosen-anew h (game_of m k) c.in_default.ensures.none.0
-    ∙ ap (λ (x : SessionGame). chosen_anew h (game_of m x)) (sym c.in_default.ensures.none.1)
-    ∙ sym c.in_ok-found.ensures.chosen
+    ∙ ap (λ (x : SessionGame). chosen_anew h (game_of m x)) (sym c.in_default.ensures.none.1) ∙ sym c.in_ok-found.ensures.chosen

@@ -1,9 +1,6 @@
 use Rattle.std.proofs.Common.{◌≡◌, List, sym, subst, Some, slice_get}
 use Rattle.strategy_graph.specs.Lent.{lent_node}
-use Rattle.strategy_graph.specs.declared.Node.{Node}
-use Rattle.strategy_graph.proofs.Common.{IsTable}
-use Rattle.brain_session.specs.declared.guide.Guide.{Guide}
-use Rattle.brain_session.proofs.Common.{nodes_of}
+use Rattle.brain_session.proofs.Common.{Node, IsTable, Guide, nodes_of}
 use Rattle.brain_session.proofs.Guiding.{held-moves, own-moves}
 use Rattle.brain_session.proofs.guide.Guide.attack.Goals as goal
 
@@ -20,8 +17,7 @@ returns-in-HeldNode c =
 
 pub returns-in-OwnWin : goal.returns-in-OwnWin
 returns-in-OwnWin c = record {
-  attack = λ rule b stands. own-moves c.args.held.now rule b c.args.self.now c.in-OwnWin.own (lent_node c.node-in-OwnWin.result)
-      c.in-OwnWin.is
-      c.node-in-OwnWin.ensures.node stands;
+  attack = λ rule b stands. own-moves c.args.held.now rule b c.args.self.now c.in-OwnWin.own
+      (lent_node c.node-in-OwnWin.result) c.in-OwnWin.is c.node-in-OwnWin.ensures.node stands;
   table = subst (λ (g : Guide). IsTable (nodes_of c.args.held.now g)) (sym c.in-OwnWin.is) c.node-in-OwnWin.ensures.table;
 }

@@ -28,6 +28,5 @@ returns-clause-same c =
     ap (λ (m : Moves). last_move m.moves) c.self.view_is ∙ sym c.in-Some.ensures.last in
     let kept = kept-as c.self.inside.start c.self.inside.board moves _ _ _ (last-cons moves c.in-Some.last is_last) c.self.invariant in
     let lifted = kept-lift c.self.inside.start c.self.inside.board (without_last moves) _ _ c.in-Some.last kept in
-    same_board-told c.args.board.now c.lift.new.self c.same-same.result c.same-same.ensures.same
-    ∙ ap (same_board c.args.board.now)
+    same_board-told c.args.board.now c.lift.new.self c.same-same.result c.same-same.ensures.same ∙ ap (same_board c.args.board.now)
     (c.lift.ensures.lift ∙ lifted ∙ ap (λ (m : Moves). board_after m.start (without_last m.moves)) c.self.view_is)

@@ -1,9 +1,6 @@
 use Rattle.std.proofs.Common.{◌≡◌, ap, sym, subst, ◌∙◌, Some, Option}
-use Rattle.game_rules.proofs.Common.{is_on, outcome}
-use Rattle.game_rules.specs.declared.RuleKind.{RuleKind}
-use Rattle.game_rules.specs.declared.Side.TheVariants.{White}
-use Rattle.brain_session.proofs.Common.{Game, Place, InGame, board_of, board_in, move_row, placed, turn_row, is_game, in_place, IsRow}
-use Rattle.brain_session.proofs.Common.{IsStateOf, Takes, game_of, place_of}
+use Rattle.brain_session.proofs.Common.{is_on, outcome, RuleKind, White, Game, Place, InGame, board_of, board_in, move_row, placed}
+use Rattle.brain_session.proofs.Common.{turn_row, is_game, in_place, IsRow, IsStateOf, Takes, game_of, place_of}
 use Rattle.brain_session.proofs.SessionBoards.{new-game, no-game, session_board-kept, first-taken}
 use Rattle.brain_session.proofs.session_board.SessionBoard.begin_by_turn.Goals as goal
 
@@ -21,11 +18,9 @@ returns-clause-row c = λ s state.
     let taken = subst (λ (g : Game). IsRow h (move_row (in_place h (InGame g)) g c.args.p (outcome g.rule (board_of g) c.args.p)) r
     (InGame next)) (new-game m c.new-game.result k White none.1 c.new-game.ensures.begun) c.in_ok-reaction.ensures.taken in
     let at : IsStateOf h c.args.self.now (Some k) s = subst (λ (u : Option RuleKind). IsStateOf h c.args.self.now u s) c.in-Some.is state in
-    subst (λ (w : Place). Takes (turn_row s w c.args.p) s r (placed s (InGame next))) (sym fresh)
-    (first-taken h m.start.width m.start.height k s c.args.p r next
-    (subst (λ (w : Place). IsStateOf h w (Some k) s) fresh at)
-    (ap (λ (w : Place). is_on (board_in w) c.args.p) (sym fresh) ∙ c.requires.on)
-    taken)
+    subst (λ (w : Place). Takes (turn_row s w c.args.p) s r (placed s (InGame next)))
+    (sym fresh) (first-taken h m.start.width m.start.height k s c.args.p r next (subst (λ (w : Place). IsStateOf h w (Some k) s) fresh at)
+    (ap (λ (w : Place). is_on (board_in w) c.args.p) (sym fresh) ∙ c.requires.on) taken)
 
 pub invariant_of-self-2 : goal.invariant_of-self-2
 invariant_of-self-2 c = session_board-kept c.args.held.now c.take_reply.new.played c.take_reply.new.self c.in_ok-reaction.ensures.running

@@ -1,7 +1,6 @@
 use Rattle.std.proofs.Common.{◌≡◌, subst, None}
 use Rattle.gomocup_text.specs.declared.Answer.TheVariants.{Ok as SaysOk}
-use Rattle.brain_session.specs.declared.Reaction.TheVariants.{Says}
-use Rattle.brain_session.proofs.Common.{Place, placed, restart_row, Takes, place_of}
+use Rattle.brain_session.proofs.Common.{Says, Place, placed, restart_row, Takes, place_of}
 use Rattle.brain_session.proofs.SessionBoards.{cleared-untouched, cleared-place, restart-takes}
 use Rattle.brain_session.proofs.session_board.SessionBoard.clear.Goals as goal
 

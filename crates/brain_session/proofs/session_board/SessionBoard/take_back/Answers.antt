@@ -1,9 +1,6 @@
 use Rattle.std.proofs.Common.{◌≡◌, false, ap, sym, subst, ◌∙◌, Option}
-use Rattle.game_rules.specs.declared.Point.{Point}
-use Rattle.gomocup_text.specs.declared.Answer.TheVariants.{Error}
-use Rattle.gomocup_text.specs.declared.ErrorText.TheVariants.{BadMove}
-use Rattle.brain_session.specs.declared.Reaction.TheVariants.{Says}
-use Rattle.brain_session.proofs.Common.{Place, last_move, board_in, placed, takeback_row, IsPlace, IsPointOn, Takes, are_one, place_of}
+use Rattle.brain_session.proofs.Common.{Point, Error, BadMove, Says, Place, last_move, board_in, placed, takeback_row, IsPlace, IsPointOn}
+use Rattle.brain_session.proofs.Common.{Takes, are_one, place_of}
 use Rattle.brain_session.proofs.SessionBoards.{takeback-bad}
 use Rattle.brain_session.proofs.session_board.SessionBoard.take_back.Goals as goal
 
