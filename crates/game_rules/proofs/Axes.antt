@@ -1,10 +1,8 @@
 -- Tests of the four axes.
-use Rattle.std.proofs.Common.{◌≡◌, Bool, true, false, ◌≤◌, ◌≢◌, ◌⊎◌, rules}
+use Rattle.std.proofs.Common.{◌≡◌, Bool, true, false, ◌≤◌, ◌⊎◌, rules}
 use Rattle.std.specs.List.{list_any, count_by}
 use Rattle.std.proofs.lemmas.Bool.{or_left, or_right, or_cases, or_parts}
-use Rattle.game_rules.proofs.Common.{axes, opposite}
-use Rattle.game_rules.specs.declared.Axis.{Axis}
-use Rattle.game_rules.specs.declared.Way.{Way}
+use Rattle.game_rules.proofs.Common.{axes, opposite, Axis, Way}
 use Rattle.game_rules.proofs.Tests.{more_pass}
 
 -- a test that holds on an axis holds on one of the four

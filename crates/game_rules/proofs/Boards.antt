@@ -1,19 +1,14 @@
 -- Stones that are put and lifted.
-use Rattle.std.proofs.Common.{rules, ◌≡◌, ◌≢◌, ◌⊎◌, ℕ, zero, suc, ◌+◌, ◌-◌, ◌*◌, ◌≤◌, ◌<◌, Bool}
-use Rattle.std.proofs.Common.{true, false, cond, ◌&&◌, refl, sym, ap, arith, List, [], ◌∷◌, set, get_or, length, nat_lt, nat_le}
-use Rattle.std.proofs.Common.{nat_eq, get_or-set_other, get_or-set_same, ◌∙◌, Option, Some, None, ltb-true, leb-true}
+use Rattle.std.proofs.Common.{rules, ◌≡◌, ◌≢◌, ◌⊎◌, ℕ, zero, suc, ◌+◌, ◌-◌, ◌*◌, ◌≤◌, ◌<◌, Bool, true, false, cond, ◌&&◌, refl, sym, ap}
+use Rattle.std.proofs.Common.{arith, List, [], ◌∷◌, set, get_or, length, nat_lt, nat_le, nat_eq, get_or-set_other, get_or-set_same, ◌∙◌}
+use Rattle.std.proofs.Common.{Option, Some, None, ltb-true, leb-true}
 use Rattle.std.specs.List.{prefix_len, range_with_len}
 use Rattle.std.proofs.lemmas.Nat.{same_from_place, mul-le}
 use Rattle.std.proofs.lemmas.List.Sums.{sum_by-set}
 use Rattle.std.proofs.lemmas.Grind.{rows}
 use Rattle.game_rules.proofs.Common.{Grid, IsBoard, is_on, is_empty, is_empty_cell, is_stone_of, stone_of, holds, cell_at, place_of, put}
-use Rattle.game_rules.proofs.Common.{lift, empties_of, along, shift, point_of, stone_at, stones_ahead, stones_behind, run_of, other}
-use Rattle.game_rules.specs.declared.Side.{Side}
-use Rattle.game_rules.specs.declared.Cell.{Cell}
-use Rattle.game_rules.specs.declared.Axis.{Axis}
-use Rattle.game_rules.specs.declared.Point.{Point}
-use Rattle.game_rules.specs.declared.Cell.TheVariants.{Empty}
-use Rattle.game_rules.specs.declared.Axis.TheVariants.{Row, Column, Down, Up}
+use Rattle.game_rules.proofs.Common.{lift, empties_of, along, shift, point_of, stone_at, stones_ahead, stones_behind, run_of, other, Side}
+use Rattle.game_rules.proofs.Common.{Cell, Axis, Point, Empty, Row, Column, Down, Up}
 use Rattle.std.proofs.lemmas.List.{set_comm}
 
 set_back : (l : List Cell) (i : ℕ) (y : Cell) → get_or l i Empty ≡ Empty → set (set l i y) i Empty ≡ l
@@ -200,6 +195,5 @@ places_apart b p q onp onq d e =
 -- two stones on different points may be put in either order
 pub put_comm : (b : Grid) (s t : Side) (p q : Point) → is_on b p ≡ true → is_on b q ≡ true → Apart p q
     → put (put b s p) t q ≡ put (put b t q) s p
-put_comm b s t p q onp onq d =
-    ap (λ (l : List Cell). let r : Grid = record b { cells = l } in r)
+put_comm b s t p q onp onq d = ap (λ (l : List Cell). let r : Grid = record b { cells = l } in r)
     (set_comm b.cells (place_of b p) (place_of b q) (stone_of s) (stone_of t) (places_apart b p q onp onq d))

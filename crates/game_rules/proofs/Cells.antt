@@ -1,21 +1,16 @@
 -- Cells and the stones in them, one by one and counted.
-use Rattle.std.proofs.Common.{ℕ, Bool, cond, ◌≡◌, ◌+◌, List, ◌∷◌, length, arith, [], refl, ◌*◌, ◌∙◌, ap, true, not, false, ◌&&◌, map}
-use Rattle.std.proofs.Common.{◌⊎◌, zero, suc, ◌<◌, get_or, replicate, rules}
-use Rattle.std.specs.List.{count_by, list_any}
+use Rattle.std.proofs.Common.{ℕ, Bool, cond, ◌≡◌, ◌+◌, List, ◌∷◌, length, arith, [], refl, ◌*◌, ◌∙◌, ap, true, not, false, ◌&&◌, map, ◌⊎◌}
+use Rattle.std.proofs.Common.{zero, suc, ◌<◌, get_or, replicate, rules, count_by, if◌then◌else◌, slice_index_or}
+use Rattle.std.specs.List.{list_any}
 use Rattle.std.specs.Bool.{Decides}
 use Rattle.std.specs.Cmp.Lexicographic.{pointwise}
-use Rattle.std.specs.Prelude.{if◌then◌else◌, slice_index_or}
 use Rattle.std.proofs.lemmas.List.Sums.{sum_by-cons}
 use Rattle.std.proofs.lemmas.Slice.Eq.{slice_eq-Decides}
 use Rattle.std.proofs.lemmas.List.{length-map}
 use Rattle.std.proofs.lemmas.Bool.{or_cases}
 use Rattle.game_rules.proofs.Common.{is_empty_cell, is_stone_of, Grid, IsBoard, stones_of, empties_of, stone_of, is_on, cell_at, is_empty}
-use Rattle.game_rules.proofs.Common.{other, is_same_point}
-use Rattle.game_rules.specs.declared.Cell.{Cell}
-use Rattle.game_rules.specs.declared.Side.{Side}
-use Rattle.game_rules.specs.declared.Point.{Point}
-use Rattle.game_rules.specs.declared.Side.TheVariants.{Black, White}
-use Rattle.game_rules.specs.declared.Cell.TheVariants.{Empty, Black as BlackStone, White as WhiteStone}
+use Rattle.game_rules.proofs.Common.{other, is_same_point, Cell, Side, Point, Black, White, Empty}
+use Rattle.game_rules.specs.declared.Cell.TheVariants.{Black as BlackStone, White as WhiteStone}
 use Rattle.game_rules.specs.contracts.CellPartialEq.TheImpl.{eq-value}
 use Rattle.game_rules.proofs.Boards.{and_right, is_empty-cell}
 use Rattle.game_rules.proofs.Points.{is_same_point-same}

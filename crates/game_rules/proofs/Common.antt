@@ -1,15 +1,8 @@
 -- The words of the rules, all in one place for the files of laws, and those that the laws alone need.
 use Rattle.std.specs.Prelude.{ℕ, ◌≡◌, ◌⊎◌, ◌+◌, Bool, not, if◌then◌else◌, Option, Some, None}
 use Rattle.std.specs.Option.{option_map_or}
-use Rattle.game_rules.specs.declared.RuleKind.{RuleKind}
-use Rattle.game_rules.specs.declared.Axis.{Axis}
-use Rattle.game_rules.specs.declared.Point.{Point}
-use Rattle.game_rules.specs.declared.Side.{Side}
-use Rattle.game_rules.specs.declared.Side.TheVariants.{Black, White}
-use Rattle.game_rules.specs.declared.Foul.{Foul}
 use Rattle.game_rules.specs.declared.Foul.TheVariants.{Overline, DoubleFour, DoubleThree}
-use Rattle.game_rules.specs.declared.Outcome.{Outcome}
-use Rattle.game_rules.specs.declared.Outcome.TheVariants.{Refused, Wins, Fouls, Draws, GoesOn}
+use Rattle.game_rules.specs.declared.Outcome.TheVariants.{Fouls, Draws}
 pub use Rattle.game_rules.specs.Fours.{count_fours}
 pub use Rattle.game_rules.specs.Games.{LosesOr, WinsAfter, WinsByFours, WinsByThreats, WinsOr, WinsUnder, WinsWithin, behind_replies}
 pub use Rattle.game_rules.specs.Games.{five_points, has_five, has_threat, if_goes_on, loses_or, starts_win, wins_by_fours, wins_or}
@@ -25,11 +18,23 @@ pub use Rattle.game_rules.specs.Shapes.{five, is_at, is_in_run, is_line_three_at
 pub use Rattle.game_rules.specs.Shapes.{stones_behind, wins_at, wins_on}
 unfoldable pub use Rattle.game_rules.specs.Shapes.{fours_of, gives_straight, is_line_three_point, is_straight, is_three_point}
 pub use Rattle.game_rules.specs.Ways.{go, opposite, run_end, stones_towards, towards}
+pub use Rattle.game_rules.specs.declared.Axis.{Axis}
+pub use Rattle.game_rules.specs.declared.Axis.TheVariants.{Column, Down, Row, Up}
+pub use Rattle.game_rules.specs.declared.Cell.{Cell}
+pub use Rattle.game_rules.specs.declared.Cell.TheVariants.{Empty}
+pub use Rattle.game_rules.specs.declared.Foul.{Foul}
+pub use Rattle.game_rules.specs.declared.Outcome.{Outcome}
+pub use Rattle.game_rules.specs.declared.Outcome.TheVariants.{GoesOn, Refused, Wins}
+pub use Rattle.game_rules.specs.declared.Point.{Point}
+pub use Rattle.game_rules.specs.declared.RuleKind.{RuleKind}
+pub use Rattle.game_rules.specs.declared.Side.{Side}
+pub use Rattle.game_rules.specs.declared.Side.TheVariants.{Black, White}
+pub use Rattle.game_rules.specs.declared.Way.{Way}
+pub use Rattle.game_rules.specs.declared.Way.TheVariants.{Ahead, Behind}
 
 -- what the four facts about Black's stone make of it, asked in the order of stone_foul
 abbrev pub first_foul : Bool → Bool → Bool → Bool → Option Foul
-first_foul exactly_five over fours threes =
-    if exactly_five then None
+first_foul exactly_five over fours threes = if exactly_five then None
     else if over then Some Overline
     else if fours then Some DoubleFour
     else if threes then Some DoubleThree
@@ -37,8 +42,7 @@ first_foul exactly_five over fours threes =
 
 -- what the four facts about a move make of it, asked in the order of outcome
 abbrev pub outcome_by : Bool → Bool → Option Foul → Bool → Outcome
-outcome_by empty wins foul last =
-    if not empty then Refused
+outcome_by empty wins foul last = if not empty then Refused
     else if wins then Wins
     else option_map_or Fouls foul (if last then Draws else GoesOn)
 

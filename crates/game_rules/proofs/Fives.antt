@@ -1,24 +1,18 @@
 -- Five points: they are empty, and a stone changes none of the other side, but the point that it takes.
-use Rattle.std.proofs.Common.{◌≡◌, Bool, true, false, ◌&&◌, refl, sym, ap, ◌∙◌, ℕ, cond, nat_eq, nat_le, ◌≤◌}
-use Rattle.std.proofs.Common.{◌<◌, arith, not, List, length, [], ◌∷◌, get_or, inl, inr, subst, rules, Option, Some, find, filter}
+use Rattle.std.proofs.Common.{◌≡◌, Bool, true, false, ◌&&◌, refl, sym, ap, ◌∙◌, ℕ, cond, nat_eq, nat_le, ◌≤◌, ◌<◌, arith, not, List, length}
+use Rattle.std.proofs.Common.{[], ◌∷◌, get_or, inl, inr, subst, rules, Option, Some, find, filter}
 use Rattle.std.specs.List.{list_all}
 use Rattle.std.proofs.lemmas.Bool.{false_from_ne_true}
 use Rattle.game_rules.proofs.Common.{Grid, IsBoard, is_on, is_empty, put, points_of, run_of, row_wins, wins_on, five, is_same_point, other}
-use Rattle.game_rules.proofs.Common.{has_fouls, mover, IsPosition, outcome, after, five_points, has_five}
-use Rattle.game_rules.specs.declared.Side.{Side}
-use Rattle.game_rules.specs.declared.Axis.{Axis}
-use Rattle.game_rules.specs.declared.Point.{Point}
-use Rattle.game_rules.specs.declared.RuleKind.{RuleKind}
-use Rattle.game_rules.specs.declared.Axis.TheVariants.{Row, Column, Down, Up}
+use Rattle.game_rules.proofs.Common.{has_fouls, mover, IsPosition, outcome, after, five_points, has_five, Side, Axis, Point, RuleKind, Row}
+use Rattle.game_rules.proofs.Common.{Column, Down, Up, Black, GoesOn}
 use Rattle.game_rules.proofs.Boards.{Apart, and-same, is_empty-on, is_empty-put, stone_of-other, run_of-put, and_left, and_right}
 use Rattle.game_rules.proofs.Boards.{cell_at-put_same, same_or_apart, stone_of-taken}
 use Rattle.game_rules.proofs.Positions.{IsBoard-put, ahead-other, behind-other, GoesOn-empty, mover-then}
 use Rattle.game_rules.specs.declared.RuleKind.TheVariants.{Freestyle, Exact}
-use Rattle.game_rules.specs.declared.Side.TheVariants.{Black}
 use Rattle.game_rules.proofs.PointLists.{no_points, passing, apart_same, find-and}
 use Rattle.game_rules.proofs.Points.{filter-none, filter-passes, points-found, is_same_point-itself, is_same_point-same}
 use Rattle.game_rules.proofs.Places.{two_passing-apart}
-use Rattle.game_rules.specs.declared.Outcome.TheVariants.{GoesOn}
 
 -- a five point is empty
 pub five-empty : (rule : RuleKind) (b : Grid) (s : Side) (q : Point) → five rule b s q ≡ true → is_empty b q ≡ true
@@ -27,8 +21,7 @@ five-empty rule b s q h = search rules
 module _ (b : Grid) (s : Side) (p : Point) (ok : IsBoard b) (empty : is_empty b p ≡ true) where
   run_of-other : (d : Axis) (q : Point) → is_on b q ≡ true
       → run_of (put (put b s p) (other s) q) (other s) d q ≡ run_of (put b (other s) q) (other s) d q
-  run_of-other d q on =
-      run_of-put (put b s p) (other s) q on (IsBoard-put b s p ok) d
+  run_of-other d q on = run_of-put (put b s p) (other s) q on (IsBoard-put b s p ok) d
       ∙ rw (ahead-other b s (other s) p ok empty (stone_of-other s) d q, behind-other b s (other s) p ok empty (stone_of-other s) d q) refl
       ∙ sym (run_of-put b (other s) q on ok d)
 
@@ -124,8 +117,7 @@ module _ (rule : RuleKind) (c : Grid) (lawful : IsPosition rule c) (q : Point) (
 
   -- the least of those five points of the attacker that the reply does not take
   least-left : least_five rule (after c q) ≡ find (λ x. not (is_same_point x q)) (five_points rule c (other (mover c)))
-  least-left =
-      ap (λ (s : Side). find (five rule (after c q) s) (points_of c)) (mover-then rule c q lawful on)
+  least-left = ap (λ (s : Side). find (five rule (after c q) s) (points_of c)) (mover-then rule c q lawful on)
       ∙ ap (λ (f : Point → Bool). find f (points_of c)) (λ i x. five_left x i)
       ∙ find-and (five rule c (other (mover c))) (λ x. not (is_same_point x q)) (points_of c)
 

@@ -1,16 +1,11 @@
 -- Laws of won games: a stronger demand is a stronger win, more moves are no harder, the test and the fact agree, and one side alone wins.
-use Rattle.std.proofs.Common.{rules, ◌≡◌, ℕ, zero, suc, ◌≤◌, Bool, true, false, refl, sym, subst, arith, cond, ◌∙◌}
-use Rattle.std.proofs.Common.{◌<◌, ◌≢◌, ◌&&◌, find, Some}
+use Rattle.std.proofs.Common.{rules, ◌≡◌, ℕ, zero, suc, ◌≤◌, Bool, true, false, refl, sym, subst, arith, cond, ◌∙◌, ◌<◌, ◌≢◌, ◌&&◌, find}
+use Rattle.std.proofs.Common.{Some}
 use Rattle.std.specs.List.{list_all}
 use Rattle.std.proofs.lemmas.Bool.{or_left}
 use Rattle.game_rules.proofs.Common.{Grid, is_on, points_of, outcome, mover, after, WinsOr, LosesOr, WinsUnder, WinsWithin, WinsByFours}
 use Rattle.game_rules.proofs.Common.{WinsByThreats, has_five, has_threat, wins_or, loses_or, starts_win, wins_under, wins_by_fours}
-use Rattle.game_rules.proofs.Common.{four_move, five}
-use Rattle.game_rules.specs.declared.RuleKind.{RuleKind}
-use Rattle.game_rules.specs.declared.Side.{Side}
-use Rattle.game_rules.specs.declared.Outcome.{Outcome}
-use Rattle.game_rules.specs.declared.Point.{Point}
-use Rattle.game_rules.specs.declared.Outcome.TheVariants.{Wins, GoesOn, Wins as WinsNow}
+use Rattle.game_rules.proofs.Common.{four_move, five, RuleKind, Side, Outcome, Point, Wins, GoesOn, Wins as WinsNow}
 use Rattle.game_rules.proofs.Boards.{and_left, and_right, is_empty-on}
 use Rattle.game_rules.proofs.Points.{points-found, any_witness, all_of, all_at, off_refused, WinsOr-on}
 use Rattle.game_rules.proofs.Outcomes.{five-outcome, outcome-five}
@@ -36,8 +31,7 @@ WinsUnder-more demand rule (suc n) (suc m) b l h = (
   h.0,
   WinsOr-map (outcome rule b h.0) _ _ (λ w. (
     w.0,
-    λ q.
-        LosesOr-map (outcome rule (after b h.0) q) _ _ (WinsUnder-more demand rule n m (after (after b h.0) q) (omega arith)) (w.1 q),
+    λ q. LosesOr-map (outcome rule (after b h.0) q) _ _ (WinsUnder-more demand rule n m (after (after b h.0) q) (omega arith)) (w.1 q),
   )) h.1,
 )
 
@@ -49,8 +43,7 @@ WinsUnder-weaker strong weak implies rule (suc n) b h = (
   h.0,
   WinsOr-map (outcome rule b h.0) _ _ (λ w. (
     implies _ _ w.0,
-    λ q.
-        LosesOr-map (outcome rule (after b h.0) q) _ _ (WinsUnder-weaker strong weak implies rule n (after (after b h.0) q)) (w.1 q),
+    λ q. LosesOr-map (outcome rule (after b h.0) q) _ _ (WinsUnder-weaker strong weak implies rule n (after (after b h.0) q)) (w.1 q),
   )) h.1,
 )
 
@@ -100,9 +93,8 @@ pub WinsUnder-test : (demand : Grid → Side → Bool) (rule : RuleKind) (n : �
     → wins_under demand rule n b ≡ true
 unfolding wins_under
 WinsUnder-test demand rule zero b h = absurd h
-WinsUnder-test demand rule (suc n) b h =
-    points-found b (starts_win demand rule b (wins_under demand rule n)) h.0 (WinsOr-on rule b h.0 _ h.1)
-    (WinsOr-wins_or (outcome rule b h.0) _ _ (λ w. rw (w.0) (all_of _ (points_of b) (λ q.
+WinsUnder-test demand rule (suc n) b h = points-found b (starts_win demand rule b (wins_under demand rule n)) h.0
+    (WinsOr-on rule b h.0 _ h.1) (WinsOr-wins_or (outcome rule b h.0) _ _ (λ w. rw (w.0) (all_of _ (points_of b) (λ q.
     LosesOr-loses_or (outcome rule (after b h.0) q) _ _ (WinsUnder-test demand rule n (after (after b h.0) q)) (w.1 q)))) h.1)
 
 pub WinsWithin-more : (rule : RuleKind) (n m : ℕ) (b : Grid) → n ≤ m → WinsWithin rule n b → WinsWithin rule m b
@@ -141,10 +133,9 @@ pub five-threats : (rule : RuleKind) (b : Grid) (w : Point) (n : ℕ) → five r
 five-threats rule b w zero h l = absurd (omega arith)
 five-threats rule b w (suc n) h l = (
   w,
-  subst (λ (o : Outcome). WinsOr o
-      ((has_threat rule (after b w) (mover b) ≡ true)
-      × ((q : Point) → LosesOr (outcome rule (after b w) q) (WinsByThreats rule n (after (after b w) q))))) (sym (five-outcome rule b w h))
-      tt,
+  subst (λ (o : Outcome). WinsOr o ((has_threat rule (after b w) (mover b) ≡ true)
+      × ((q : Point) → LosesOr (outcome rule (after b w) q) (WinsByThreats rule n (after (after b w) q)))))
+      (sym (five-outcome rule b w h)) tt,
 )
 
 pub five-wins : (rule : RuleKind) (b : Grid) (n : ℕ) → has_five rule b (mover b) ≡ true → wins_by_fours rule (suc n) b ≡ true

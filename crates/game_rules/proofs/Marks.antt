@@ -1,13 +1,10 @@
 -- The cells that pass a test, as points in reading order.
-use Rattle.std.proofs.Common.{ℕ, ◌/◌, ◌%◌, ◌≡◌, zero, suc, ◌+◌, ◌<◌, Bool, true, false, cond, not, refl, arith, List, [], ◌∷◌, ◌++◌}
-use Rattle.std.proofs.Common.{length, drop, set, get_or, ◌*◌, ◌-◌, ◌≤◌, sym, ◌∙◌, ◌&&◌, replicate, map, rules}
+use Rattle.std.proofs.Common.{ℕ, ◌/◌, ◌%◌, ◌≡◌, zero, suc, ◌+◌, ◌<◌, Bool, true, false, cond, not, refl, arith, List, [], ◌∷◌, ◌++◌, length}
+use Rattle.std.proofs.Common.{drop, set, get_or, ◌*◌, ◌-◌, ◌≤◌, sym, replicate, map, rules}
 use Rattle.std.specs.List.{list_all}
 use Rattle.std.proofs.lemmas.Bool.{and_parts, not-true, both_ways}
 use Rattle.std.proofs.lemmas.Nat.{div-add-mod'}
-use Rattle.game_rules.proofs.Common.{Grid}
-use Rattle.game_rules.specs.declared.Point.{Point}
-use Rattle.game_rules.specs.declared.Cell.{Cell}
-use Rattle.game_rules.specs.declared.Cell.TheVariants.{Empty}
+use Rattle.game_rules.proofs.Common.{Grid, Point, Cell, Empty}
 
 -- the point with this place on a board of this width
 abbrev pub point_at : ℕ → ℕ → Point

@@ -1,19 +1,13 @@
 -- What the stones of one line decide. A stone plays no part in the runs of a line that it is not on, so the five points that a stone
 -- makes where there were none depend on the lines through it alone.
-use Rattle.std.proofs.Common.{rules, ◌≡◌, inl, inr, ℕ, ◌+◌, ◌≤◌, Bool, true, false, cond, length, refl, sym, ap, subst}
-use Rattle.std.proofs.Common.{◌∙◌, Option, Some, filter}
+use Rattle.std.proofs.Common.{rules, ◌≡◌, inl, inr, ℕ, ◌+◌, ◌≤◌, Bool, true, false, cond, length, refl, sym, ap, subst, ◌∙◌, Option, Some}
+use Rattle.std.proofs.Common.{filter}
 use Rattle.std.specs.List.{list_any, range_with_len, prefix_len}
 use Rattle.std.proofs.lemmas.Bool.{false_from_ne_true, both_ways}
 use Rattle.std.proofs.lemmas.List.Sums.{length-filter, sum_by-le-sum_by}
 use Rattle.game_rules.proofs.Common.{Grid, IsBoard, is_on, is_empty, is_stone_of, stone_of, put, along, points_of, points_within, holds}
 use Rattle.game_rules.proofs.Common.{same_line, is_aligned, stones_ahead, stones_behind, line_bound, stone_at, wins_on, five}
-use Rattle.game_rules.proofs.Common.{stones_towards, other, has_five, five_points}
-use Rattle.game_rules.specs.declared.RuleKind.{RuleKind}
-use Rattle.game_rules.specs.declared.Side.{Side}
-use Rattle.game_rules.specs.declared.Axis.{Axis}
-use Rattle.game_rules.specs.declared.Way.{Way}
-use Rattle.game_rules.specs.declared.Point.{Point}
-use Rattle.game_rules.specs.declared.Axis.TheVariants.{Row}
+use Rattle.game_rules.proofs.Common.{stones_towards, other, has_five, five_points, RuleKind, Side, Axis, Way, Point, Row}
 use Rattle.game_rules.proofs.Axes.{axis_of, some_axis}
 use Rattle.game_rules.proofs.Boards.{Apart, and_left, is_empty-on, is_empty-put, same_or_apart, empty_holds, holds-put_other}
 use Rattle.game_rules.proofs.Boards.{holds-put_same, prefix_len-same}

@@ -1,17 +1,12 @@
 -- What an outcome says of the move that has it.
-use Rattle.std.proofs.Common.{◌≡◌, ℕ, ◌≤◌, Bool, true, false, cond, nat_eq, refl, ap, ◌∙◌, arith, not, ◌&&◌}
-use Rattle.std.proofs.Common.{◌||◌, List, [], ◌∷◌, ◌≢◌, subst, ◌⊎◌, rules, Option, None, is_some, is_none, ◌==◌}
+use Rattle.std.proofs.Common.{◌≡◌, ℕ, ◌≤◌, Bool, true, false, cond, nat_eq, refl, ap, ◌∙◌, arith, not, ◌&&◌, ◌||◌, List, [], ◌∷◌, ◌≢◌}
+use Rattle.std.proofs.Common.{subst, ◌⊎◌, rules, Option, None, is_some, is_none}
 use Rattle.std.proofs.lemmas.Bool.Decides.{nat_tests}
 use Rattle.std.specs.List.{list_any, list_all}
 use Rattle.game_rules.proofs.Common.{Grid, is_empty, empties_of, is_on, five, outcome, outcome_by, foul_of, has_fouls, black_foul, mover}
 use Rattle.game_rules.proofs.Common.{goes_on, goes_on_with, saves, first_foul, IsPosition, after, LosesOr, loses_or, if_goes_on, has_five}
-use Rattle.game_rules.proofs.Common.{WinsOr}
-use Rattle.game_rules.specs.declared.RuleKind.{RuleKind}
-use Rattle.game_rules.specs.declared.Side.{Side}
-use Rattle.game_rules.specs.declared.Foul.{Foul}
-use Rattle.game_rules.specs.declared.Outcome.{Outcome}
-use Rattle.game_rules.specs.declared.Point.{Point}
-use Rattle.game_rules.specs.declared.Outcome.TheVariants.{Refused, Wins, Fouls, Draws, GoesOn, Wins as WinsNow}
+use Rattle.game_rules.proofs.Common.{WinsOr, RuleKind, Side, Foul, Outcome, Point, Refused, Wins, GoesOn}
+use Rattle.game_rules.specs.declared.Outcome.TheVariants.{Fouls, Draws, Wins as WinsNow}
 use Rattle.game_rules.proofs.Boards.{is_empty-on, is_empty-put, Apart, empties_of-put}
 use Rattle.game_rules.proofs.Fives.{five-empty}
 use Rattle.game_rules.proofs.Points.{points-found, off_refused, taken_refused}

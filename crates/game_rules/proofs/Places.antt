@@ -1,14 +1,12 @@
 -- The points of a board as a list: how many there are, where each stands, that all are on the board and rise, and those of them
 -- that pass a test.
-use Rattle.std.proofs.Common.{◌≡◌, ℕ, zero, suc, ◌+◌, ◌*◌, ◌<◌, ◌≤◌, Bool, true, false, cond, ◌&&◌, ◌||◌, refl, ap, subst, ◌∙◌, arith}
-use Rattle.std.proofs.Common.{List, [], ◌∷◌, ◌++◌, length, length-append, Contains, rules}
-use Rattle.std.specs.Prelude.{Some, slice_get, unwrap_or}
-use Rattle.std.specs.List.{flat_map, range_with_len, filter, find, list_all, list_any}
+use Rattle.std.proofs.Common.{◌≡◌, ℕ, zero, suc, ◌+◌, ◌*◌, ◌<◌, ◌≤◌, Bool, true, false, cond, ◌&&◌, ◌||◌, refl, ap, subst, arith, List, []}
+use Rattle.std.proofs.Common.{◌∷◌, ◌++◌, length, length-append, Contains, rules, Some, slice_get, unwrap_or, flat_map, filter, find}
+use Rattle.std.specs.List.{range_with_len, list_all, list_any}
 use Rattle.std.proofs.lemmas.Bool.{lt-ltb}
 use Rattle.std.proofs.lemmas.Nat.{mul-le}
 use Rattle.std.proofs.lemmas.List.Folds.{list_all-append}
-use Rattle.game_rules.proofs.Common.{Grid, IsBoard, is_on, points_of, row_from, place_of, is_same_point}
-use Rattle.game_rules.specs.declared.Point.{Point}
+use Rattle.game_rules.proofs.Common.{Grid, IsBoard, is_on, points_of, row_from, place_of, is_same_point, Point}
 use Rattle.game_rules.proofs.Boards.{Apart, and_left, and_right, on_x, on_y}
 use Rattle.game_rules.proofs.Points.{points-found, is_same_point-itself, is_same_point-same}
 
@@ -136,10 +134,8 @@ module _ (width : ℕ) where
 
 -- two points that pass a test, one after another, are not one
 pub two_passing-apart : (b : Grid) (f : Point → Bool) (p q : Point) (ps : List Point) → filter f (points_of b) ≡ p ∷ q ∷ ps → Apart p q
-two_passing-apart b f p q ps e =
-    two-apart b.width (0 * b.width) p q ps
-    (subst (λ xs. Rising b.width (0 * b.width) xs) e
-    (filter-rising b.width f (0 * b.width) (points_of b) (rows-rising b.width 0 b.height)))
+two_passing-apart b f p q ps e = two-apart b.width (0 * b.width) p q ps
+    (subst (λ xs. Rising b.width (0 * b.width) xs) e (filter-rising b.width f (0 * b.width) (points_of b) (rows-rising b.width 0 b.height)))
 
 -- ---- those that pass a test
 

@@ -1,17 +1,15 @@
 -- Lists of points: what is found, filtered, counted and summed in them.
-use Rattle.std.proofs.Common.{rules}
-use Rattle.std.proofs.Common.{not, List, ◌≡◌, Bool, cond, refl, ap, ◌∙◌, [], ◌∷◌, true, false, ◌&&◌, ◌||◌, suc, sym, subst, arith, zero, ℕ}
-use Rattle.std.proofs.Common.{◌+◌, ◌<◌, length, drop, get_or, ◌++◌, take, ◌≤◌, reverse, nat_le, leb-true, leb-false, le-leb}
-use Rattle.std.specs.List.{filter, list_any, find, All, list_all, sum_by, AllByRecursion}
-use Rattle.std.specs.Prelude.{Some, None, Contains, Option, unwrap_or}
+use Rattle.std.proofs.Common.{rules, not, List, ◌≡◌, Bool, cond, refl, ap, ◌∙◌, [], ◌∷◌, true, false, ◌&&◌, ◌||◌, suc, sym, subst, arith}
+use Rattle.std.proofs.Common.{zero, ℕ, ◌+◌, ◌<◌, length, drop, get_or, ◌++◌, take, ◌≤◌, reverse, nat_le, leb-true, leb-false, le-leb}
+use Rattle.std.proofs.Common.{filter, find, All, sum_by, Some, None, Contains, Option, unwrap_or}
+use Rattle.std.specs.List.{list_any, list_all, AllByRecursion}
 use Rattle.std.specs.Option.{option_or}
 use Rattle.std.proofs.lemmas.Bool.{or_right, and_from, false_from_ne_true, or_parts, or_from}
 use Rattle.std.proofs.Math.Seq.{drop-cons}
 use Rattle.std.proofs.lemmas.List.{take_more, reverse-append}
 use Rattle.std.proofs.lemmas.List.Folds.{list_all-append}
 use Rattle.std.proofs.lemmas.List.Sums.{sum_by-cons}
-use Rattle.game_rules.proofs.Common.{is_same_point, is_at, Grid, is_on, points_of}
-use Rattle.game_rules.specs.declared.Point.{Point}
+use Rattle.game_rules.proofs.Common.{is_same_point, is_at, Grid, is_on, points_of, Point}
 use Rattle.game_rules.proofs.Points.{is_same_point-same, filter-passes, is_same_point-itself, points-found}
 use Rattle.game_rules.proofs.Boards.{Apart, and_left, and_right}
 use Rattle.game_rules.proofs.Places.{find-passes, find-some}

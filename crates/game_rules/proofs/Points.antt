@@ -1,14 +1,12 @@
 -- Facts about all points of a board: lists, tests, and points off the board.
-use Rattle.std.proofs.Common.{◌≡◌, ℕ, Bool, true, false, ◌&&◌, ◌||◌, not, refl, sym, ap, ◌∙◌, arith, List, []}
-use Rattle.std.proofs.Common.{◌∷◌, map, eq-eqb, rules, filter, flat_map, Option, Some, nat_lt, ◌==◌}
+use Rattle.std.proofs.Common.{◌≡◌, ℕ, Bool, true, false, ◌&&◌, ◌||◌, not, refl, sym, ap, ◌∙◌, arith, List, [], ◌∷◌, map, eq-eqb, rules}
+use Rattle.std.proofs.Common.{filter, flat_map, Option, Some, nat_lt, ◌==◌}
 use Rattle.std.specs.List.{list_any, list_all, range_with_len}
 use Rattle.std.proofs.lemmas.Bool.{false_from_ne_true}
 use Rattle.std.proofs.lemmas.Bool.Decides.{nat_tests}
 use Rattle.std.proofs.lemmas.List.Folds.{list_any-append}
-use Rattle.game_rules.proofs.Common.{Grid, is_on, is_empty, points_of, row_from, precedes, is_at, is_same_point, outcome, WinsOr}
-use Rattle.game_rules.specs.declared.RuleKind.{RuleKind}
-use Rattle.game_rules.specs.declared.Point.{Point}
-use Rattle.game_rules.specs.declared.Outcome.TheVariants.{Refused}
+use Rattle.game_rules.proofs.Common.{Grid, is_on, is_empty, points_of, row_from, precedes, is_at, is_same_point, outcome, WinsOr, RuleKind}
+use Rattle.game_rules.proofs.Common.{Point, Refused}
 use Rattle.game_rules.proofs.Rows.{any_found}
 use Rattle.game_rules.proofs.Boards.{and_left, and_right, Apart, not-apart, on_x, on_y}
 
@@ -25,9 +23,8 @@ list_any-map h at (x ∷ xs) = ap (λ r. h (at x) || r) (list_any-map h at xs)
 pub points-found : (b : Grid) (h : Point → Bool) (q : Point) → is_on b q ≡ true → h q ≡ true → list_any h (points_of b) ≡ true
 points-found b h q on e =
     let in_row : list_any h (row_from q.y 0 b.width) ≡ true =
-    list_any-map h (λ x. let p : Point = record { x = x; y = q.y } in p) (range_with_len 0 b.width)
-    ∙ any_found (λ x. let p : Point = record { x = x; y = q.y } in h p) b.width 0 q.x (omega arith)
-    (let l = on_x b q on in omega (arith, l)) e in
+    list_any-map h (λ x. let p : Point = record { x = x; y = q.y } in p) (range_with_len 0 b.width) ∙ any_found
+    (λ x. let p : Point = record { x = x; y = q.y } in h p) b.width 0 q.x (omega arith) (let l = on_x b q on in omega (arith, l)) e in
     list_any-flat_map h (λ y. row_from y 0 b.width) (range_with_len 0 b.height)
     ∙ any_found (λ y. list_any h (row_from y 0 b.width)) b.height 0 q.y (omega arith) (let l = on_y b q on in omega (arith, l)) in_row
 

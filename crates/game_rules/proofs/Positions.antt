@@ -1,23 +1,15 @@
 -- A move that goes on leaves a lawful position.
-use Rattle.std.proofs.Common.{rules, ◌≡◌, ◌≢◌, ◌⊎◌, inl, inr, ℕ, zero, suc, ◌+◌, ◌-◌, ◌≤◌, Bool, true}
-use Rattle.std.proofs.Common.{false, cond, ◌&&◌, refl, sym, ap, subst, ◌∙◌, arith, length-set, List, [], ◌∷◌, set, get_or}
-use Rattle.std.proofs.Common.{get_or-set_same, nat_eq, eq-eqb, ◌*◌, Option, Some, None}
+use Rattle.std.proofs.Common.{rules, ◌≡◌, ◌≢◌, ◌⊎◌, inl, inr, ℕ, zero, suc, ◌+◌, ◌-◌, ◌≤◌, Bool, true, false, cond, ◌&&◌, refl, sym, ap}
+use Rattle.std.proofs.Common.{subst, ◌∙◌, arith, length-set, List, [], ◌∷◌, set, get_or, get_or-set_same, nat_eq, eq-eqb, ◌*◌, Option, Some}
+use Rattle.std.proofs.Common.{None}
 use Rattle.std.specs.List.{prefix_len, range_with_len}
 use Rattle.std.proofs.lemmas.Bool.{cases_lt}
 use Rattle.std.proofs.lemmas.Bool.Decides.{nat_tests}
 use Rattle.std.proofs.lemmas.List.Sums.{sum_by-set}
 use Rattle.game_rules.proofs.Common.{Grid, IsBoard, is_on, is_empty, is_stone_of, stone_of, holds, put, lift, along, stones_of, empties_of}
 use Rattle.game_rules.proofs.Common.{stone_at, stones_ahead, stones_behind, run_of, line_bound, row_wins, wins_on, five, IsPosition}
-use Rattle.game_rules.proofs.Common.{NamesMover, outcome, outcome_by, foul_of, mover, other, after}
-use Rattle.game_rules.specs.declared.Foul.{Foul}
-use Rattle.game_rules.specs.declared.Side.{Side}
-use Rattle.game_rules.specs.declared.Cell.{Cell}
-use Rattle.game_rules.specs.declared.Axis.{Axis}
-use Rattle.game_rules.specs.declared.Point.{Point}
-use Rattle.game_rules.specs.declared.RuleKind.{RuleKind}
-use Rattle.game_rules.specs.declared.Outcome.TheVariants.{GoesOn}
-use Rattle.game_rules.specs.declared.Side.TheVariants.{Black, White}
-use Rattle.game_rules.specs.declared.Cell.TheVariants.{Empty}
+use Rattle.game_rules.proofs.Common.{NamesMover, outcome, outcome_by, foul_of, mover, other, after, Foul, Side, Cell, Axis, Point, RuleKind}
+use Rattle.game_rules.proofs.Common.{GoesOn, Black, White, Empty}
 use Rattle.game_rules.proofs.Axes.{no_axis}
 use Rattle.game_rules.proofs.Boards.{and_left, and_right, is_empty-on, is_empty-cell, same_or_apart, empty_holds, other-other}
 use Rattle.game_rules.proofs.Boards.{holds-put_other, holds-put_same, place_fits, empties_of-put, prefix_len-same, cell_at-put_same}

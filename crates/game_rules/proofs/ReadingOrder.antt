@@ -1,16 +1,13 @@
 -- Points in reading order: rows of points, and lists whose points come one after another.
-use Rattle.std.proofs.Common.{◌≡◌, ℕ, suc, ◌+◌, refl, ◌∷◌, List, ◌++◌, ◌⊎◌, ◌≤◌, ◌<◌, [], inr, arith, zero, Bool, true, false}
-use Rattle.std.proofs.Common.{nat_lt, eq-eqb, ◌*◌, length, ◌∙◌, ap, ◌&&◌, ◌/◌, ◌%◌, rules}
-use Rattle.std.specs.List.{flat_map, range_with_len, filter, list_all, sum_by, AllByRecursion}
-use Rattle.std.specs.Prelude.{slice_index_or}
+use Rattle.std.proofs.Common.{◌≡◌, ℕ, suc, ◌+◌, refl, ◌∷◌, List, ◌++◌, ◌⊎◌, ◌≤◌, ◌<◌, [], inr, arith, zero, Bool, true, false, nat_lt}
+use Rattle.std.proofs.Common.{eq-eqb, ◌*◌, length, ◌∙◌, ap, ◌/◌, ◌%◌, rules, flat_map, filter, sum_by, slice_index_or}
+use Rattle.std.specs.List.{range_with_len, list_all, AllByRecursion}
 use Rattle.std.proofs.lemmas.Bool.Decides.{nat_tests}
 use Rattle.std.proofs.lemmas.Bool.{or_right, lt-ltb}
 use Rattle.std.proofs.lemmas.List.Sums.{sum_by-cons}
 use Rattle.std.proofs.Math.Nat.{div-lt_iff_lt-mul}
 use Rattle.game_rules.proofs.Common.{row_from, Grid, points_of, is_on, IsBoard, is_empty, is_empty_cell, cell_at, empties_of, precedes}
-use Rattle.game_rules.proofs.Common.{is_same_point}
-use Rattle.game_rules.specs.declared.Point.{Point}
-use Rattle.game_rules.specs.declared.Cell.TheVariants.{Empty}
+use Rattle.game_rules.proofs.Common.{is_same_point, Point, Empty}
 use Rattle.game_rules.proofs.PointLists.{sum-ones, each-append}
 use Rattle.game_rules.proofs.Points.{is_same_point-same}
 use Rattle.game_rules.proofs.Cells.{some_place}

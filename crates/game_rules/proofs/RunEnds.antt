@@ -1,25 +1,18 @@
 -- A stone changes the five points of its side at the ends of its runs alone: there its run joins what stands past the end.
-use Rattle.std.proofs.Common.{rules, ◌≡◌, ◌≢◌, ◌⊎◌, inl, inr, ℕ, ◌+◌, ◌-◌, ◌≤◌, ◌<◌, true, false}
-use Rattle.std.proofs.Common.{◌&&◌, refl, sym, ap, ◌∙◌, arith, Some, Option, None}
+use Rattle.std.proofs.Common.{rules, ◌≡◌, ◌≢◌, ◌⊎◌, inl, inr, ℕ, ◌+◌, ◌-◌, ◌≤◌, ◌<◌, true, false, ◌&&◌, refl, sym, ap, ◌∙◌, arith, Some}
 use Rattle.std.specs.List.{list_any, range_with_len}
 use Rattle.std.proofs.lemmas.Bool.{both_ways, cases_lt, or_left, or_right, or_cases}
 use Rattle.game_rules.proofs.Common.{Grid, IsBoard, is_on, is_empty, holds, put, along, row_wins, stone_at, stones_ahead, stones_behind}
-use Rattle.game_rules.proofs.Common.{wins_on, is_at, is_in_run, towards, go, opposite, stones_towards, run_end}
-use Rattle.game_rules.specs.declared.RuleKind.{RuleKind}
-use Rattle.game_rules.specs.declared.Side.{Side}
-use Rattle.game_rules.specs.declared.Axis.{Axis}
-use Rattle.game_rules.specs.declared.Way.{Way}
-use Rattle.game_rules.specs.declared.Point.{Point}
-use Rattle.game_rules.specs.declared.Way.TheVariants.{Ahead, Behind}
+use Rattle.game_rules.proofs.Common.{wins_on, is_at, is_in_run, towards, go, opposite, stones_towards, run_end, RuleKind, Side, Axis, Way}
+use Rattle.game_rules.proofs.Common.{Point, Ahead, Behind}
 use Rattle.game_rules.proofs.Boards.{Apart, and_left, and-same, empty_holds, holds-put_same, is_empty-on, is_empty-put}
 use Rattle.game_rules.proofs.Points.{is_at-here, is_at-Some}
 use Rattle.game_rules.proofs.Positions.{IsBoard-put, is_at_or_not, stone_at-else, stone_at-more}
 use Rattle.game_rules.proofs.Rows.{any_found, any_in_range}
 use Rattle.game_rules.proofs.Ways.{go-then, go-same, go-zero, go-back, go-apart, go-opposite, else_at, leads, leads_is, leads_back}
-use Rattle.game_rules.proofs.Ways.{leads_back_is, towards-put, least, go-steps}
+use Rattle.game_rules.proofs.Ways.{leads_back_is, towards-put, least}
 use Rattle.game_rules.proofs.Wins.{wins_on-stones}
 use Rattle.game_rules.proofs.OneLine.{empty-before}
-use Rattle.game_rules.proofs.Runs.{InRun}
 
 -- ---- where the ends are
 
@@ -67,12 +60,9 @@ module _ (b : Grid) (s : Side) (p : Point) (ok : IsBoard b) (empty : is_empty b 
   -- a point that is no end on the axis wins there as before
   pub wins_same : (rule : RuleKind) (q : Point) → Apart p q → (d : Axis) → ((v : Way) → is_empty b q ≡ true → run_end b s d v p ≢ Some q)
       → wins_on rule (put b s p) s d q ≡ wins_on rule b s d q
-  wins_same rule q apart d no_end =
-      wins_on-stones rule (put b s p) s d q (IsBoard-put b s p ok)
-      ∙ ap (λ r. r && row_wins rule s (1 + stones_ahead (put b s p) s d q + stones_behind (put b s p) s d q))
-      (is_empty-put b s p q on_p apart)
-      ∙ and-same (is_empty b q) _ _ (λ free. rw (many free Ahead, many free Behind) refl)
-      ∙ sym (wins_on-stones rule b s d q ok) where
+  wins_same rule q apart d no_end = wins_on-stones rule (put b s p) s d q (IsBoard-put b s p ok) ∙ ap
+      (λ r. r && row_wins rule s (1 + stones_ahead (put b s p) s d q + stones_behind (put b s p) s d q)) (is_empty-put b s p q on_p apart)
+      ∙ and-same (is_empty b q) _ _ (λ free. rw (many free Ahead, many free Behind) refl) ∙ sym (wins_on-stones rule b s d q ok) where
         many : is_empty b q ≡ true → (v : Way) → stones_towards v (put b s p) s d q ≡ stones_towards v b s d q
         many free = as_many q (is_empty-on b q free) (empty_holds b s q free) d (λ v. no_end v free)
 
@@ -101,8 +91,7 @@ in_run_towards : (b : Grid) (s : Side) (w : Way) (d : Axis) (p q : Point) (k : �
 in_run_towards b s Ahead d p q k here low high =
     or_left _ _ (any_found (λ j. is_at q (along d p j 0)) (1 + stones_ahead b s d p) 0 k (omega arith) (omega arith)
     (is_at-here q (along d p k 0) here))
-in_run_towards b s Behind d p q k here low high =
-    or_right _ _
+in_run_towards b s Behind d p q k here low high = or_right _ _
     (any_found (λ j. is_at q (along d p 0 j)) (stones_behind b s d p) 1 k low (omega arith) (is_at-here q (along d p 0 k) here))
 
 -- q is the end in that way of the run through the stone on p, and empty
@@ -138,9 +127,8 @@ module _ (b : Grid) (s : Side) (w : Way) (d : Axis) (p q : Point) (ok : IsBoard 
     ]
 
     stop : stone_at (put b s q) s (go w d p (1 + (1 + near + more)) 0) ≡ false
-    stop = else_at b s w d p q (1 + near) 0 (1 + (1 + near + more)) 0 filled_q here (λ same. absurd (omega arith))
-        ∙ ap (stone_at b s) (from_q (1 + (1 + near + more)) (omega arith)
-        ∙ go-same w d q (1 + (1 + near + more) - (1 + near)) 0 (1 + more) 0 (omega arith))
+    stop = else_at b s w d p q (1 + near) 0 (1 + (1 + near + more)) 0 filled_q here (λ same. absurd (omega arith)) ∙ ap (stone_at b s)
+        (from_q (1 + (1 + near + more)) (omega arith) ∙ go-same w d q (1 + (1 + near + more) - (1 + near)) 0 (1 + more) 0 (omega arith))
         ∙ (leads b s d q filled_q w).stops
 
   -- and leaves what stands in the other way
@@ -198,39 +186,3 @@ module _ (b : Grid) (s : Side) (d : Axis) (x : Point) (on : is_on b x ≡ true) 
 
   pub more_stones : stone_at b s (go w d x (1 + m) 0) ≡ true → m < stones_towards w b s d x
   more_stones stone = let far = least b s d x on w (1 + m) (more_at stone) in omega (arith, far)
-
-module _ (g : Grid) (s : Side) (d : Axis) (q r : Point) (ok : IsBoard g) (empty_q : is_empty g q ≡ true)
-    (empty_r : is_empty g r ≡ true) where
-  -- a stone in the run from r that a stone on q closes
-  abbrev pub StoneInRun : Type 0
-  StoneInRun = (p : Point) × (holds g s p ≡ true) × InRun (put g s q) s d r p
-
-  stone_at_step : (v : Way) (k : ℕ) → 1 ≤ k → k ≤ stones_towards v (put g s q) s d r → (go v d r k 0 ≡ Some q → ⊥) → StoneInRun
-  stone_at_step v k low high differ = by_point (go v d r k 0) refl where
-    stands : stone_at g s (go v d r k 0) ≡ true
-    stands = sym (stone_at-else g s q ok empty_q s (go v d r k 0) differ)
-        ∙ (leads (put g s q) s d r (is_empty-on g r empty_r) v).holds k low high
-
-    by_point : (o : Option Point) → go v d r k 0 ≡ o → StoneInRun
-    by_point None e = absurd (let bad : false ≡ true = sym (ap (stone_at g s) e) ∙ stands in cc)
-    by_point (Some p) e = (p, sym (ap (stone_at g s) e) ∙ stands, record { way = v; steps = k; some = low; within = high; there = e })
-
-  stone_beside : (w : Way) (f : ℕ) → 1 ≤ f → go w d r f 0 ≡ Some q
-      → 5 ≤ 1 + stones_towards w (put g s q) s d r + stones_towards (opposite w) (put g s q) s d r → StoneInRun
-  stone_beside w f low there long = elim (cases_lt 1 (stones_towards w (put g s q) s d r)) [
-    | inl two ↦ elim (cases_lt 1 f) [
-      | inl later ↦ stone_at_step w 1 (omega arith) (omega (arith, two))
-          (λ h. let same = go-steps w d r q 1 0 f 0 h there in omega (arith, same, later))
-      | inr first ↦ stone_at_step w 2 (omega arith) (omega (arith, two))
-          (λ h. let same = go-steps w d r q 2 0 f 0 h there in omega (arith, same, first))
-    ]
-    | inr few ↦ stone_at_step (opposite w) 1 (omega arith) (omega (arith, few, long))
-        (λ h. let same = go-steps w d r q 0 1 f 0 (sym (go-opposite w d r 1 0) ∙ h) there in omega (arith, same))
-  ]
-
-  -- there is one
-  pub stone-in_run : InRun (put g s q) s d r q → 5 ≤ 1 + stones_ahead (put g s q) s d r + stones_behind (put g s q) s d r → StoneInRun
-  stone-in_run run long = stone_beside run.way run.steps run.some run.there (both run.way) where
-    both : (v : Way) → 5 ≤ 1 + stones_towards v (put g s q) s d r + stones_towards (opposite v) (put g s q) s d r
-    both Ahead = long
-    both Behind = omega (arith, long)

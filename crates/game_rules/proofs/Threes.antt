@@ -1,18 +1,12 @@
 -- Three points of a line: on empty points alone, and seen along a way.
-use Rattle.std.proofs.Common.{rules, ◌≡◌, ℕ, ◌+◌, Bool, true, false, refl, nat_eq, eq-eqb, ◌&&◌, not, cond, sym, ◌∙◌}
-use Rattle.std.proofs.Common.{Some, None, is_none}
+use Rattle.std.proofs.Common.{rules, ◌≡◌, ℕ, ◌+◌, Bool, true, false, refl, nat_eq, eq-eqb, ◌&&◌, not, cond, sym, ◌∙◌, Some, None, is_none}
 use Rattle.std.proofs.Math.Bool.{and-true, and-false}
 use Rattle.std.specs.List.{list_any}
 use Rattle.game_rules.proofs.Common.{Grid, holds, along, is_empty, is_on, points_of, wins_at, is_straight, wins_on, is_line_three_point}
 use Rattle.game_rules.proofs.Common.{is_line_three_at, is_three_point, five, towards, opposite, stones_towards, black_foul, is_three}
-use Rattle.game_rules.specs.declared.RuleKind.{RuleKind}
-use Rattle.game_rules.specs.declared.Side.{Side}
-use Rattle.game_rules.specs.declared.Axis.{Axis}
-use Rattle.game_rules.specs.declared.Point.{Point}
-use Rattle.game_rules.specs.declared.Way.{Way}
+use Rattle.game_rules.proofs.Common.{RuleKind, Side, Axis, Point, Way, Black}
 use Rattle.game_rules.proofs.Boards.{and_left}
 use Rattle.game_rules.proofs.Axes.{no_axis}
-use Rattle.game_rules.specs.declared.Side.TheVariants.{Black}
 use Rattle.game_rules.proofs.Points.{none_of}
 use Rattle.game_rules.proofs.PointLists.{any-filter}
 
@@ -24,8 +18,7 @@ and-swap a c e = search rules
 
 -- a straight four, seen in either way
 pub straight_towards : (rule : RuleKind) (b : Grid) (s : Side) (w : Way) (d : Axis) (p : Point) → holds b s p ≡ true
-    → is_straight rule b s d p
-    ≡ (nat_eq (stones_towards w b s d p + stones_towards (opposite w) b s d p) 3 && wins_at rule b s d
+    → is_straight rule b s d p ≡ (nat_eq (stones_towards w b s d p + stones_towards (opposite w) b s d p) 3 && wins_at rule b s d
     (towards w d p (1 + stones_towards w b s d p)) && wins_at rule b s d
     (towards (opposite w) d p (1 + stones_towards (opposite w) b s d p)))
 unfolding is_straight

@@ -1,9 +1,6 @@
 -- A move that goes on, taken back.
 use Rattle.std.proofs.Common.{◌≡◌, true, ap, ◌∙◌}
-use Rattle.game_rules.proofs.Common.{Grid, lift, holds, IsPosition, IsUnwon, outcome, mover, other, after}
-use Rattle.game_rules.specs.declared.RuleKind.{RuleKind}
-use Rattle.game_rules.specs.declared.Point.{Point}
-use Rattle.game_rules.specs.declared.Outcome.TheVariants.{GoesOn}
+use Rattle.game_rules.proofs.Common.{Grid, lift, holds, IsPosition, IsUnwon, outcome, mover, other, after, RuleKind, Point, GoesOn}
 use Rattle.game_rules.proofs.Positions.{after-stone, lift-after}
 
 module _ (rule : RuleKind) (b c : Grid) (p : Point) (lawful : IsPosition rule b) (on : outcome rule b p ≡ GoesOn)

@@ -1,13 +1,8 @@
 -- Lines seen from a point in one of two ways: what holds ahead holds behind.
-use Rattle.std.proofs.Common.{rules, ◌≡◌, ◌≢◌, inl, inr, ℕ, ◌+◌, ◌-◌, ◌≤◌, true, refl, sym, ap, ◌∙◌}
-use Rattle.std.proofs.Common.{arith, Option, Some, None}
+use Rattle.std.proofs.Common.{rules, ◌≡◌, ◌≢◌, inl, inr, ℕ, ◌+◌, ◌-◌, ◌≤◌, true, refl, sym, ap, ◌∙◌, arith, Option, Some, None}
 use Rattle.std.proofs.lemmas.Bool.{cases_lt, both_ways}
-use Rattle.game_rules.proofs.Common.{Grid, IsBoard, is_on, holds, put, stone_at, run_of, go, opposite, stones_towards}
-use Rattle.game_rules.specs.declared.Side.{Side}
-use Rattle.game_rules.specs.declared.Axis.{Axis}
-use Rattle.game_rules.specs.declared.Way.{Way}
-use Rattle.game_rules.specs.declared.Point.{Point}
-use Rattle.game_rules.specs.declared.Way.TheVariants.{Ahead, Behind}
+use Rattle.game_rules.proofs.Common.{Grid, IsBoard, is_on, holds, put, stone_at, run_of, go, opposite, stones_towards, Side, Axis, Way}
+use Rattle.game_rules.proofs.Common.{Point, Ahead, Behind}
 use Rattle.game_rules.proofs.Boards.{Apart, holds-put_other, and_left, stones_ahead-put, stones_behind-put, run_of-put}
 use Rattle.game_rules.proofs.Lines.{along-steps, along-apart, along-then, along-same, along-zero}
 use Rattle.game_rules.proofs.Runs.{Leads, ahead_leads, behind_leads, ahead_is, behind_is}
@@ -118,10 +113,8 @@ module _ (b : Grid) (s : Side) (w : Way) (d : Axis) (p e : Point) (mine : holds 
   pub run_before_end : stones_towards (opposite w) b s d e ≡ stones_towards w b s d p + 1 + stones_towards (opposite w) b s d p
   run_before_end = leads_back_is b s d e on w _ (record {
     holds = inside;
-    stops =
-        from_e 0 (1 + (stones_towards w b s d p + 1 + stones_towards (opposite w) b s d p)) 0 (1 + stones_towards (opposite w) b s d p)
-        (omega arith)
-        ∙ (leads_back b s d p on_p w).stops;
+    stops = from_e 0 (1 + (stones_towards w b s d p + 1 + stones_towards (opposite w) b s d p)) 0
+        (1 + stones_towards (opposite w) b s d p) (omega arith) ∙ (leads_back b s d p on_p w).stops;
   }) where
     inside : (j : ℕ) → 1 ≤ j → j ≤ stones_towards w b s d p + 1 + stones_towards (opposite w) b s d p → stone_at b s (go w d e 0 j) ≡ true
     inside j low high = elim (cases_lt (stones_towards w b s d p + 1) j) [

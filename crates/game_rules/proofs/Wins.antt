@@ -2,12 +2,7 @@
 use Rattle.std.proofs.Common.{◌≡◌, ℕ, ◌+◌, ◌≤◌, true, false, ◌&&◌, ap, rules}
 use Rattle.std.proofs.lemmas.Bool.{false_from_ne_true, both_ways}
 use Rattle.game_rules.proofs.Common.{Grid, IsBoard, is_empty, row_wins, stones_ahead, stones_behind, wins_on, five, opposite}
-use Rattle.game_rules.proofs.Common.{stones_towards, has_five}
-use Rattle.game_rules.specs.declared.RuleKind.{RuleKind}
-use Rattle.game_rules.specs.declared.Side.{Side}
-use Rattle.game_rules.specs.declared.Axis.{Axis}
-use Rattle.game_rules.specs.declared.Way.{Way}
-use Rattle.game_rules.specs.declared.Point.{Point}
+use Rattle.game_rules.proofs.Common.{stones_towards, has_five, RuleKind, Side, Axis, Way, Point}
 use Rattle.game_rules.proofs.Axes.{no_axis}
 use Rattle.game_rules.proofs.Boards.{and-same, is_empty-on, run_of-put}
 use Rattle.game_rules.proofs.Points.{points-found}
