@@ -11,21 +11,21 @@ use Rattle.game_rules.specs.declared.Outcome.TheVariants.{Refused, Wins, Fouls, 
 use Rattle.game_rules.specs.declared.Point.{Point}
 use Rattle.game_rules.proofs.Common.{Grid, points_of, five, is_at, IsPosition, outcome, mover, after, goes_on_with, has_five, wins_or}
 use Rattle.game_rules.proofs.Common.{starts_win, wins_under, wins_by_fours, four_move, is_empty, is_same_point, has_fouls, other}
-use Rattle.game_rules.proofs.Common.{five_points}
+use Rattle.game_rules.proofs.Common.{five_points, empties_of}
 use Rattle.game_rules.proofs.Points.{is_same_point-itself, any_witness, none_of}
 use Rattle.game_rules.proofs.PointLists.{not_found, no_point}
 use Rattle.game_rules.proofs.Games.{five-wins}
-use Rattle.game_rules.proofs.Boards.{is_empty-on}
+use Rattle.game_rules.proofs.Boards.{is_empty-on, empties_of-put}
 use Rattle.game_rules.proofs.Positions.{IsPosition-after, GoesOn-empty, mover-then, mover-other}
 use Rattle.game_rules.proofs.Fives.{five-empty, only}
-use Rattle.game_rules.proofs.Outcomes.{goes_on_with-else}
+use Rattle.game_rules.proofs.Outcomes.{goes_on_with-else, outcome-more}
 use Rattle.row_shapes.specs.FivePoints.{in_short, takes}
 use Rattle.row_shapes.specs.declared.fives.FivePoints.{FivePoints}
 use Rattle.row_shapes.specs.declared.fives.FivePoints.TheVariants.{None as NoPoint, One as OnePoint, Several}
-use Rattle.row_shapes.proofs.FiveLaws.{one-empty, several-left, one-stays, not_taken-five, taken-none}
+use Rattle.row_shapes.proofs.FiveLaws.{one-empty, short-one, several-left, one-stays, not_taken-five, taken-none}
 use Rattle.threat_moves.specs.declared.block.BlockAnswer.{BlockAnswer}
 use Rattle.threat_moves.specs.declared.block.BlockAnswer.TheVariants.{Lost, One}
-use Rattle.threat_moves.proofs.Common.{is_four_move, fate, block_wins}
+use Rattle.threat_moves.proofs.Common.{is_four_move, fate, block_wins, by_block, by_fives}
 use Rattle.threat_moves.proofs.BlockLaw.{block_decides, no-reply-wins}
 use Rattle.threat_moves.proofs.FourLaws.{four-goes_on, four-five, taken-no_four, no_last-win, none-no_four}
 use Rattle.threat_moves.proofs.Fates.{blocked, not_all-foul}
@@ -35,7 +35,7 @@ use Rattle.four_search.specs.FourGame.{until, tried, if_one, behind_move, four_t
 use Rattle.four_search.specs.Searching.{found_by, line_behind, line_from, four_line, positions_behind, found_at, found_behind, found_trying}
 use Rattle.four_search.specs.Searching.{found_answering}
 use Rattle.four_search.specs.declared.four_points.FourPoint.{FourPoint}
-use Rattle.four_search.specs.FourPoints.{makes, four_point_at, four_points_of, RulesOut}
+use Rattle.four_search.specs.FourPoints.{makes, four_point_at, four_points_of, RulesOut, HasCalmBlock}
 use Rattle.four_search.proofs.Listing.{at-told, each-told}
 
 -- ---- one after another
@@ -460,6 +460,56 @@ module _ (rule : RuleKind) (c : Grid) (w : Point) (lawful : IsPosition rule c) (
       → NoWin (budget - 1) ≡ found_at rule moves (after c w) budget
   block-last moves budget e fits calm = found-last rule (after c w) (IsPosition-after rule c w lawful on) block-none
       (ap (has_fouls rule) (mover-other rule c w lawful on) ∙ calm) moves budget e fits
+
+-- ---- a last four with one block
+
+module _ (rule : RuleKind) (b : Grid) (p : Point) (lawful : IsPosition rule b) (on : outcome rule b p ≡ GoesOn)
+    (safe : has_five rule (after b p) (other (mover b)) ≡ false) where
+  abbrev four : Grid
+  four = after b p
+
+  turn : mover four ≡ other (mover b)
+  turn = mover-then rule b p lawful on
+
+  module _ (w : Point) (made : OnePoint w ≡ in_short (five_points rule four (mover b))) (calm : has_fouls rule (other (mover b)) ≡ false)
+      (room : 2 < empties_of b) where
+    one_of : in_short (five_points rule four (other (mover four))) ≡ OnePoint w
+    one_of = ap (λ s. in_short (five_points rule four s)) (mover-other rule b p lawful on) ∙ sym made
+
+    calm_of : has_fouls rule (mover four) ≡ false
+    calm_of = ap (has_fouls rule) turn ∙ calm
+
+    block-goes : outcome rule four w ≡ GoesOn
+    block-goes =
+        let fewer = empties_of-put b (mover b) p lawful.board (GoesOn-empty rule b p on) in
+        sym (outcome-more rule four w (one-empty rule four (other (mover four)) w one_of) (ap (has_five rule four) turn ∙ safe) calm_of
+        (empties_of four) refl (λ last. omega arith))
+
+    block-is : One w ≡ fate rule four
+    unfolding fate
+    block-is = sym (ap (λ r. cond r Lost (by_fives rule four (five_points rule four (other (mover four)))))
+        (ap (has_five rule four) turn ∙ safe) ∙ ap (by_fives rule four) (short-one w _ one_of) ∙ ap (by_block w) block-goes)
+
+    answer-is : (budget : ℕ) → found_at rule 1 (after four w) budget ≡ found_answering rule 1 four budget
+    unfolding found_as positions
+    answer-is budget = by_answer rule four budget 1 (One w) block-is
+
+    counted-one : (budget : ℕ) → found_by budget 1 false [] ≡ found_behind rule 1 b p budget
+    counted-one budget = by_test (nat_le 1 budget) refl where
+      by_test : (r : Bool) → nat_le 1 budget ≡ r → cond r (NoWin (budget - 1)) Spent ≡ found_behind rule 1 b p budget
+      by_test true e = behind-no_win rule 1 b p budget (budget - 1)
+          (block-last rule four w (IsPosition-after rule b p lawful on) block-goes one_of 1 budget refl (grind (arith, nat_tests)) calm_of
+          ∙ answer-is budget)
+      by_test false e = behind-else rule 1 b p budget Spent (λ left line h. cc)
+          (found-nothing rule 1 budget (after four w) (grind (arith, nat_tests)) ∙ answer-is budget)
+
+  -- with one move left it is counted, and nothing is found
+  pub behind-last : (made : FivePoints) (moves budget : ℕ) → made ≡ in_short (five_points rule four (mover b)) → HasCalmBlock rule b made
+      → moves ≡ 1 → cond (nat_le 1 budget) (NoWin (budget - 1)) Spent ≡ found_behind rule moves b p budget
+  behind-last NoPoint moves budget told calm one = absurd calm
+  behind-last (OnePoint w) moves budget told calm one = counted-one w told calm.0 calm.1 budget
+      ∙ ap (λ m. found_behind rule m b p budget) (sym one)
+  behind-last Several moves budget told calm one = absurd calm
 
 -- ---- which moves are fours
 

@@ -1,9 +1,9 @@
 -- The points at which a stone of the side to move makes a five point.
-use Rattle.std.specs.Prelude.{◌≡◌, ℕ, suc, Bool, true, false, ◌&&◌, if◌then◌else◌, List, [], ◌∷◌, map}
+use Rattle.std.specs.Prelude.{◌≡◌, ◌<◌, ℕ, suc, Bool, true, false, ◌&&◌, if◌then◌else◌, List, [], ◌∷◌, map}
 use Rattle.std.specs.List.{filter, list_any}
-use Rattle.game_rules.specs.Grid.{Grid, is_empty, points_of}
+use Rattle.game_rules.specs.Grid.{Grid, is_empty, empties_of, points_of}
 use Rattle.game_rules.specs.Shapes.{is_same_point}
-use Rattle.game_rules.specs.Play.{IsPosition, outcome, mover, after}
+use Rattle.game_rules.specs.Play.{IsPosition, outcome, mover, other, has_fouls, after}
 use Rattle.game_rules.specs.Games.{has_five, five_points}
 use Rattle.game_rules.specs.Points.{precedes}
 use Rattle.game_rules.specs.declared.RuleKind.{RuleKind}
@@ -91,3 +91,9 @@ abbrev pub RulesOut : RuleKind → Grid → FivePoints → Type 0
 RulesOut rule b None = ⊥
 RulesOut rule b (One w) = has_five rule (after b w) (mover b) ≡ false
 RulesOut rule b Several = Unit {0}
+
+-- with these five points of the side to move after a four it has one block, its defender has no fouls, and more than two points are empty
+abbrev pub HasCalmBlock : RuleKind → Grid → FivePoints → Type 0
+HasCalmBlock rule b None = ⊥
+HasCalmBlock rule b (One w) = (has_fouls rule (other (mover b)) ≡ false) × (2 < empties_of b)
+HasCalmBlock rule b Several = ⊥

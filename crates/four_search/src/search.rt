@@ -15,7 +15,7 @@ ghost use Rattle.threat_moves.specs.FourMoves.{is_four_move};
 ghost use Rattle.threat_moves.specs.OneBlock.{all_foul as all_foul_lem, won_within as won_within_lem};
 ghost use Rattle.threat_moves.specs.Blocks.{fate as fate_lem};
 ghost use Rattle.row_shapes.specs.FivePoints.{in_short};
-ghost use Rattle.four_search.specs.FourPoints.{four_points_of, AfterFour, AfterReply, RulesOut};
+ghost use Rattle.four_search.specs.FourPoints.{four_points_of, AfterFour, AfterReply, RulesOut, HasCalmBlock};
 ghost use Rattle.four_search.specs.Roots.{TellsRoot};
 ghost use Rattle.four_search.specs.Searching.{found_at, found_trying, found_behind, found_answering};
 
@@ -83,7 +83,14 @@ pub(crate) fn search<R: Rule, V: Seen<R>>(
         Root::NoFive {
             threat,
             four_points,
-        } => try_four_points::<R, V>(view, *threat, four_points.as_slice(), limits, memory),
+        } => {
+            if limits.moves == 1 && !R::has_fouls(view.side().other()) {
+                return Ok(Found::NoWin {
+                    left: limits.budget - 1,
+                });
+            }
+            try_four_points::<R, V>(view, *threat, four_points.as_slice(), limits, memory)
+        }
     }
 }
 
@@ -244,7 +251,8 @@ fn try_point<R: Rule, V: Seen<R>>(
     }
 }
 
-/// Searches behind a four move, where the attacker has so many more moves.
+/// Searches behind a four move, where the attacker has so many more moves. With one more a block that goes on for sure is counted and
+/// not played: after it the attacker cannot win.
 #[cycle(search)]
 fn behind<R: Rule, V: Seen<R>>(
     view: &mut V,
@@ -261,12 +269,28 @@ fn behind<R: Rule, V: Seen<R>>(
     ensures found { IfOk result (λ found. found ≡ found_behind R.KIND limits.moves (V.position view.old) four.at limits.budget) }
     ensures same { V.position view.new ≡ V.position view.old }
 {
+    if limits.moves == 1 && has_calm_block::<R, V>(view, four.made) {
+        return Ok(without_win(1, limits.budget));
+    }
     view.play(four.at);
     let found = answering::<R, V>(view, four, four_points, limits, memory);
     view.undo(four.at);
     match found? {
         Found::Win { left, line } => win_by(four.at, line, left),
         found => Ok(found),
+    }
+}
+
+/// Whether a four that makes these five points has one block, and that goes on for sure: the defender has no fouls, and the two moves
+/// leave an empty point.
+fn has_calm_block<R: Rule, V: Seen<R>>(view: &V, made: FivePoints) -> bool
+    ensures calm { result ≡ true → HasCalmBlock R.KIND (V.position view.now) made }
+    ensures lawful { IsPosition R.KIND (V.position view.now) }
+{
+    let defender = view.side().other();
+    match made {
+        FivePoints::None | FivePoints::Several => false,
+        FivePoints::One(_) => !R::has_fouls(defender) && view.board().empties() > 2,
     }
 }
 

@@ -1,6 +1,7 @@
-use Rattle.std.proofs.Common.{◌-◌, ◌<◌, ap, ◌∙◌, arith}
+use Rattle.std.proofs.Common.{◌-◌, ◌<◌, ap, sym, ◌∙◌, arith}
+use Rattle.game_rules.proofs.Common.{has_fouls, other}
 use Rattle.four_search.specs.declared.search.Found.TheVariants.{Win}
-use Rattle.four_search.proofs.Trying.{found-five, found-nothing}
+use Rattle.four_search.proofs.Trying.{found-five, found-last, found-nothing}
 use Rattle.four_search.proofs.search.search.Goals as goal
 
 pub returns-then-limits-eq0-clause-found : goal.returns-then-limits-eq0-clause-found
@@ -24,3 +25,10 @@ try_four_points-requires g c =
       threat = root.told;
       four_points = c.as_slice.ensures.value ∙ root.listed;
     }
+
+pub returns-then-not-has_fouls-clause-found : goal.returns-then-not-has_fouls-clause-found
+returns-then-not-has_fouls-clause-found g c =
+    let root = rw c.in-NoFive.is at c.requires.root in
+    let calm = ap (λ s. has_fouls g.R.Rule.KIND (other s)) (sym c.side.ensures.side)
+    ∙ ap (has_fouls g.R.Rule.KIND) (sym c.other.ensures.other) ∙ sym c.if-not-has_fouls.ensures.fouls in
+    found-last _ _ c.requires.lawful root.none calm _ _ c.if-limits-eq1.true (let fits = c.if-limits-eq0.false in omega (arith, fits))
