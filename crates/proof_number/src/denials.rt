@@ -5,12 +5,15 @@
 //! fours is asked, whose positions are not counted: the game of threats has none of them.
 #![tactic(auto)]
 
-ghost use Rattle.std.specs.Prelude.{◌≡◌, ℕ, IfOk, IsTrue};
+ghost use Rattle.std.specs.Prelude.{◌≡◌, ℕ, false, IfOk, IsTrue};
+ghost use Rattle.game_rules.specs.Play.{mover};
+ghost use Rattle.game_rules.specs.Games.{has_five as has_five_lem};
 ghost use Rattle.threat_game.specs.ThreatGame.{LosesToThreats};
 ghost use Rattle.proof_number.specs.Denials.{WinsByFewFours};
 
 use foul_judge::Seen;
-use four_search::finds_fours;
+use four_search::finds_fours_without_fives;
+use open_windows::has_five;
 use row_shapes::Rule;
 use std::alloc::{AllocError, Global};
 
@@ -26,13 +29,14 @@ pub(crate) fn is_denied<R: Rule, V: Seen<R>>(
     alloc: Global,
     view: &mut V,
 ) -> Result<bool, AllocError>
+    requires none { has_five_lem R.KIND (V.position view.old) (mover (V.position view.old)) ≡ false }
     ensures denied { IfOk result (λ found. IsTrue found → (moves : ℕ) → ¬ LosesToThreats R.KIND moves (V.position view.old)) }
     ensures fours { IfOk result (λ found. IsTrue found → WinsByFewFours R.KIND (V.position view.old)) }
     ensures same { V.position view.new ≡ V.position view.old }
 {
     let attacker = view.side().other();
-    if view.has_five(attacker) {
+    if has_five::<R>(view.board(), attacker) {
         return Ok(false);
     }
-    finds_fours::<R, V>(alloc, view, FOUR_MOVES, FOUR_POSITIONS)
+    finds_fours_without_fives::<R, V>(alloc, view, FOUR_MOVES, FOUR_POSITIONS)
 }

@@ -224,6 +224,7 @@ impl<R: Rule> Looks<R> {
         view: &mut V,
         moves: u32,
     ) -> Result<bool, AllocError>
+        requires no_five { has_five R.KIND (V.position view.old) (mover (V.position view.old)) ≡ false }
         ensures denied { IfOk result (λ found. IsTrue found → (n : ℕ) → ¬ LosesToThreats R.KIND n (V.position view.old)) }
         ensures fours { IfOk result (λ found. IsTrue found → WinsByFewFours R.KIND (V.position view.old)) }
         ensures same { V.position view.new ≡ V.position view.old }

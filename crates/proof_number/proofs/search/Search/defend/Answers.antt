@@ -1,10 +1,13 @@
 use Rattle.std.proofs.Common.{rules, arith}
 use Rattle.proof_number.proofs.Steps.{leaf-childless, leaf-inside, leaf-noted, writes-no_memory, writes-none}
-use Rattle.proof_number.proofs.Defending.{denied-grows}
+use Rattle.proof_number.proofs.Defending.{defend-no_five, denied-grows}
 use Rattle.proof_number.proofs.search.Search.defend.Goals as goal
 
 pub index-requires : goal.index-requires
 index-requires g c = let low = leaf-noted c.requires.at_leaf in omega (arith, low)
+
+pub is_denied-requires : goal.is_denied-requires
+is_denied-requires g c = record { no_five = defend-no_five c.requires.at_leaf c.requires.defend }
 
 pub settle_at-requires : goal.settle_at-requires
 settle_at-requires g c = record {
