@@ -1,18 +1,12 @@
 -- Answers to replies: which nodes they are, and what holds of them.
-use Rattle.std.proofs.Common.{rules, ◌≡◌, ℕ, ◌≤◌, ◌<◌, Bool, true, false, cond, List, [], ◌∷◌, ◌++◌, map, refl}
-use Rattle.std.proofs.Common.{arith, zero, suc, subst, ap, IsSomeAnd, ◌+◌, length, drop, get_or, drop-cons, add-one, ◌∙◌, sym}
-use Rattle.std.proofs.Common.{Option, Some, None, nat_lt, Contains, find, filter, option_map, ltb-true}
+use Rattle.std.proofs.Common.{rules, ◌≡◌, ℕ, ◌≤◌, ◌<◌, Bool, true, false, cond, List, [], ◌∷◌, ◌++◌, map, refl, arith, zero, suc, subst, ap}
+use Rattle.std.proofs.Common.{IsSomeAnd, ◌+◌, length, drop, get_or, drop-cons, add-one, ◌∙◌, sym, Option, Some, None, nat_lt, Contains}
+use Rattle.std.proofs.Common.{find, filter, option_map, ltb-true}
 use Rattle.std.specs.List.{list_all, AllByRecursion}
 use Rattle.std.specs.Option.{option_or}
 use Rattle.std.proofs.Math.ListN.{drop_of_length-le}
-use Rattle.game_rules.proofs.Common.{is_same_point, Grid, is_on}
-use Rattle.game_rules.specs.declared.Point.{Point}
-use Rattle.strategy_graph.specs.declared.Reply.{Reply}
-use Rattle.strategy_graph.specs.declared.Rest.{Rest}
-use Rattle.strategy_graph.specs.declared.Rest.TheVariants.{Nothing}
-use Rattle.strategy_graph.proofs.Common.{Answers, answer, listed_node, rest_node, rest_nodes, named, names_below, greatest, RepliesOn}
-use Rattle.strategy_graph.proofs.Common.{is_winning, AtNode}
-use Rattle.strategy_graph.specs.declared.Node.{Node}
+use Rattle.strategy_graph.proofs.Common.{is_same_point, Grid, is_on, Point, Reply, Rest, Nothing, Answers, answer, listed_node, rest_node}
+use Rattle.strategy_graph.proofs.Common.{rest_nodes, named, names_below, greatest, RepliesOn, is_winning, AtNode, Node}
 use Rattle.game_rules.proofs.Boards.{and_left, and_right}
 
 -- an answer is the node that is listed, or that of the rest

@@ -1,22 +1,15 @@
 -- A table that holds a copy of nodes of another, under other numbers, says the same at them.
-use Rattle.std.proofs.Common.{◌≡◌, ℕ, zero, suc, Bool, true, false, cond, List, [], ◌∷◌, ◌++◌, map, refl, sym, ap, subst}
-use Rattle.std.proofs.Common.{◌∙◌, Option, Some, IsSomeAnd, slice_get, ◌↔◌, rules, option_map}
+use Rattle.std.proofs.Common.{◌≡◌, ℕ, zero, suc, Bool, true, false, cond, List, [], ◌∷◌, ◌++◌, map, refl, sym, ap, subst, ◌∙◌, Option, Some}
+use Rattle.std.proofs.Common.{IsSomeAnd, slice_get, ◌↔◌, rules, option_map}
 use Rattle.std.specs.List.{list_all}
 use Rattle.std.specs.Option.{option_or, option_map_or}
-use Rattle.game_rules.proofs.Common.{Grid, outcome, after, WinsOr, LosesOr, if_goes_on}
-use Rattle.game_rules.specs.declared.RuleKind.{RuleKind}
-use Rattle.game_rules.specs.declared.Outcome.{Outcome}
-use Rattle.game_rules.specs.declared.Outcome.TheVariants.{GoesOn}
-use Rattle.game_rules.specs.declared.Point.{Point}
-use Rattle.strategy_graph.specs.declared.Reply.{Reply}
-use Rattle.strategy_graph.specs.declared.Rest.{Rest}
-use Rattle.strategy_graph.specs.declared.Node.{Node}
-use Rattle.strategy_graph.specs.declared.Why.{Why}
+use Rattle.strategy_graph.proofs.Common.{Grid, outcome, after, WinsOr, LosesOr, RuleKind, Outcome, GoesOn, Point, Reply, Rest, Node, Why}
 use Rattle.strategy_graph.proofs.Common.{Answers, answers_of, answer, listed_node, rest_node, rest_nodes, named, is_winning, greatest}
 use Rattle.strategy_graph.proofs.Common.{node_depth, depth_within, renumbered_rest, renumbered_reply, renumbered_answers, renumbered_node}
 use Rattle.strategy_graph.proofs.Common.{Meets, AcceptedNode, AcceptedWithin, arrivals_at, arrivals_after, arrivals_behind, arrivals_within}
 use Rattle.strategy_graph.proofs.Common.{End, NoMove, Open, after_attack, after_reply, if_node, end_at, game, points_on, points_from}
 use Rattle.strategy_graph.proofs.Common.{attacks_at, attacks, attack_fault, reply_fault, AtNode, ReplyLeads, Leads}
+use Rattle.game_rules.proofs.Common.{if_goes_on}
 use Rattle.strategy_graph.proofs.Answering.{answer-named}
 use Rattle.game_rules.proofs.Boards.{and_left, and_right}
 
@@ -113,15 +106,13 @@ module _ (f : ℕ → ℕ) (passes : ℕ → Bool) where
 
     pub Meets-copied : (rule : RuleKind) (N N' : ℕ → Grid → Type 0) → ((j : ℕ) → passes j ≡ true → (c : Grid) → N' (f j) c ≡ N j c)
         → (b : Grid) (q : Point) → Meets rule (renumbered_answers f a) N' b q ≡ Meets rule a N b q
-    Meets-copied rule N N' same b q =
-        ap (λ (W : Type 0). LosesOr (outcome rule b q) W)
-        (ap (λ (o : Option ℕ). IsSomeAnd o (λ j. N' j (after b q))) (answer-renumbered f a q)
+    Meets-copied rule N N' same b q = ap
+        (λ (W : Type 0). LosesOr (outcome rule b q) W) (ap (λ (o : Option ℕ). IsSomeAnd o (λ j. N' j (after b q))) (answer-renumbered f a q)
         ∙ answered-copied (λ j. N j (after b q)) (λ j. N' j (after b q)) (answer a q) (λ j e. same j (passing q j e) (after b q)))
 
     arrivals_at-copied : (rule : RuleKind) (m m' : ℕ → Grid → ℕ) → ((j : ℕ) → passes j ≡ true → (c : Grid) → m' (f j) c ≡ m j c)
         → (b : Grid) (q : Point) → arrivals_at rule (renumbered_answers f a) m' b q ≡ arrivals_at rule a m b q
-    arrivals_at-copied rule m m' same b q =
-        ap (λ (k : ℕ). if_goes_on (outcome rule b q) k)
+    arrivals_at-copied rule m m' same b q = ap (λ (k : ℕ). if_goes_on (outcome rule b q) k)
         (ap (λ (o : Option ℕ). option_map_or (λ j. m' j (after b q)) o 0) (answer-renumbered f a q)
         ∙ map_or-copied (λ j. m j (after b q)) (λ j. m' j (after b q)) (answer a q) (λ j e. same j (passing q j e) (after b q)))
 
@@ -131,21 +122,18 @@ module _ (f : ℕ → ℕ) (passes : ℕ → Bool) where
 
     if_node-answer : (e e' : ℕ → Grid → End) → ((j : ℕ) → passes j ≡ true → (c : Grid) → e' (f j) c ≡ e j c) → (c : Grid) (q : Point)
         → if_node (answer (renumbered_answers f a) q) (λ j. e' j c) ≡ if_node (answer a q) (λ j. e j c)
-    if_node-answer e e' same c q =
-        ap (λ (o : Option ℕ). if_node o (λ j. e' j c)) (answer-renumbered f a q)
+    if_node-answer e e' same c q = ap (λ (o : Option ℕ). if_node o (λ j. e' j c)) (answer-renumbered f a q)
         ∙ if_node-copied (λ j. e j c) (λ j. e' j c) (answer a q) (λ j h. same j (passing q j h) c)
 
     points_from-answer : (ps ps' : ℕ → Grid → List Point) → ((j : ℕ) → passes j ≡ true → (c : Grid) → ps' (f j) c ≡ ps j c)
         → (c : Grid) (q : Point) → points_from (answer (renumbered_answers f a) q) (λ j. ps' j c) ≡ points_from (answer a q) (λ j. ps j c)
-    points_from-answer ps ps' same c q =
-        ap (λ (o : Option ℕ). points_from o (λ j. ps' j c)) (answer-renumbered f a q)
+    points_from-answer ps ps' same c q = ap (λ (o : Option ℕ). points_from o (λ j. ps' j c)) (answer-renumbered f a q)
         ∙ points_from-copied (λ j. ps j c) (λ j. ps' j c) (answer a q) (λ j h. same j (passing q j h) c)
 
     pub reply_leads-answer : (N N' : ℕ → Grid → Type 0) → ((j : ℕ) → passes j ≡ true → (c : Grid) → N' (f j) c ≡ N j c)
         → (u : Outcome) (line : List Point) (why : Why) (c : Grid) (q : Point)
         → ReplyLeads u (answer (renumbered_answers f a) q) line (λ j. N' j c) why ≡ ReplyLeads u (answer a q) line (λ j. N j c) why
-    reply_leads-answer N N' same u line why c q =
-        ap (λ (o : Option ℕ). ReplyLeads u o line (λ j. N' j c) why) (answer-renumbered f a q)
+    reply_leads-answer N N' same u line why c q = ap (λ (o : Option ℕ). ReplyLeads u o line (λ j. N' j c) why) (answer-renumbered f a q)
         ∙ reply_leads-copied u (answer a q) line (λ j. N j c) (λ j. N' j c) why (λ j h. same j (passing q j h) c)
 
     pub depths-copied : (d e : ℕ → ℕ) → ((j : ℕ) → passes j ≡ true → e (f j) ≡ d j)
@@ -165,8 +153,7 @@ module _ (f : ℕ → ℕ) (passes : ℕ → Bool) where
 
     pub arrivals_behind-copied : (rule : RuleKind) (m m' : ℕ → Grid → ℕ) → ((j : ℕ) → passes j ≡ true → (c : Grid) → m' (f j) c ≡ m j c)
         → (b : Grid) → arrivals_behind rule (Some (renumbered_node f n)) m' b ≡ arrivals_behind rule (Some n) m b
-    arrivals_behind-copied rule m m' same b =
-        ap (λ (w : Bool). if_goes_on (outcome rule b n.attack)
+    arrivals_behind-copied rule m m' same b = ap (λ (w : Bool). if_goes_on (outcome rule b n.attack)
         (cond w 0 (arrivals_after rule (renumbered_answers f (answers_of n)) m' (after b n.attack)))) (is_winning-renumbered f n.rest)
         ∙ ap (λ (k : ℕ). if_goes_on (outcome rule b n.attack) (cond (is_winning n.rest) 0 k))
         (arrivals_after-copied (answers_of n) all rule m m' same (after b n.attack))
@@ -180,11 +167,9 @@ module _ (f : ℕ → ℕ) (passes : ℕ → Bool) where
         ≡ end_at rule (Some n) b
         (λ n. after_reply (outcome rule (after b n.attack) q) (if_node (answer (answers_of n) q) (λ j. e j (after (after b n.attack) q))))
     end_at-copied rule e e' same b q =
-        ap (λ (w : Bool). after_attack (outcome rule b n.attack)
-        (cond w NoMove (after_reply (outcome rule (after b n.attack) q)
+        ap (λ (w : Bool). after_attack (outcome rule b n.attack) (cond w NoMove (after_reply (outcome rule (after b n.attack) q)
         (if_node (answer (renumbered_answers f (answers_of n)) q) (λ j. e' j (after (after b n.attack) q))))))
-        (is_winning-renumbered f n.rest)
-        ∙ ap (λ (x : End). after_attack (outcome rule b n.attack)
+        (is_winning-renumbered f n.rest) ∙ ap (λ (x : End). after_attack (outcome rule b n.attack)
         (cond (is_winning n.rest) NoMove (after_reply (outcome rule (after b n.attack) q) x)))
         (if_node-answer (answers_of n) all e e' same (after (after b n.attack) q) q)
 
@@ -193,17 +178,14 @@ module _ (f : ℕ → ℕ) (passes : ℕ → Bool) where
     attacks_at-none rule b = search (rules, is_winning-renumbered)
 
     attacks_at-copied : (rule : RuleKind) (ps ps' : ℕ → Grid → List Point) → ((j : ℕ) → passes j ≡ true → (c : Grid) → ps' (f j) c ≡ ps j c)
-        → (b : Grid) (q : Point) → attacks_at rule (Some (renumbered_node f n)) b
-        (λ n. points_on (outcome rule (after b n.attack) q)
+        → (b : Grid) (q : Point) → attacks_at rule (Some (renumbered_node f n)) b (λ n. points_on (outcome rule (after b n.attack) q)
         (points_from (answer (answers_of n) q) (λ j. ps' j (after (after b n.attack) q)))) ≡ attacks_at rule (Some n) b
         (λ n. points_on (outcome rule (after b n.attack) q)
         (points_from (answer (answers_of n) q) (λ j. ps j (after (after b n.attack) q))))
     attacks_at-copied rule ps ps' same b q =
-        ap (λ (w : Bool). n.attack ∷ points_on (outcome rule b n.attack)
-        (cond w [] (points_on (outcome rule (after b n.attack) q)
+        ap (λ (w : Bool). n.attack ∷ points_on (outcome rule b n.attack) (cond w [] (points_on (outcome rule (after b n.attack) q)
         (points_from (answer (renumbered_answers f (answers_of n)) q) (λ j. ps' j (after (after b n.attack) q))))))
-        (is_winning-renumbered f n.rest)
-        ∙ ap (λ (xs : List Point). n.attack ∷ points_on (outcome rule b n.attack)
+        (is_winning-renumbered f n.rest) ∙ ap (λ (xs : List Point). n.attack ∷ points_on (outcome rule b n.attack)
         (cond (is_winning n.rest) [] (points_on (outcome rule (after b n.attack) q) xs)))
         (points_from-answer (answers_of n) all ps ps' same (after (after b n.attack) q) q)
 
@@ -215,10 +197,9 @@ module _ (f : ℕ → ℕ) (passes : ℕ → Bool) where
         (λ n. (p ≡ n.attack) × (attack_fault (outcome rule b p) n.rest ≡ Some why))
     leads_last-copied rule b p why = ap (λ (w : Option Why). (p ≡ n.attack) × (w ≡ Some why)) (attack_fault-renumbered (outcome rule b p))
 
-    leads_step-copied : (rule : RuleKind) (N N' : ℕ → Grid → Type 0) → ((j : ℕ) → passes j ≡ true → (c : Grid) → N' (f j) c ≡ N j c)
-        → (b : Grid) (p q : Point) (line : List Point) (why : Why)
-        → AtNode (Some (renumbered_node f n))
-        (λ n. (p ≡ n.attack) × (outcome rule b p ≡ GoesOn) × (is_winning n.rest ≡ false)
+    leads_step-copied : (rule : RuleKind) (N N' : ℕ → Grid → Type 0)
+        → ((j : ℕ) → passes j ≡ true → (c : Grid) → N' (f j) c ≡ N j c) → (b : Grid) (p q : Point) (line : List Point) (why : Why)
+        → AtNode (Some (renumbered_node f n)) (λ n. (p ≡ n.attack) × (outcome rule b p ≡ GoesOn) × (is_winning n.rest ≡ false)
         × ReplyLeads (outcome rule (after b p) q) (answer (answers_of n) q) line (λ j. N' j (after (after b p) q)) why) ≡ AtNode (Some n)
         (λ n. (p ≡ n.attack) × (outcome rule b p ≡ GoesOn) × (is_winning n.rest ≡ false)
         × ReplyLeads (outcome rule (after b p) q) (answer (answers_of n) q) line (λ j. N j (after (after b p) q)) why)
@@ -240,8 +221,7 @@ module _ (f : ℕ → ℕ) (passes : ℕ → Bool) (t u : List Node) (copies : C
   pub depth_within-copied : (k i : ℕ) → passes i ≡ true → depth_within k u (f i) ≡ depth_within k t i
   unfolding depth_within
   depth_within-copied zero i p = refl
-  depth_within-copied (suc k) i p =
-      at_copy ℕ (λ o. node_depth o (depth_within k t)) (λ o. node_depth o (depth_within k u)) i p
+  depth_within-copied (suc k) i p = at_copy ℕ (λ o. node_depth o (depth_within k t)) (λ o. node_depth o (depth_within k u)) i p
       (λ n all. ap suc (depths-copied f passes (answers_of n) all (depth_within k t) (depth_within k u) (λ j h. depth_within-copied k j h)))
 
   pub accepted_within-copied : (rule : RuleKind) (k i : ℕ) (b : Grid) → passes i ≡ true
@@ -257,37 +237,30 @@ module _ (f : ℕ → ℕ) (passes : ℕ → Bool) (t u : List Node) (copies : C
       → arrivals_within k rule u (f i) b ≡ arrivals_within k rule t i b
   unfolding arrivals_within
   arrivals_within-copied rule zero i b p = refl
-  arrivals_within-copied rule (suc k) i b p =
-      at_copy ℕ (λ o. suc (arrivals_behind rule o (arrivals_within k rule t) b))
-      (λ o. suc (arrivals_behind rule o (arrivals_within k rule u) b)) i p
+  arrivals_within-copied rule (suc k) i b p = at_copy ℕ
+      (λ o. suc (arrivals_behind rule o (arrivals_within k rule t) b)) (λ o. suc (arrivals_behind rule o (arrivals_within k rule u) b)) i p
       (λ n all. ap suc (arrivals_behind-copied f passes n all rule (arrivals_within k rule t) (arrivals_within k rule u)
       (λ j h c. arrivals_within-copied rule k j c h) b))
 
   pub game-copied : (rule : RuleKind) (i : ℕ) (b : Grid) (qs : List Point) → passes i ≡ true → game rule u (f i) b qs ≡ game rule t i b qs
   unfolding game
   game-copied rule i b [] p = search (rules, end_at-open)
-  game-copied rule i b (q ∷ qs) p =
-      at_copy End
-      (λ o. end_at rule o b (λ n. after_reply (outcome rule (after b n.attack) q)
+  game-copied rule i b (q ∷ qs) p = at_copy End (λ o. end_at rule o b (λ n. after_reply (outcome rule (after b n.attack) q)
       (if_node (answer (answers_of n) q) (λ j. game rule t j (after (after b n.attack) q) qs))))
       (λ o. end_at rule o b (λ n. after_reply (outcome rule (after b n.attack) q)
-      (if_node (answer (answers_of n) q) (λ j. game rule u j (after (after b n.attack) q) qs))))
-      i p (λ n all. end_at-copied f passes n all rule (λ j c. game rule t j c qs) (λ j c. game rule u j c qs)
+      (if_node (answer (answers_of n) q) (λ j. game rule u j (after (after b n.attack) q) qs)))) i p
+      (λ n all. end_at-copied f passes n all rule (λ j c. game rule t j c qs) (λ j c. game rule u j c qs)
       (λ j h c. game-copied rule j c qs h) b q)
 
   pub attacks-copied : (rule : RuleKind) (i : ℕ) (b : Grid) (qs : List Point) → passes i ≡ true
       → attacks rule u (f i) b qs ≡ attacks rule t i b qs
   unfolding attacks
   attacks-copied rule i b [] p = search (rules, attacks_at-none)
-  attacks-copied rule i b (q ∷ qs) p =
-      at_copy (List Point)
-      (λ o. attacks_at rule o b
-      (λ n. points_on (outcome rule (after b n.attack) q)
+  attacks-copied rule i b (q ∷ qs) p = at_copy (List Point) (λ o. attacks_at rule o b (λ n. points_on (outcome rule (after b n.attack) q)
       (points_from (answer (answers_of n) q) (λ j. attacks rule t j (after (after b n.attack) q) qs))))
-      (λ o. attacks_at rule o b
-      (λ n. points_on (outcome rule (after b n.attack) q)
-      (points_from (answer (answers_of n) q) (λ j. attacks rule u j (after (after b n.attack) q) qs))))
-      i p (λ n all. attacks_at-copied f passes n all rule (λ j c. attacks rule t j c qs) (λ j c. attacks rule u j c qs)
+      (λ o. attacks_at rule o b (λ n. points_on (outcome rule (after b n.attack) q)
+      (points_from (answer (answers_of n) q) (λ j. attacks rule u j (after (after b n.attack) q) qs)))) i p
+      (λ n all. attacks_at-copied f passes n all rule (λ j c. attacks rule t j c qs) (λ j c. attacks rule u j c qs)
       (λ j h c. attacks-copied rule j c qs h) b q)
 
   pub Leads-copied : (rule : RuleKind) (i : ℕ) (b : Grid) (line : List Point) (why : Why) → passes i ≡ true
@@ -295,17 +268,13 @@ module _ (f : ℕ → ℕ) (passes : ℕ → Bool) (t u : List Node) (copies : C
   unfolding Leads
   Leads-copied rule i b [] why h = refl
   Leads-copied rule i b (p ∷ []) why h =
-      at_copy (Type 0)
-      (λ o. AtNode o (λ n. (p ≡ n.attack) × (attack_fault (outcome rule b p) n.rest ≡ Some why)))
-      (λ o. AtNode o (λ n. (p ≡ n.attack) × (attack_fault (outcome rule b p) n.rest ≡ Some why)))
-      i h (λ n all. leads_last-copied f passes n all rule b p why)
+      at_copy (Type 0) (λ o. AtNode o (λ n. (p ≡ n.attack) × (attack_fault (outcome rule b p) n.rest ≡ Some why)))
+      (λ o. AtNode o (λ n. (p ≡ n.attack) × (attack_fault (outcome rule b p) n.rest ≡ Some why))) i h
+      (λ n all. leads_last-copied f passes n all rule b p why)
   Leads-copied rule i b (p ∷ q ∷ line) why h =
-      at_copy (Type 0)
+      at_copy (Type 0) (λ o. AtNode o (λ n. (p ≡ n.attack) × (outcome rule b p ≡ GoesOn) × (is_winning n.rest ≡ false)
+      × ReplyLeads (outcome rule (after b p) q) (answer (answers_of n) q) line (λ j. Leads rule t j (after (after b p) q) line why) why))
       (λ o. AtNode o (λ n. (p ≡ n.attack) × (outcome rule b p ≡ GoesOn) × (is_winning n.rest ≡ false)
-      × ReplyLeads (outcome rule (after b p) q) (answer (answers_of n) q) line (λ j. Leads rule t j (after (after b p) q) line why)
-      why))
-      (λ o. AtNode o (λ n. (p ≡ n.attack) × (outcome rule b p ≡ GoesOn) × (is_winning n.rest ≡ false)
-      × ReplyLeads (outcome rule (after b p) q) (answer (answers_of n) q) line (λ j. Leads rule u j (after (after b p) q) line why)
-      why))
+      × ReplyLeads (outcome rule (after b p) q) (answer (answers_of n) q) line (λ j. Leads rule u j (after (after b p) q) line why) why))
       i h (λ n all. leads_step-copied f passes n all rule (λ j c. Leads rule t j c line why) (λ j c. Leads rule u j c line why)
       (λ j k c. Leads-copied rule j c line why k) b p q line why)

@@ -1,15 +1,10 @@
 -- Games from an accepted node end well. One step of a game against a table, and of its attacks: what a player that follows a table needs.
-use Rattle.std.proofs.Common.{◌≡◌, ℕ, zero, suc, ◌≤◌, cond, List, [], ◌∷◌, length, arith, Option, Some, None, slice_get}
-use Rattle.std.proofs.Common.{false, Bool, IsSomeAnd, ap, rules}
-use Rattle.game_rules.specs.declared.RuleKind.{RuleKind}
-use Rattle.game_rules.specs.declared.Outcome.{Outcome}
-use Rattle.game_rules.specs.declared.Point.{Point}
-use Rattle.game_rules.proofs.Common.{Grid, outcome, after, WinsOr, LosesOr}
-use Rattle.strategy_graph.specs.declared.Rest.{Rest}
-use Rattle.strategy_graph.specs.declared.Node.{Node}
-use Rattle.strategy_graph.proofs.Common.{answers_of, answer, is_winning, node_depth, depth_within, depth, AcceptedNode, AcceptedWithin}
-use Rattle.strategy_graph.proofs.Common.{Accepted, End, NoMove, Open, after_attack, after_reply, one_later, if_node, end_at, game, EndsWell}
-use Rattle.strategy_graph.proofs.Common.{attacks, points_on, attacks_at}
+use Rattle.std.proofs.Common.{◌≡◌, ℕ, zero, suc, ◌≤◌, cond, List, [], ◌∷◌, length, arith, Option, Some, None, slice_get, false, Bool}
+use Rattle.std.proofs.Common.{IsSomeAnd, ap, rules}
+use Rattle.strategy_graph.proofs.Common.{RuleKind, Outcome, Point, Grid, outcome, after, WinsOr, LosesOr, Rest, Node, answers_of, answer}
+use Rattle.strategy_graph.proofs.Common.{is_winning, node_depth, depth_within, depth, AcceptedNode, AcceptedWithin, Accepted, End, NoMove}
+use Rattle.strategy_graph.proofs.Common.{Open, after_attack, after_reply, one_later, if_node, end_at, game, EndsWell, attacks, points_on}
+use Rattle.strategy_graph.proofs.Common.{attacks_at}
 use Rattle.strategy_graph.proofs.Answering.{answer-greatest}
 
 attack_ends : (o : Outcome) (W : Type 0) (d m : ℕ) (e : End) → 1 ≤ d → (W → EndsWell d m e) → WinsOr o W → EndsWell d m (after_attack o e)
@@ -33,27 +28,23 @@ no_reply_ends : (rule : RuleKind) (o : Option Node) (Next : ℕ → Grid → Typ
 no_reply_ends rule o Next d b h = search (rules, attack_ends, not_winning)
 
 step_ends : (rule : RuleKind) (o : Option Node) (Next : ℕ → Grid → Type 0) (d : ℕ → ℕ) (end : ℕ → Grid → End) (m : ℕ)
-    → ((j : ℕ) (c : Grid) → Next j c → EndsWell (d j) m (end j c)) → (b : Grid) (q : Point) → AcceptedNode rule o Next b
-    → EndsWell (node_depth o d) (suc m)
-    (end_at rule o b (λ n. after_reply (outcome rule (after b n.attack) q)
+    → ((j : ℕ) (c : Grid) → Next j c → EndsWell (d j) m (end j c)) → (b : Grid) (q : Point)
+    → AcceptedNode rule o Next b → EndsWell (node_depth o d) (suc m) (end_at rule o b (λ n. after_reply (outcome rule (after b n.attack) q)
     (if_node (answer (answers_of n) q) (λ j. end j (after (after b n.attack) q)))))
 step_ends rule None Next d end m next b q h = absurd h
-step_ends rule (Some n) Next d end m next b q h =
-    attack_ends (outcome rule b n.attack) _ _ (suc m) _ (omega arith) (λ w. rw (not_winning n.rest _ w.0)
-    (reply_ends (outcome rule (after b n.attack) q) _ _ (suc m) _ (omega arith)
+step_ends rule (Some n) Next d end m next b q h = attack_ends (outcome rule b n.attack) _ _
+    (suc m) _ (omega arith) (λ w. rw (not_winning n.rest _ w.0) (reply_ends (outcome rule (after b n.attack) q) _ _ (suc m) _ (omega arith)
     (node_ends_well (answer (answers_of n) q) _ _ (suc m) (λ j. end j (after (after b n.attack) q)) (λ j e k.
     one_later_ends (end j (after (after b n.attack) q)) (d j) _ m (answer-greatest d (answers_of n) q j e)
-    (next j (after (after b n.attack) q) k)))
-    (w.1 q))) h
+    (next j (after (after b n.attack) q) k))) (w.1 q))) h
 
 within_ends : (rule : RuleKind) (t : List Node) (f i : ℕ) (b : Grid) (qs : List Point) → AcceptedWithin f rule t i b
     → EndsWell (depth_within f t i) (length qs) (game rule t i b qs)
 unfolding AcceptedWithin depth_within game
 within_ends rule t zero i b qs h = absurd h
 within_ends rule t (suc f) i b [] h = no_reply_ends rule (slice_get t i) (AcceptedWithin f rule t) (depth_within f t) b h
-within_ends rule t (suc f) i b (q ∷ qs) h =
-    step_ends rule (slice_get t i) (AcceptedWithin f rule t) (depth_within f t) (λ j c. game rule t j c qs) (length qs)
-    (λ j c. within_ends rule t f j c qs) b q h
+within_ends rule t (suc f) i b (q ∷ qs) h = step_ends rule (slice_get t i)
+    (AcceptedWithin f rule t) (depth_within f t) (λ j c. game rule t j c qs) (length qs) (λ j c. within_ends rule t f j c qs) b q h
 
 -- a game from an accepted node ends well, whatever the replies
 pub games-end-well : (rule : RuleKind) (t : List Node) (i : ℕ) (b : Grid) (qs : List Point) → Accepted rule t i b

@@ -7,12 +7,9 @@ use Rattle.std.proofs.lemmas.List.Quantifiers.{position-Some}
 use Rattle.std.proofs.lemmas.Option.{slice_get-get_or}
 use Rattle.std.specs.List.{list_any, AllByRecursion, IsDistinct}
 use Rattle.std.proofs.lemmas.Map.Views.{Contains-from_any}
-use Rattle.strategy_graph.specs.declared.Node.{Node}
-use Rattle.strategy_graph.specs.declared.Rest.{Rest}
-use Rattle.strategy_graph.specs.Same.{same_replies, same_replies_decides}
+use Rattle.strategy_graph.proofs.Common.{Node, Rest, same_replies, same_replies_decides, MAX_NODES}
 use Rattle.strategy_graph.specs.contracts.NodePartialEq.TheImpl.{ghosts as node_ghosts}
 use Rattle.strategy_graph.specs.contracts.RestPartialEq.TheImpl.{ghosts as rest_ghosts}
-use Rattle.strategy_graph.specs.declared.TheConstants.{MAX_NODES}
 use Rattle.game_rules.proofs.Boards.{and_left, and_right}
 use Rattle.game_rules.proofs.Tests.{or_none, or_right}
 
@@ -33,12 +30,11 @@ node_from m n h =
     λ i. record { attack = record { x = x i; y = y i }; replies = replies i; rest = rest i }
 
 node_itself : (n : Node) → node_ghosts.eq n n ≡ true
-node_itself n =
-    rw (
-      (Decides-eqb n.attack.x n.attack.x).1 refl,
-      (Decides-eqb n.attack.y n.attack.y).1 refl,
-      (same_replies_decides n.replies n.replies).1 refl,
-    ) ((rest-eq n.rest n.rest).1 refl)
+node_itself n = rw (
+  (Decides-eqb n.attack.x n.attack.x).1 refl,
+  (Decides-eqb n.attack.y n.attack.y).1 refl,
+  (same_replies_decides n.replies n.replies).1 refl,
+) ((rest-eq n.rest n.rest).1 refl)
 
 pub lt_of_le : (ks : List Node) → length ks ≤ MAX_NODES → (length ks ≡ MAX_NODES → ⊥) → length ks < MAX_NODES
 lt_of_le ks l e = omega arith

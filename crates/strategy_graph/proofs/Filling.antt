@@ -1,20 +1,15 @@
 -- A table that grows says the same at the nodes that it had. Tables that a node is added to, with the depths of their nodes.
-use Rattle.std.proofs.Common.{◌≡◌, ℕ, zero, suc, ◌≤◌, ◌<◌, Bool, true, List, [], ◌∷◌, ◌++◌, length, refl, ap}
-use Rattle.std.proofs.Common.{sym, subst, ◌∙◌, arith, Some, slice_get, nat_lt, ◌+◌, map, ◌⊎◌, inl, inr, length-append}
-use Rattle.std.proofs.Common.{get_or, replicate, append_assoc, Option, None, IfSome, slice_index, rules, ltb-true, lt-ltb}
+use Rattle.std.proofs.Common.{◌≡◌, ℕ, zero, suc, ◌≤◌, ◌<◌, Bool, true, List, [], ◌∷◌, ◌++◌, length, refl, ap, sym, subst, ◌∙◌, arith, Some}
+use Rattle.std.proofs.Common.{slice_get, nat_lt, ◌+◌, map, ◌⊎◌, inl, inr, length-append, get_or, replicate, append_assoc, Option, None}
+use Rattle.std.proofs.Common.{IfSome, slice_index, rules, ltb-true, lt-ltb}
 use Rattle.std.specs.List.{list_all}
 use Rattle.std.proofs.lemmas.Option.{slice_get-get_or}
 use Rattle.std.proofs.lemmas.List.{get_or_push, get_or_append_left, append-nil, length-replicate}
 use Rattle.std.proofs.lemmas.Bool.{cases_lt}
-use Rattle.game_rules.specs.declared.Point.{Point}
+use Rattle.strategy_graph.proofs.Common.{Point, Node, Reply, Rest, MAX_NODES, Wins, Answers, answers_of, named, names_below, NamesLower}
+use Rattle.strategy_graph.proofs.Common.{SaysSame, StartSaysSame, answer, IsNode, IsTable, AreDepths, IsTableWithDepths, greatest}
+use Rattle.strategy_graph.proofs.Common.{node_depth, depth_within, depth, start_depth}
 use Rattle.game_rules.proofs.Boards.{and_left, and_right}
-use Rattle.strategy_graph.specs.declared.Node.{Node}
-use Rattle.strategy_graph.specs.declared.Reply.{Reply}
-use Rattle.strategy_graph.specs.declared.Rest.{Rest}
-use Rattle.strategy_graph.specs.declared.TheConstants.{MAX_NODES}
-use Rattle.strategy_graph.specs.declared.Rest.TheVariants.{Wins}
-use Rattle.strategy_graph.proofs.Common.{Answers, answers_of, named, names_below, NamesLower, SaysSame, StartSaysSame, answer, IsNode}
-use Rattle.strategy_graph.proofs.Common.{IsTable, AreDepths, IsTableWithDepths, greatest, node_depth, depth_within, depth, start_depth}
 use Rattle.strategy_graph.proofs.Copies.{iff_by, renumbered-same, renumbered_answers-same, Copies, depth_within-copied}
 use Rattle.strategy_graph.proofs.Copies.{accepted_within-copied, arrivals_within-copied, game-copied, attacks-copied, Leads-copied}
 use Rattle.strategy_graph.proofs.Starts.{starts-same}
@@ -67,9 +62,8 @@ pub growth-same-start : (t more : List Node) → NamesLower t → (a : Answers) 
     → StartSaysSame t a (t ++ more) a
 growth-same-start t more lower a below =
     let c = growth-Copies t more lower in
-    subst (StartSaysSame t a (t ++ more)) (renumbered_answers-same a)
-    (starts-same (λ j. j) (λ j. nat_lt j (length t)) t (t ++ more)
-    (record {
+    subst
+    (StartSaysSame t a (t ++ more)) (renumbered_answers-same a) (starts-same (λ j. j) (λ j. nat_lt j (length t)) t (t ++ more) (record {
       deep = λ j p. depth_within-copied (λ j. j) _ t (t ++ more) c (suc j) j p;
       accepted = λ rule j p b. accepted_within-copied (λ j. j) _ t (t ++ more) c rule (suc j) j b p;
       count = λ rule j p b. arrivals_within-copied (λ j. j) _ t (t ++ more) c rule (suc j) j b p;
@@ -120,8 +114,7 @@ depth-le t i = within_le (suc i) t i
 greatest_same : (p : ℕ → ℕ) (d : ℕ → ℕ) (k : ℕ) → ((j : ℕ) → j < k → p j ≡ d j) → (js : List ℕ) → list_all (λ j. nat_lt j k) js ≡ true
     → greatest (map p js) ≡ greatest (map d js)
 greatest_same p d k h [] all = refl
-greatest_same p d k h (j ∷ js) all =
-    search (rules, ltb-true, and_left, and_right, greatest_same p d k h js (and_right (nat_lt j k) _ all))
+greatest_same p d k h (j ∷ js) all = search (rules, ltb-true, and_left, and_right, greatest_same p d k h js (and_right (nat_lt j k) _ all))
 
 greatest_under : (p : ℕ → ℕ) (k : ℕ) → ((j : ℕ) → j < k → p j ≤ k) → (js : List ℕ) → list_all (λ j. nat_lt j k) js ≡ true
     → greatest (map p js) ≤ k
@@ -149,8 +142,7 @@ last_node (m ∷ t) n = last_node t n
 added_depth : (t : List Node) (ds : List ℕ) (n : Node) → NamesLower t → NamesLower (t ++ n ∷ []) → AreDepths t ds
     → names_below (answers_of n) (length t) ≡ true
     → depth (t ++ n ∷ []) (length t) ≡ suc (greatest (map (λ j. slice_index ds j) (named (answers_of n))))
-added_depth t ds n lower longer h below =
-    node_depth-at (t ++ n ∷ []) (length t) n longer (last_node t n)
+added_depth t ds n lower longer h below = node_depth-at (t ++ n ∷ []) (length t) n longer (last_node t n)
     ∙ ap suc ((growth-same-start t (n ∷ []) lower (answers_of n) below).same_depth ∙ sym (greatest-depths t ds h (answers_of n) below))
 
 AreDepths-push : (t : List Node) (ds : List ℕ) (n : Node) (d : ℕ) → NamesLower t → AreDepths t ds → d ≡ depth (t ++ n ∷ []) (length t)

@@ -1,16 +1,11 @@
 -- One move on from an accepted node or start: its attack is a legal move, and the node that answers a reply is accepted where it
 -- leads, and is no deeper.
-use Rattle.std.proofs.Common.{◌≡◌, ℕ, zero, suc, ◌<◌, ◌≤◌, List, [], ◌∷◌, length, arith, true, Option}
-use Rattle.std.proofs.Common.{Some, IsSomeAnd, slice_get, rules, option_map, option_and_then}
-use Rattle.game_rules.proofs.Common.{Grid, is_empty, outcome, after, WinsOr, LosesOr}
+use Rattle.std.proofs.Common.{◌≡◌, ℕ, zero, suc, ◌<◌, ◌≤◌, List, [], ◌∷◌, length, arith, true, Option, Some, IsSomeAnd, slice_get, rules}
+use Rattle.std.proofs.Common.{option_map, option_and_then}
+use Rattle.strategy_graph.proofs.Common.{Grid, is_empty, outcome, after, WinsOr, LosesOr, RuleKind, GoesOn, Point, Node, Answers}
+use Rattle.strategy_graph.proofs.Common.{answers_of, answer, answer_at, IsTable, depth, start_depth, AcceptedNode, AcceptedWithin, Accepted}
 use Rattle.game_rules.proofs.Games.{WinsOr-map}
-use Rattle.game_rules.specs.declared.RuleKind.{RuleKind}
-use Rattle.game_rules.specs.declared.Outcome.TheVariants.{GoesOn}
-use Rattle.game_rules.specs.declared.Point.{Point}
 use Rattle.game_rules.proofs.Outcomes.{empty_at}
-use Rattle.strategy_graph.specs.declared.Node.{Node}
-use Rattle.strategy_graph.proofs.Common.{Answers, answers_of, answer, answer_at, IsTable, depth, start_depth, AcceptedNode, AcceptedWithin}
-use Rattle.strategy_graph.proofs.Common.{Accepted}
 use Rattle.strategy_graph.proofs.Answering.{answer-greatest}
 use Rattle.strategy_graph.proofs.Fuel.{accepted-step}
 use Rattle.strategy_graph.proofs.Filling.{IsTable-lower}
@@ -33,8 +28,7 @@ accepted-in_table rule t i b h = let there = accepted-node rule t i b h in insid
 
 -- where the attack goes on, each reply is no move, fouls, or goes on to a board where the answer to it is accepted
 replies_by : (rule : RuleKind) (o : Option Node) (Next : ℕ → Grid → Type 0) (b : Grid) (p : Point) → option_map (λ n. n.attack) o ≡ Some p
-    → AcceptedNode rule o Next b → outcome rule b p ≡ GoesOn
-    → (q : Point) → LosesOr (outcome rule (after b p) q)
+    → AcceptedNode rule o Next b → outcome rule b p ≡ GoesOn → (q : Point) → LosesOr (outcome rule (after b p) q)
     (IsSomeAnd (option_and_then (λ n. answer (answers_of n) q) o) (λ j. Next j (after (after b p) q)))
 replies_by rule o Next b p e h go q = search rules
 

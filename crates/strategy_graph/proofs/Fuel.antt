@@ -1,15 +1,11 @@
 -- Depth, acceptance and arrivals of a node by those of the nodes that it names. The bound on the nodes that follow
 -- one another changes nothing once it is above the number of the node.
-use Rattle.std.proofs.Common.{◌≡◌, ℕ, zero, suc, ◌<◌, true, List, refl, sym, ap, ◌∙◌, arith, ◌≤◌, false, Option}
-use Rattle.std.proofs.Common.{Some, None, slice_get, nat_lt, rules, ltb-true}
+use Rattle.std.proofs.Common.{◌≡◌, ℕ, zero, suc, ◌<◌, true, List, refl, sym, ap, ◌∙◌, arith, ◌≤◌, false, Option, Some, None, slice_get}
+use Rattle.std.proofs.Common.{nat_lt, rules, ltb-true}
 use Rattle.std.specs.List.{list_all}
-use Rattle.game_rules.proofs.Common.{Grid, outcome, after, WinsOr}
-use Rattle.game_rules.specs.declared.RuleKind.{RuleKind}
-use Rattle.game_rules.specs.declared.Point.{Point}
-use Rattle.strategy_graph.specs.declared.Node.{Node}
-use Rattle.strategy_graph.proofs.Common.{answers_of, named, names_below, NamesLower, node_depth, depth_within, depth, is_winning, answer}
-use Rattle.strategy_graph.proofs.Common.{AcceptedNode, AcceptedWithin, Accepted, Meets, arrivals_behind, arrivals_within, arrivals}
-use Rattle.strategy_graph.proofs.Common.{renumbered_node}
+use Rattle.strategy_graph.proofs.Common.{Grid, outcome, after, WinsOr, RuleKind, Point, Node, answers_of, named, names_below, NamesLower}
+use Rattle.strategy_graph.proofs.Common.{node_depth, depth_within, depth, is_winning, answer, AcceptedNode, AcceptedWithin, Accepted, Meets}
+use Rattle.strategy_graph.proofs.Common.{arrivals_behind, arrivals_within, arrivals, renumbered_node}
 use Rattle.strategy_graph.proofs.Copies.{renumbered-same, depths-copied, accepted_node-copied, arrivals_behind-copied}
 use Rattle.strategy_graph.proofs.Answering.{answer-greatest}
 
@@ -27,8 +23,7 @@ module _ (t : List Node) (lower : NamesLower t) where
   unfolding depth_within
   depth_within-enough zero m i l h = absurd (omega arith)
   depth_within-enough (suc k) zero i l h = absurd (omega arith)
-  depth_within-enough (suc k) (suc m) i l h =
-      by_node ℕ (λ o. node_depth o (depth_within k t)) (λ o. node_depth o (depth_within m t)) i refl
+  depth_within-enough (suc k) (suc m) i l h = by_node ℕ (λ o. node_depth o (depth_within k t)) (λ o. node_depth o (depth_within m t)) i refl
       (λ n all. ap suc (depths-copied (λ j. j) _ (answers_of n) all (depth_within k t) (depth_within m t)
       (λ j e. let low : j < i = ltb-true _ _ e in depth_within-enough k m j (omega (arith, low, l)) (omega (arith, low, h)))))
 
@@ -40,27 +35,23 @@ module _ (t : List Node) (lower : NamesLower t) where
   accepted_within-enough rule (suc k) (suc m) i b l h =
       by_node (Type 0) (λ o. AcceptedNode rule o (AcceptedWithin k rule t) b) (λ o. AcceptedNode rule o (AcceptedWithin m rule t) b) i refl
       (λ n all. accepted_node-copied (λ j. j) _ n all rule (AcceptedWithin k rule t) (AcceptedWithin m rule t)
-      (λ j e c. let low : j < i = ltb-true _ _ e in accepted_within-enough rule k m j c (omega (arith, low, l)) (omega (arith, low, h)))
-      b)
+      (λ j e c. let low : j < i = ltb-true _ _ e in accepted_within-enough rule k m j c (omega (arith, low, l)) (omega (arith, low, h))) b)
 
   pub arrivals_within-enough : (rule : RuleKind) (k m i : ℕ) (b : Grid) → i < k → i < m
       → arrivals_within m rule t i b ≡ arrivals_within k rule t i b
   unfolding arrivals_within
   arrivals_within-enough rule zero m i b l h = absurd (omega arith)
   arrivals_within-enough rule (suc k) zero i b l h = absurd (omega arith)
-  arrivals_within-enough rule (suc k) (suc m) i b l h =
-      by_node ℕ (λ o. suc (arrivals_behind rule o (arrivals_within k rule t) b))
+  arrivals_within-enough rule (suc k) (suc m) i b l h = by_node ℕ (λ o. suc (arrivals_behind rule o (arrivals_within k rule t) b))
       (λ o. suc (arrivals_behind rule o (arrivals_within m rule t) b)) i refl
       (λ n all. ap suc (arrivals_behind-copied (λ j. j) _ n all rule (arrivals_within k rule t) (arrivals_within m rule t)
-      (λ j e c. let low : j < i = ltb-true _ _ e in arrivals_within-enough rule k m j c (omega (arith, low, l)) (omega (arith, low, h)))
-      b))
+      (λ j e c. let low : j < i = ltb-true _ _ e in arrivals_within-enough rule k m j c (omega (arith, low, l)) (omega (arith, low, h))) b))
 
   -- ---- each by the nodes that are named
 
   pub depth-step : (i : ℕ) → depth t i ≡ node_depth (slice_get t i) (depth t)
   unfolding depth_within
-  depth-step i =
-      by_node ℕ (λ o. node_depth o (depth t)) (λ o. node_depth o (depth_within i t)) i refl
+  depth-step i = by_node ℕ (λ o. node_depth o (depth t)) (λ o. node_depth o (depth_within i t)) i refl
       (λ n all. ap suc (depths-copied (λ j. j) _ (answers_of n) all (depth t) (depth_within i t)
       (λ j e. depth_within-enough (suc j) i j (omega arith) (ltb-true _ _ e))))
 
@@ -76,8 +67,7 @@ module _ (t : List Node) (lower : NamesLower t) where
   unfolding arrivals_within
   arrivals-step rule i b =
       by_node ℕ (λ o. suc (arrivals_behind rule o (arrivals rule t) b)) (λ o. suc (arrivals_behind rule o (arrivals_within i rule t) b)) i
-      refl
-      (λ n all. ap suc (arrivals_behind-copied (λ j. j) _ n all rule (arrivals rule t) (arrivals_within i rule t)
+      refl (λ n all. ap suc (arrivals_behind-copied (λ j. j) _ n all rule (arrivals rule t) (arrivals_within i rule t)
       (λ j e c. arrivals_within-enough rule (suc j) i j c (omega arith) (ltb-true _ _ e)) b))
 
 -- a node that is accepted is there, and so has a depth of 1 or more
@@ -96,9 +86,8 @@ unfolding depth_within
 deeper t i n k q j e w = let low = answer-greatest (depth_within k t) (answers_of n) q j w in rw e (omega (arith, low))
 
 -- an accepted node is one of the table
-pub accepted_node : (rule : RuleKind) (t : List Node) (j : ℕ) (b : Grid) (f : ℕ) → AcceptedWithin f rule t j b
-    → (k : ℕ) × (n : Node) × (f ≡ suc k) × (slice_get t j ≡ Some n)
-    × WinsOr (outcome rule b n.attack)
+pub accepted_node : (rule : RuleKind) (t : List Node) (j : ℕ) (b : Grid) (f : ℕ)
+    → AcceptedWithin f rule t j b → (k : ℕ) × (n : Node) × (f ≡ suc k) × (slice_get t j ≡ Some n) × WinsOr (outcome rule b n.attack)
     ((is_winning n.rest ≡ false) × ((q : Point) → Meets rule (answers_of n) (AcceptedWithin k rule t) (after b n.attack) q))
 unfolding AcceptedWithin
 accepted_node rule t j b f h = search rules

@@ -1,10 +1,8 @@
 -- The greatest of the numbers that a list of nodes gives, and the best of them so far.
-use Rattle.std.proofs.Common.{rules}
-use Rattle.std.proofs.Common.{ℕ, suc, ◌≤◌, refl, arith, List, [], ◌∷◌, map, subst, ◌≡◌, zero, ap, max, ◌++◌, Contains}
+use Rattle.std.proofs.Common.{rules, ℕ, suc, ◌≤◌, refl, arith, List, [], ◌∷◌, map, subst, ◌≡◌, zero, ap, max, ◌++◌, Contains}
 use Rattle.std.specs.List.{AllByRecursion}
 use Rattle.std.proofs.lemmas.List.Elements.{All-from_recursion}
-use Rattle.strategy_graph.specs.Tables.{greatest}
-use Rattle.strategy_graph.specs.declared.Reply.{Reply}
+use Rattle.strategy_graph.proofs.Common.{greatest, Reply}
 
 pub greatest-each : (d : ℕ → ℕ) (k : ℕ) (js : List ℕ) → ((j : ℕ) → Contains js j → d j ≤ k) → greatest (map d js) ≤ k
 greatest-each d k [] h = omega arith

@@ -1,15 +1,12 @@
 -- Nodes at their places in a table, and in one that grows. The nodes that answers name, and the greatest of their depths.
-use Rattle.std.proofs.Common.{◌≡◌, ℕ, zero, suc, ◌<◌, List, [], ◌∷◌, ◌++◌, length, arith, refl, Some, slice_get, max}
-use Rattle.std.proofs.Common.{Bool, true, false, ◌&&◌, map, get_or, sym, ap, ◌∙◌, subst, nat_lt, None, All, rules, ltb-true}
+use Rattle.std.proofs.Common.{◌≡◌, ℕ, zero, suc, ◌<◌, List, [], ◌∷◌, ◌++◌, length, arith, refl, Some, slice_get, max, Bool, true, false}
+use Rattle.std.proofs.Common.{◌&&◌, map, get_or, sym, ap, ◌∙◌, subst, nat_lt, None, All, rules, ltb-true}
 use Rattle.std.specs.List.{list_all}
 use Rattle.std.proofs.lemmas.Option.{same_Some}
 use Rattle.std.proofs.lemmas.List.Folds.{list_all-append, list_all-map}
 use Rattle.std.proofs.lemmas.List.Sums.{AllPass-from_list_all}
 use Rattle.game_rules.proofs.Boards.{and_left, and_right}
-use Rattle.strategy_graph.specs.declared.Node.{Node}
-use Rattle.strategy_graph.specs.declared.Reply.{Reply}
-use Rattle.strategy_graph.specs.declared.Rest.{Rest}
-use Rattle.strategy_graph.proofs.Common.{Answers, named, names_below, rest_nodes, rest_node, greatest}
+use Rattle.strategy_graph.proofs.Common.{Node, Reply, Rest, Answers, named, names_below, rest_nodes, rest_node, greatest}
 
 pub slice_get-shorter : (t more : List Node) (i : ℕ) (n : Node) → i < length t → slice_get (t ++ more) i ≡ Some n → slice_get t i ≡ Some n
 slice_get-shorter [] more i n l h = absurd (omega arith)

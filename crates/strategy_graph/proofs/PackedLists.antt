@@ -1,7 +1,6 @@
 -- Nodes in one list, and the replies of all of them in another: the node at its place, and one that is added.
 use Rattle.std.proofs.Common.{◌≡◌, ℕ, zero, suc, ◌≤◌, ◌<◌, ◌+◌, List, [], ◌∷◌, ◌++◌, length, get_or, slice_get, Some, refl, arith, rules}
-use Rattle.std.proofs.Common.{ap, sym, subst, length-append}
-use Rattle.std.specs.List.{slice_range}
+use Rattle.std.proofs.Common.{ap, sym, subst, length-append, slice_range}
 use Rattle.std.proofs.lemmas.List.{take-append-le, drop-append-le, drop_at, take_all, length-drop}
 use Rattle.strategy_graph.specs.declared.Reply.{Reply}
 use Rattle.strategy_graph.specs.declared.packing.Packed.{Packed}
@@ -66,8 +65,7 @@ ends-push start (q ∷ ps) p rs more h e = (h.0, ends-push q.end ps p rs more h.
 pub nodes-push : (start : ℕ) (ps : List Packed) (p : Packed) (rs more : List Reply) → AreEnds start ps (length rs)
     → p.end ≡ length rs + length more → nodes_from start (ps ++ p ∷ []) (rs ++ more)
     ≡ nodes_from start ps rs ++ record { attack = p.attack; replies = more; rest = p.rest } ∷ []
-nodes-push start [] p rs more h e =
-    ap (λ (ss : List Reply). record { attack = p.attack; replies = ss; rest = p.rest } ∷ [])
+nodes-push start [] p rs more h e = ap (λ (ss : List Reply). record { attack = p.attack; replies = ss; rest = p.rest } ∷ [])
     (subst (λ (s : ℕ). slice_range (rs ++ more) s p.end ≡ more) (sym h) (range-last rs more p.end e))
 nodes-push start (q ∷ ps) p rs more h e =
     let here = range-longer rs more start q.end h.0 (ends-rise q.end ps (length rs) h.1) in

@@ -3,12 +3,8 @@ use Rattle.std.proofs.Common.{ℕ, true, List, [], ◌∷◌, ◌++◌, ◌≡�
 use Rattle.std.proofs.Common.{get_or, Option, Some, None, Contains, fold, nat_eq, rules}
 use Rattle.std.specs.List.{AllByRecursion}
 use Rattle.std.specs.Option.{option_eq}
-use Rattle.game_rules.specs.declared.Point.{Point}
-use Rattle.strategy_graph.specs.declared.Rest.{Rest}
-use Rattle.strategy_graph.specs.declared.Rest.TheVariants.{Wins, To, Nothing}
-use Rattle.strategy_graph.specs.declared.Reply.{Reply}
-use Rattle.strategy_graph.specs.declared.Node.{Node}
-use Rattle.strategy_graph.proofs.Common.{AtNode, rest_nodes, is_winning, rest_node, Answers, answer}
+use Rattle.strategy_graph.proofs.Common.{Point, Rest, Wins, To, Nothing, Reply, Node, AtNode, rest_nodes, is_winning, rest_node, Answers}
+use Rattle.strategy_graph.proofs.Common.{answer}
 
 pub data Pairs (R : ℕ → ℕ → Type 0) : List ℕ → List ℕ → Type 0 where
   Ends : Pairs R [] []
@@ -129,11 +125,10 @@ bare-pair R n m attack rest none e f = record {
   attack = attack;
   winning = ap is_winning rest;
   points = ap (map (λ r. r.at)) (e ∙ sym f);
-  rests = subst (λ (r : Rest). Pairs R (rest_nodes r) (rest_nodes m.rest)) (sym rest)
-      (subst (λ (js : List ℕ). Pairs R js js) (sym none) Ends);
-  nexts =
-      subst (λ (rs : List Reply). Pairs R (map (λ r. r.next) rs) (map (λ r. r.next) m.replies)) (sym e)
-      (subst (λ (rs : List Reply). Pairs R [] (map (λ r. r.next) rs)) (sym f) Ends);
+  rests =
+      subst (λ (r : Rest). Pairs R (rest_nodes r) (rest_nodes m.rest)) (sym rest) (subst (λ (js : List ℕ). Pairs R js js) (sym none) Ends);
+  nexts = subst (λ (rs : List Reply). Pairs R (map (λ r. r.next) rs) (map (λ r. r.next) m.replies))
+      (sym e) (subst (λ (rs : List Reply). Pairs R [] (map (λ r. r.next) rs)) (sym f) Ends);
 }
 
 pub AtNode-some : (o : Option Node) (n : Node) (P : Node → Type 0) → o ≡ Some n → AtNode o P → P n
@@ -166,15 +161,13 @@ answer-pair R a b [] q j k h (m, l, e) x y = absurd (omega arith)
 answer-pair R a b (p ∷ qs) q j k h (zero, l, e) x y = search (rules, some-pair)
 answer-pair R a b (p ∷ qs) q j k h (suc m, l, e) x y = answer-pair R a b qs q j k h.2 (m, omega arith, e) x y
 
-pub listed-pairs : (R : ℕ → ℕ → Type 0) (a b : Answers) (qs : List Point) (rs ss : List Reply) → AnswerPairs R a b qs
-    → map (λ r. r.at) rs ≡ map (λ s. s.at) ss
+pub listed-pairs : (R : ℕ → ℕ → Type 0) (a b : Answers) (qs : List Point) (rs ss : List Reply)
+    → AnswerPairs R a b qs → map (λ r. r.at) rs ≡ map (λ s. s.at) ss
     → ((q : Point) → Contains (map (λ r. r.at) rs) q → Contains qs q) → AllByRecursion (λ r. answer a r.at ≡ Some r.next) rs
-    → AllByRecursion (λ r. answer b r.at ≡ Some r.next) ss
-    → Pairs R (map (λ r. r.next) rs) (map (λ s. s.next) ss)
+    → AllByRecursion (λ r. answer b r.at ≡ Some r.next) ss → Pairs R (map (λ r. r.next) rs) (map (λ s. s.next) ss)
 listed-pairs R a b qs [] [] h e inside x y = Ends
 listed-pairs R a b qs [] (s ∷ ss) h e inside x y = cc
 listed-pairs R a b qs (r ∷ rs) [] h e inside x y = cc
-listed-pairs R a b qs (r ∷ rs) (s ∷ ss) h e inside x y =
-    Goes r.next s.next _ _
+listed-pairs R a b qs (r ∷ rs) (s ∷ ss) h e inside x y = Goes r.next s.next _ _
     (answer-pair R a b qs r.at r.next s.next h (inside r.at (0, omega arith, refl)) x.0 (ap (answer b) (cons-first _ _ _ _ e) ∙ y.0))
     (listed-pairs R a b qs rs ss h (cons-others _ _ _ _ e) (λ q c. inside q (suc c.0, omega arith, c.2)) x.1 y.1)

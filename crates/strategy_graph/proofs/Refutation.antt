@@ -1,14 +1,7 @@
 -- A line that leads to a fault refutes acceptance.
 use Rattle.std.proofs.Common.{◌≡◌, ℕ, zero, suc, List, [], ◌∷◌, Option, Some, slice_get, false, rules, IsSomeAnd}
-use Rattle.game_rules.proofs.Common.{Grid, outcome, after, WinsOr, LosesOr}
-use Rattle.game_rules.specs.declared.RuleKind.{RuleKind}
-use Rattle.game_rules.specs.declared.Outcome.{Outcome}
-use Rattle.game_rules.specs.declared.Outcome.TheVariants.{GoesOn}
-use Rattle.game_rules.specs.declared.Point.{Point}
-use Rattle.strategy_graph.specs.declared.Rest.{Rest}
-use Rattle.strategy_graph.specs.declared.Node.{Node}
-use Rattle.strategy_graph.specs.declared.Why.{Why}
-use Rattle.strategy_graph.proofs.Common.{Answers, answers_of, answer, AcceptedNode, AcceptedWithin, Accepted, is_winning, AcceptedStart}
+use Rattle.strategy_graph.proofs.Common.{Grid, outcome, after, WinsOr, LosesOr, RuleKind, Outcome, GoesOn, Point, Rest, Node, Why, Answers}
+use Rattle.strategy_graph.proofs.Common.{answers_of, answer, AcceptedNode, AcceptedWithin, Accepted, is_winning, AcceptedStart}
 use Rattle.strategy_graph.proofs.Common.{attack_fault, reply_fault, AtNode, ReplyLeads, Leads, LeadsStart}
 
 -- an attack with a fault neither wins nor goes on from a node that is no winning one
@@ -45,9 +38,8 @@ unfolding AcceptedWithin Leads
 within_refutes rule t zero i b line why h k = k
 within_refutes rule t (suc f) i b [] why h k = h
 within_refutes rule t (suc f) i b (p ∷ []) why h k = last_refutes rule (slice_get t i) (AcceptedWithin f rule t) b p why h k
-within_refutes rule t (suc f) i b (p ∷ q ∷ line) why h k =
-    step_refutes rule (slice_get t i) (AcceptedWithin f rule t) (λ j c. Leads rule t j c line why) b p q line why
-    (λ j c. within_refutes rule t f j c line why) h k
+within_refutes rule t (suc f) i b (p ∷ q ∷ line) why h k = step_refutes rule (slice_get t i)
+    (AcceptedWithin f rule t) (λ j c. Leads rule t j c line why) b p q line why (λ j c. within_refutes rule t f j c line why) h k
 
 -- a node from which a line leads to a fault is not accepted
 pub leads-refutes : (rule : RuleKind) (t : List Node) (i : ℕ) (b : Grid) (line : List Point) (why : Why) → Leads rule t i b line why

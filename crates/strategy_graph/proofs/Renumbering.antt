@@ -1,25 +1,18 @@
 -- A table that holds copies of nodes of another, under other numbers, says the same at them: what a compiler of
 -- tables needs.
-use Rattle.std.proofs.Common.{rules, ◌≡◌, ℕ, suc, ◌+◌, Bool, true, List, ◌∙◌, arith, refl, ap, [], ◌∷◌, map, sym}
-use Rattle.std.proofs.Common.{◌&&◌, ◌==◌, ◌<◌, nat_lt, option_map, lt-ltb}
-use Rattle.game_rules.proofs.Common.{Grid, precedes}
-use Rattle.game_rules.specs.declared.RuleKind.{RuleKind}
+use Rattle.std.proofs.Common.{rules, ◌≡◌, ℕ, suc, ◌+◌, Bool, true, List, ◌∙◌, arith, refl, ap, [], ◌∷◌, map, sym, ◌&&◌, ◌==◌, ◌<◌, nat_lt}
+use Rattle.std.proofs.Common.{option_map, lt-ltb}
+use Rattle.strategy_graph.proofs.Common.{Grid, precedes, RuleKind, Point, Node, Answers, NamesLower, depth, named, rest_nodes, answers_of}
+use Rattle.strategy_graph.proofs.Common.{is_rising, rest_node, IsNode, renumbered_answers, renumbered_rest, renumbered_reply}
+use Rattle.strategy_graph.proofs.Common.{renumbered_node, Accepted, arrivals, SaysSame, StartSaysSame, Rest, Wins, To, Nothing, Reply}
 use Rattle.game_rules.proofs.Boards.{and_left, and_right}
-use Rattle.game_rules.specs.declared.Point.{Point}
-use Rattle.strategy_graph.specs.declared.Node.{Node}
 use Rattle.std.specs.List.{list_all}
 use Rattle.std.proofs.lemmas.List.Folds.{list_all-append}
 use Rattle.std.proofs.lemmas.Bool.Decides.{Decides-eqb}
-use Rattle.strategy_graph.proofs.Common.{Answers, NamesLower, depth, named, rest_nodes, answers_of, is_rising, rest_node, IsNode}
-use Rattle.strategy_graph.proofs.Common.{renumbered_answers, renumbered_rest, renumbered_reply, renumbered_node, Accepted, arrivals}
-use Rattle.strategy_graph.proofs.Common.{SaysSame, StartSaysSame}
 use Rattle.strategy_graph.proofs.Copies.{iff_by, Copies, depth_within-copied, accepted_within-copied, arrivals_within-copied, game-copied}
 use Rattle.strategy_graph.proofs.Copies.{attacks-copied, Leads-copied, named-renumbered, is_winning-renumbered}
 use Rattle.strategy_graph.proofs.Starts.{starts-same}
 use Rattle.strategy_graph.proofs.Fuel.{depth_within-enough, accepted_within-enough, arrivals_within-enough}
-use Rattle.strategy_graph.specs.declared.Rest.{Rest}
-use Rattle.strategy_graph.specs.declared.Rest.TheVariants.{Wins, To, Nothing}
-use Rattle.strategy_graph.specs.declared.Reply.{Reply}
 use Rattle.strategy_graph.proofs.Pairs.{cons-first, cons-others}
 
 module _ (f : ℕ → ℕ) (passes : ℕ → Bool) (t u : List Node) (copies : Copies f passes t u) (lower : NamesLower t) (lower' : NamesLower u)
@@ -30,22 +23,18 @@ module _ (f : ℕ → ℕ) (passes : ℕ → Bool) (t u : List Node) (copies : C
 
   depth-copied : depth u (f i) ≡ depth t i
   unfolding most
-  depth-copied =
-      depth_within-enough u lower' most (suc (f i)) (f i) (omega arith) (omega arith)
-      ∙ depth_within-copied f passes t u copies most i p
-      ∙ depth_within-enough t lower (suc i) most i (omega arith) (omega arith)
+  depth-copied = depth_within-enough u lower' most (suc (f i)) (f i) (omega arith) (omega arith)
+      ∙ depth_within-copied f passes t u copies most i p ∙ depth_within-enough t lower (suc i) most i (omega arith) (omega arith)
 
   accepted-copied : (rule : RuleKind) (b : Grid) → Accepted rule u (f i) b ≡ Accepted rule t i b
   unfolding most
-  accepted-copied rule b =
-      accepted_within-enough u lower' rule most (suc (f i)) (f i) b (omega arith) (omega arith)
+  accepted-copied rule b = accepted_within-enough u lower' rule most (suc (f i)) (f i) b (omega arith) (omega arith)
       ∙ accepted_within-copied f passes t u copies rule most i b p
       ∙ accepted_within-enough t lower rule (suc i) most i b (omega arith) (omega arith)
 
   arrivals-copied : (rule : RuleKind) (b : Grid) → arrivals rule u (f i) b ≡ arrivals rule t i b
   unfolding most
-  arrivals-copied rule b =
-      arrivals_within-enough u lower' rule most (suc (f i)) (f i) b (omega arith) (omega arith)
+  arrivals-copied rule b = arrivals_within-enough u lower' rule most (suc (f i)) (f i) b (omega arith) (omega arith)
       ∙ arrivals_within-copied f passes t u copies rule most i b p
       ∙ arrivals_within-enough t lower rule (suc i) most i b (omega arith) (omega arith)
 
@@ -56,14 +45,12 @@ module _ (f : ℕ → ℕ) (passes : ℕ → Bool) (t u : List Node) (copies : C
 -- a start with the numbers of the copies says what the start says
 pub copies-same-start : (f : ℕ → ℕ) (passes : ℕ → Bool) (t u : List Node) → Copies f passes t u → NamesLower t → NamesLower u
     → (a : Answers) → list_all passes (named a) ≡ true → StartSaysSame t a u (renumbered_answers f a)
-copies-same-start f passes t u copies lower lower' a all =
-    starts-same f passes t u
-    (record {
-      deep = λ j p. depth-copied f passes t u copies lower lower' j p;
-      accepted = λ rule j p b. accepted-copied f passes t u copies lower lower' j p rule b;
-      count = λ rule j p b. arrivals-copied f passes t u copies lower lower' j p rule b;
-      leads = λ rule line why j p b. Leads-copied f passes t u copies rule j b line why p;
-    }) a all
+copies-same-start f passes t u copies lower lower' a all = starts-same f passes t u (record {
+  deep = λ j p. depth-copied f passes t u copies lower lower' j p;
+  accepted = λ rule j p b. accepted-copied f passes t u copies lower lower' j p rule b;
+  count = λ rule j p b. arrivals-copied f passes t u copies lower lower' j p rule b;
+  leads = λ rule line why j p b. Leads-copied f passes t u copies rule j b line why p;
+}) a all
 
 -- it matters only what is put for the numbers that are named
 pub renumbered_rest-agree : (f g : ℕ → ℕ) (passes : ℕ → Bool) → ((j : ℕ) → passes j ≡ true → f j ≡ g j) → (rest : Rest)
@@ -145,8 +132,7 @@ module _ (f : ℕ → ℕ) (passes : ℕ → Bool) (one : IsOneToOne f passes) w
       let parts = sym (list_all-append passes (map (λ (r : Reply). r.next) n.replies) (rest_nodes n.rest)) ∙ h in
       let parts' = sym (list_all-append passes (map (λ (r : Reply). r.next) m.replies) (rest_nodes m.rest)) ∙ k in
       let attack : n.attack ≡ m.attack = ap (λ (x : Node). x.attack) e in
-      let replies : n.replies ≡ m.replies =
-      replies-renumbered n.replies m.replies (and_left _ (list_all passes (rest_nodes n.rest)) parts)
+      let replies : n.replies ≡ m.replies = replies-renumbered n.replies m.replies (and_left _ (list_all passes (rest_nodes n.rest)) parts)
       (and_left _ (list_all passes (rest_nodes m.rest)) parts') (ap (λ (x : Node). x.replies) e) in
       let rest : n.rest ≡ m.rest =
       rests-renumbered n.rest m.rest (and_right (list_all passes (map (λ (r : Reply). r.next) n.replies)) _ parts)

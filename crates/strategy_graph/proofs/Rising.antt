@@ -7,13 +7,11 @@ use Rattle.std.proofs.lemmas.List.Sums.{AllPass-from_list_all}
 use Rattle.std.proofs.Math.ListN.{drop_of_length-le}
 use Rattle.std.proofs.lemmas.List.{length-map, get_or-map}
 use borrow.Author.Tests.{lt-ltb}
-use Rattle.game_rules.specs.declared.Point.{Point}
-use Rattle.game_rules.proofs.Common.{Grid, points_of, precedes, is_same_point}
+use Rattle.strategy_graph.proofs.Common.{Point, Grid, points_of, precedes, is_same_point, Reply, is_rising, listed_node, Answers, answer}
+use Rattle.strategy_graph.proofs.Common.{rest_node}
 use Rattle.game_rules.proofs.ReadingOrder.{From, Following, rows-following, later, filter-following, precedes-from}
 use Rattle.game_rules.proofs.Boards.{and_left, and_right}
 use Rattle.game_rules.proofs.Points.{is_same_point-itself, precedes-trans, precedes-differs, precedes-differs_back, is_same_point-same}
-use Rattle.strategy_graph.specs.declared.Reply.{Reply}
-use Rattle.strategy_graph.proofs.Common.{is_rising, listed_node, Answers, answer, rest_node}
 
 -- ---- replies at such points
 
@@ -22,26 +20,21 @@ all-after : (p : Point) (y x : ℕ) (rs : List Reply) → ((q : Point) → From 
 unfolding Following
 all-after p y x [] f h = refl
 all-after p y x (r ∷ rs) f h =
-    rw (precedes-from p r.at (f r.at h.0))
-    (all-after p r.at.y (r.at.x + 1) rs (λ q k. later r.at q k p.y (p.x + 1) (f r.at h.0)) h.1)
+    rw (precedes-from p r.at (f r.at h.0)) (all-after p r.at.y (r.at.x + 1) rs (λ q k. later r.at q k p.y (p.x + 1) (f r.at h.0)) h.1)
 
 replies-rise : (y x : ℕ) (rs : List Reply) → Following y x (map (λ r. r.at) rs) → is_rising rs ≡ true
 unfolding Following
 replies-rise y x [] h = refl
-replies-rise y x (r ∷ rs) h =
-    rw (all-after r.at r.at.y (r.at.x + 1) rs (λ q k. k) h.1)
-    (replies-rise r.at.y (r.at.x + 1) rs h.1)
+replies-rise y x (r ∷ rs) h = rw (all-after r.at r.at.y (r.at.x + 1) rs (λ q k. k) h.1) (replies-rise r.at.y (r.at.x + 1) rs h.1)
 
 -- replies at the points of a board that pass a test, in reading order, rise
 pub replies-rising : (b : Grid) (f : Point → Bool) (rs : List Reply) → map (λ r. r.at) rs ≡ filter f (points_of b) → is_rising rs ≡ true
-replies-rising b f rs e =
-    replies-rise 0 0 rs (subst (λ (ps : List Point). Following 0 0 ps) (sym e)
-    (filter-following f 0 0 (points_of b) (rows-following b.width 0 b.height)))
+replies-rising b f rs e = replies-rise 0 0 rs
+    (subst (λ (ps : List Point). Following 0 0 ps) (sym e) (filter-following f 0 0 (points_of b) (rows-following b.width 0 b.height)))
 
 -- and so do replies at all points
 pub points-rising : (b : Grid) (rs : List Reply) → map (λ r. r.at) rs ≡ points_of b → is_rising rs ≡ true
-points-rising b rs e =
-    replies-rise 0 0 rs (subst (λ (ps : List Point). Following 0 0 ps) (sym e) (rows-following b.width 0 b.height))
+points-rising b rs e = replies-rise 0 0 rs (subst (λ (ps : List Point). Following 0 0 ps) (sym e) (rows-following b.width 0 b.height))
 
 -- each reply comes after the one before it, and the first after p
 abbrev pub climbs : Point → List Reply → Bool
@@ -86,8 +79,7 @@ pub listed-kept : (f : Reply → Bool) (rs : List Reply) (k : ℕ) (d : Reply) �
     → listed_node (filter f rs) (get_or rs k d).at ≡ Some (get_or rs k d).next
 listed-kept f [] k d h l e = absurd (omega arith)
 listed-kept f (r ∷ rs) zero d h l e = rw (e, is_same_point-itself r.at) refl
-listed-kept f (r ∷ rs) (suc k) d h l e =
-    by_test (f r) (after_head r rs k d h (omega arith))
+listed-kept f (r ∷ rs) (suc k) d h l e = by_test (f r) (after_head r rs k d h (omega arith))
     (listed-kept f rs k d (and_right (list_all (λ s. precedes r.at s.at) rs) _ h) (omega arith) e) where
       by_test : (b : Bool) → is_same_point r.at (get_or rs k d).at ≡ false
           → listed_node (filter f rs) (get_or rs k d).at ≡ Some (get_or rs k d).next
@@ -102,8 +94,7 @@ all_filter p f (r ∷ rs) h = search (rules, and_left, and_right, all_filter p f
 -- rising replies rise where some are left out
 pub is_rising-filter : (f : Reply → Bool) (rs : List Reply) → is_rising rs ≡ true → is_rising (filter f rs) ≡ true
 is_rising-filter f [] h = refl
-is_rising-filter f (r ∷ rs) h =
-    by_test (f r) (all_filter (λ s. precedes r.at s.at) f rs (and_left _ _ h))
+is_rising-filter f (r ∷ rs) h = by_test (f r) (all_filter (λ s. precedes r.at s.at) f rs (and_left _ _ h))
     (is_rising-filter f rs (and_right (list_all (λ s. precedes r.at s.at) rs) _ h)) where
       by_test : (b : Bool) → list_all (λ s. precedes r.at s.at) (filter f rs) ≡ true → is_rising (filter f rs) ≡ true
           → is_rising (cond b (r ∷ filter f rs) (filter f rs)) ≡ true
@@ -114,8 +105,7 @@ is_rising-filter f (r ∷ rs) h =
 
 pub falls-at : (rs : List Reply) (r : Reply) (os : List Reply) (last : Point) (i : ℕ) (d : Reply) → rs ≡ r ∷ os
     → climbs r.at os ≡ climbs last (drop i os) → i < length os → precedes last (get_or os i d).at ≡ false → false ≡ is_rising rs
-falls-at rs r os last i d e h l not_after =
-    sym (ap is_rising e ∙ is_rising-climbs r os ∙ h ∙ climbs-drop last os i d l
+falls-at rs r os last i d e h l not_after = sym (ap is_rising e ∙ is_rising-climbs r os ∙ h ∙ climbs-drop last os i d l
     ∙ ap (λ (b : Bool). b && climbs (get_or os i d).at (drop (i + 1) os)) not_after)
 
 pub rises-to : (rs : List Reply) (r : Reply) (os : List Reply) (last : Point) (i : ℕ) → rs ≡ r ∷ os

@@ -1,11 +1,9 @@
 -- What says the same as what says the same. Roots say the same as their table grows, and in a table that holds copies of their nodes.
-use Rattle.std.proofs.Common.{rules, ◌≡◌, ◌↔◌, ℕ, ◌<◌, true, List, ◌++◌, length, refl, ◌∙◌, Option, Some, None}
-use Rattle.std.proofs.Common.{nat_lt, option_map, ltb-true}
-use Rattle.strategy_graph.specs.declared.Node.{Node}
-use Rattle.strategy_graph.specs.declared.roots.Root.{Root}
+use Rattle.std.proofs.Common.{rules, ◌≡◌, ◌↔◌, ℕ, ◌<◌, true, List, ◌++◌, length, refl, ◌∙◌, Option, Some, None, nat_lt, option_map}
+use Rattle.std.proofs.Common.{ltb-true}
+use Rattle.strategy_graph.proofs.Common.{Node, Root, Answers, AnswersSaySame, NamesLower, RootSaysSame, SaysSame, StartSaysSame, answer}
+use Rattle.strategy_graph.proofs.Common.{root_below, renumbered_root, root_depth}
 use Rattle.strategy_graph.specs.declared.roots.Root.TheVariants.{Attack, Defend}
-use Rattle.strategy_graph.proofs.Common.{Answers, AnswersSaySame, NamesLower, RootSaysSame, SaysSame, StartSaysSame, answer, root_below}
-use Rattle.strategy_graph.proofs.Common.{renumbered_root, root_depth}
 use Rattle.strategy_graph.proofs.Answering.{answer-below, answer-named}
 use Rattle.strategy_graph.proofs.Copies.{Copies, answer-renumbered}
 use Rattle.strategy_graph.proofs.Filling.{growth-same, growth-same-start}

@@ -1,19 +1,16 @@
 -- An accepted node, and an accepted start, wins within its depth. A node is accepted where its answers are, step by step.
-use Rattle.std.proofs.Common.{ℕ, zero, suc, map, List, refl, Option, Some, None, slice_get, Bool, false, ◌&&◌, ◌||◌, not}
-use Rattle.std.proofs.Common.{◌≡◌, true, nat_eq, rules}
+use Rattle.std.proofs.Common.{ℕ, zero, suc, map, List, refl, Option, Some, None, slice_get, Bool, false, ◌&&◌, ◌||◌, not, ◌≡◌, true, nat_eq}
+use Rattle.std.proofs.Common.{rules}
 use Rattle.std.specs.List.{list_all}
 use Rattle.std.proofs.lemmas.Bool.{or_cases, not-true}
-use Rattle.game_rules.specs.declared.RuleKind.{RuleKind}
-use Rattle.game_rules.specs.declared.Point.{Point}
-use Rattle.game_rules.specs.declared.Outcome.TheVariants.{GoesOn}
-use Rattle.game_rules.proofs.Common.{Grid, outcome, after, LosesOr, WinsWithin, WinsAfter, is_empty, points_of, empties_of, five, mover}
+use Rattle.strategy_graph.proofs.Common.{RuleKind, Point, GoesOn, Grid, outcome, after, LosesOr, is_empty, points_of, Node, Answers}
+use Rattle.strategy_graph.proofs.Common.{answers_of, answer, named, greatest, node_depth, depth_within, depth, start_depth, Meets}
+use Rattle.strategy_graph.proofs.Common.{AcceptedNode, AcceptedWithin, Accepted, AcceptedStart, NamesLower}
+use Rattle.game_rules.proofs.Common.{WinsWithin, WinsAfter, empties_of, five, mover}
 use Rattle.game_rules.proofs.Games.{WinsOr-map, LosesOr-map, WinsWithin-more}
 use Rattle.game_rules.proofs.Boards.{and_left, and_right}
 use Rattle.game_rules.proofs.Points.{all_at, taken_refused, off_refused}
 use Rattle.game_rules.proofs.Outcomes.{wins_now, quiet_move}
-use Rattle.strategy_graph.specs.declared.Node.{Node}
-use Rattle.strategy_graph.proofs.Common.{Answers, answers_of, answer, named, greatest, node_depth, depth_within, depth, start_depth, Meets}
-use Rattle.strategy_graph.proofs.Common.{AcceptedNode, AcceptedWithin, Accepted, AcceptedStart, NamesLower}
 use Rattle.strategy_graph.proofs.Answering.{answer-greatest, IsSomeAnd-elim}
 use Rattle.strategy_graph.proofs.Steps.{accepted-by-win, met-no_move, met-foul, met-answer}
 
@@ -64,8 +61,7 @@ module _ (rule : RuleKind) (t : List Node) (lower : NamesLower t) (a : Answers) 
     (q : Point) where
   by_node : (j : ℕ) (o : Option Node) → slice_get t j ≡ o → accepted_wins rule o (after b q) ≡ true → Accepted rule t j (after b q)
   by_node j None e h = cc
-  by_node j (Some m) e h =
-      accepted-by-win rule t lower j (after b q) m e
+  by_node j (Some m) e h = accepted-by-win rule t lower j (after b q) m e
       (wins_now rule (after b q) m.attack (and_left (is_empty (after b q) m.attack) _ h) (and_right (is_empty (after b q) m.attack) _ h))
 
   by_answer : (o : Option ℕ) → answer a q ≡ o → answer_wins rule t o (after b q) ≡ true → outcome rule b q ≡ GoesOn

@@ -2,16 +2,11 @@
 -- are copies, under other numbers, says the same.
 use Rattle.std.proofs.Common.{List, ◌≡◌, ℕ, suc, Bool, true, [], ◌∷◌, refl, ap, rules}
 use Rattle.std.specs.List.{list_all}
-use Rattle.game_rules.specs.declared.RuleKind.{RuleKind}
-use Rattle.game_rules.specs.declared.Point.{Point}
-use Rattle.game_rules.proofs.Common.{Grid, outcome, after}
-use Rattle.strategy_graph.specs.declared.Node.{Node}
-use Rattle.strategy_graph.specs.declared.Why.{Why}
-use Rattle.strategy_graph.specs.declared.roots.Root.{Root}
+use Rattle.strategy_graph.proofs.Common.{RuleKind, Point, Grid, outcome, after, Node, Why, Root, AcceptedRoot, LeadsRoot, RootWins}
+use Rattle.strategy_graph.proofs.Common.{root_depth, Answers, named, depth, renumbered_answers, Accepted, AcceptedStart, arrivals}
+use Rattle.strategy_graph.proofs.Common.{start_arrivals, Leads, LeadsStart, StartSaysSame}
 use Rattle.strategy_graph.proofs.Soundness.{accepted-wins, accepted-start-wins}
 use Rattle.strategy_graph.proofs.Refutation.{leads-refutes, leads-refutes-start}
-use Rattle.strategy_graph.proofs.Common.{AcceptedRoot, LeadsRoot, RootWins, root_depth, Answers, named, depth, renumbered_answers, Accepted}
-use Rattle.strategy_graph.proofs.Common.{AcceptedStart, arrivals, start_arrivals, Leads, LeadsStart, StartSaysSame}
 use Rattle.strategy_graph.proofs.Copies.{iff_by, Meets-copied, arrivals_after-copied, reply_leads-answer, depths-copied}
 
 pub accepted-root-wins : (rule : RuleKind) (t : List Node) (root : Root) (b : Grid) → AcceptedRoot rule t root b
@@ -42,9 +37,8 @@ module _ (f : ℕ → ℕ) (passes : ℕ → Bool) (t u : List Node) (same : Sam
   leads_start-same : (rule : RuleKind) (b : Grid) (line : List Point) (why : Why)
       → LeadsStart rule u (renumbered_answers f a) b line why ≡ LeadsStart rule t a b line why
   leads_start-same rule b [] why = refl
-  leads_start-same rule b (q ∷ line) why =
-      reply_leads-answer f passes a all (λ j c. Leads rule t j c line why) (λ j c. Leads rule u j c line why) (same.leads rule line why)
-      (outcome rule b q) line why (after b q) q
+  leads_start-same rule b (q ∷ line) why = reply_leads-answer f passes a all (λ j c. Leads rule t j c line why)
+      (λ j c. Leads rule u j c line why) (same.leads rule line why) (outcome rule b q) line why (after b q) q
 
   pub starts-same : StartSaysSame t a u (renumbered_answers f a)
   starts-same = search (rules, depths-copied, iff_by, accepted_start-same, start_arrivals-same, leads_start-same)

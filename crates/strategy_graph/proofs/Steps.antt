@@ -1,20 +1,16 @@
 -- One step of acceptance, of arrivals and of a line to a fault, at a node and at a reply, and over the replies so
 -- far: what a checker of tables needs.
-use Rattle.std.proofs.Common.{◌≡◌, ℕ, suc, ◌≤◌, Bool, true, false, List, [], ◌∷◌, refl, ap, ◌∙◌, arith, Option}
-use Rattle.std.proofs.Common.{IsSomeAnd, Some, slice_get, All, rules}
-use Rattle.game_rules.proofs.Common.{Grid, is_on, points_of, is_same_point, outcome, after, LosesOr}
-use Rattle.game_rules.specs.declared.RuleKind.{RuleKind}
+use Rattle.std.proofs.Common.{◌≡◌, ℕ, suc, ◌≤◌, Bool, true, false, List, [], ◌∷◌, refl, ap, ◌∙◌, arith, Option, IsSomeAnd, Some, slice_get}
+use Rattle.std.proofs.Common.{All, rules}
+use Rattle.strategy_graph.proofs.Common.{Grid, is_on, points_of, is_same_point, outcome, after, LosesOr, RuleKind, Outcome, GoesOn, Point}
+use Rattle.strategy_graph.proofs.Common.{Node, Why, Answers, answers_of, answer, is_winning, NamesLower, Meets, AcceptedNode, Accepted}
+use Rattle.strategy_graph.proofs.Common.{arrivals_at, arrivals_after, arrivals_behind, arrivals_within, arrivals, attack_fault, Leads}
+use Rattle.strategy_graph.proofs.Common.{LeadsStart}
 use Rattle.game_rules.specs.declared.Foul.{Foul}
-use Rattle.game_rules.specs.declared.Outcome.{Outcome}
-use Rattle.game_rules.specs.declared.Outcome.TheVariants.{Refused, Wins as WinsNow, Fouls, GoesOn}
-use Rattle.game_rules.specs.declared.Point.{Point}
+use Rattle.game_rules.specs.declared.Outcome.TheVariants.{Refused, Wins as WinsNow, Fouls}
 use Rattle.game_rules.proofs.Points.{points-found, off_refused, is_same_point-itself}
 use Rattle.game_rules.proofs.Outcomes.{if_goes_on-stops, if_goes_on-none}
 use Rattle.game_rules.proofs.PointLists.{found_all}
-use Rattle.strategy_graph.specs.declared.Node.{Node}
-use Rattle.strategy_graph.specs.declared.Why.{Why}
-use Rattle.strategy_graph.proofs.Common.{Answers, answers_of, answer, is_winning, NamesLower, Meets, AcceptedNode, Accepted, arrivals_at}
-use Rattle.strategy_graph.proofs.Common.{arrivals_after, arrivals_behind, arrivals_within, arrivals, attack_fault, Leads, LeadsStart}
 use Rattle.strategy_graph.proofs.Fuel.{accepted-step, arrivals-step}
 
 -- an arrival count is at least 1

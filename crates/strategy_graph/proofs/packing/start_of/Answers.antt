@@ -9,6 +9,4 @@ returns-in-None c = record { start = start-first 0 c.args.nodes.now c.args.i (om
 pub returns-in-Some : goal.returns-in-Some
 returns-in-Some c =
     let next : c.args.i ≡ suc c.in-Some.before = omega arith in
-    record {
-      start = sym (start-next 0 c.args.nodes.now c.in-Some.before _ (omega arith)) ∙ ap (start_at 0 c.args.nodes.now) (sym next);
-    }
+    record { start = sym (start-next 0 c.args.nodes.now c.in-Some.before _ (omega arith)) ∙ ap (start_at 0 c.args.nodes.now) (sym next) }

@@ -1,9 +1,6 @@
 use Rattle.std.proofs.Common.{◌≡◌, ◌<◌, ◌++◌, ◌∷◌, [], true, List, not, length, map, refl, sym, subst, ap, ◌∙◌, arith, is_ok, slice_index}
 use Rattle.std.proofs.Common.{rules}
-use Rattle.strategy_graph.specs.declared.Node.{Node}
-use Rattle.strategy_graph.specs.declared.TheConstants.{MAX_NODES}
-use Rattle.strategy_graph.specs.Lent.{lent_node}
-use Rattle.strategy_graph.specs.Tables.{IsNode, answers_of, greatest, named}
+use Rattle.strategy_graph.proofs.Common.{Node, MAX_NODES, lent_node, IsNode, answers_of, greatest, named}
 use Rattle.strategy_graph.proofs.Filling.{IsTableWithDepths-push, greatest-le, greatest-read}
 use Rattle.strategy_graph.proofs.table.Table.push_lent_node.Goals as goal
 
