@@ -1,28 +1,20 @@
 -- The roots of files in a compiler, as its nodes grow and as files are added.
-use Rattle.std.proofs.Common.{◌≡◌, ℕ, zero, suc, ◌+◌, List, [], ◌∷◌, ◌++◌, length, refl, sym, ap, subst, ◌∙◌, arith, Option, Some, None}
-use Rattle.std.proofs.Common.{rules}
+use Rattle.std.proofs.Common.{◌≡◌, ℕ, zero, suc, ◌+◌, List, [], ◌∷◌, ◌++◌, length, sym, ap, subst, ◌∙◌, arith, Option, Some, None, rules}
 use Rattle.std.proofs.Common.{slice_get, slice_index, length-append, true, ◌<◌, get_or, take}
 use Rattle.std.proofs.lemmas.Grind.{get_or_default_zero}
 use Rattle.std.proofs.lemmas.List.{take_more}
 use Rattle.std.proofs.lemmas.List.Sums.{sum_by-append}
 use Rattle.std.proofs.lemmas.Option.{same_Some}
-use Rattle.game_rules.proofs.Common.{Grid, is_on}
-use Rattle.game_rules.specs.declared.Point.{Point}
-use Rattle.position_files.specs.Tables.{IsTextOfTable, RootFits}
-use Rattle.position_files.specs.declared.TableFile.{TableFile}
-use Rattle.strategy_graph.specs.declared.Node.{Node}
-use Rattle.strategy_graph.specs.declared.Reply.{Reply}
-use Rattle.strategy_graph.specs.declared.roots.Root.{Root}
-use Rattle.strategy_graph.specs.declared.roots.Root.TheVariants.{Attack}
-use Rattle.strategy_graph.proofs.Common.{NamesLower, RepliesOn, SaysSame, TableOnBoard}
+use Rattle.join_command.proofs.Common.{Grid, Point, TableFile, Node, Reply, Root, Attack, NamesLower, SaysSame, TableOnBoard, IsCompiled}
+use Rattle.join_command.proofs.Common.{GrowsBy, node_count, AreAdopted, IsAdopted}
+use Rattle.game_rules.proofs.Common.{is_on}
+use Rattle.position_files.proofs.Common.{IsTextOfTable, RootFits}
+use Rattle.strategy_graph.proofs.Common.{RepliesOn}
 use Rattle.strategy_graph.proofs.Filling.{IsTable-lower, growth-same}
 use Rattle.strategy_graph.proofs.Saying.{same-then}
 use Rattle.strategy_compiler.proofs.Adopted.{number-is}
-use Rattle.strategy_compiler.proofs.Common.{AreNumbers, IsCompiled}
-use Rattle.strategy_compiler.specs.Growth.{GrowsBy}
+use Rattle.strategy_compiler.proofs.Common.{AreNumbers}
 use Rattle.strategy_compiler.proofs.Growing.{grows-then}
-use Rattle.join_command.specs.Joins.{node_count}
-use Rattle.join_command.specs.Adopting.{AreAdopted, IsAdopted}
 
 -- ---- boards of one size
 
@@ -37,10 +29,8 @@ module _ (b c : Grid) (wide : b.width ≡ c.width) (high : b.height ≡ c.height
 
   pub table-same : (t : List Node) → TableOnBoard b t → TableOnBoard c t
   table-same [] on = tt
-  table-same (n ∷ t) on = (
-    record { attack = on-same n.attack on.0.attack; replies = replies-same n.replies on.0.replies },
-    table-same t on.1,
-  )
+  table-same (n ∷ t) on =
+      (record { attack = on-same n.attack on.0.attack; replies = replies-same n.replies on.0.replies }, table-same t on.1)
 
 -- ---- as nodes grow
 
@@ -73,13 +63,6 @@ module _ (b : Grid) (u : List Node) where
   roots-more (f ∷ files) [] file root h is = absurd h
   roots-more (f ∷ files) (r ∷ roots) file root h is = (h.0, roots-more files roots file root h.1 is)
 
-  -- there is a root for each file
-  pub roots-count : (files : List TableFile) (roots : List (Option ℕ)) → AreAdopted b u files roots → length roots ≡ length files
-  roots-count [] [] h = refl
-  roots-count [] (r ∷ roots) h = absurd h
-  roots-count (f ∷ files) [] h = absurd h
-  roots-count (f ∷ files) (r ∷ roots) h = ap suc (roots-count files roots h.1)
-
   -- the root of the file at a place
   pub root-at : (files : List TableFile) (roots : List (Option ℕ)) (k : ℕ) (file : TableFile) (root : Option ℕ) → AreAdopted b u files roots
       → slice_get files k ≡ Some file → slice_get roots k ≡ Some root → IsAdopted b u file root
@@ -87,8 +70,7 @@ module _ (b : Grid) (u : List Node) where
   root-at [] (r ∷ roots) k file root h at there = absurd h
   root-at (f ∷ files) [] k file root h at there = absurd h
   root-at (f ∷ files) (r ∷ roots) zero file root h at there =
-      subst (λ (x : TableFile). IsAdopted b u x root) (same_Some f file at)
-      (subst (IsAdopted b u f) (same_Some r root there) h.0)
+      subst (λ (x : TableFile). IsAdopted b u x root) (same_Some f file at) (subst (IsAdopted b u f) (same_Some r root there) h.0)
   root-at (f ∷ files) (r ∷ roots) (suc k) file root h at there = root-at files roots k file root h.1 at there
 
 -- ---- one file
@@ -109,8 +91,7 @@ module _ (b : Grid) (file : TableFile) (bytes : List ℕ) (is : IsTextOfTable fi
       let count = are.count in
       let here : slice_index numbers i ≡ x = sym (at ∙ get_or_default_zero numbers i x (omega (arith, count, inside))) in
       let said = number-is u file.table v numbers is.table are (IsTable-lower v compiled.table) i inside in
-      subst (λ (j : ℕ). IsAdopted b v file (Some j)) here
-      (i, record { wide = size.0; high = size.1; root = root }, said.0, said.2)
+      subst (λ (j : ℕ). IsAdopted b v file (Some j)) here (i, record { wide = size.0; high = size.1; root = root }, said.0, said.2)
 
 -- all files, and one more
 module _ (b : Grid) (old u v : List Node) (files : List TableFile) (roots : List (Option ℕ)) (i : ℕ) (file : TableFile)
@@ -119,8 +100,7 @@ module _ (b : Grid) (old u v : List Node) (files : List TableFile) (roots : List
   taken = take_more files i file l ∙ ap (λ (f : TableFile). take i files ++ f ∷ []) (sym at)
 
   pub adopted-further : (root : Option ℕ) (roots' : List (Option ℕ)) → IsCompiled u → AreAdopted b u (take i files) roots
-      → GrowsBy u v (length file.table) → IsAdopted b v file root → roots' ≡ roots ++ root ∷ []
-      → AreAdopted b v (take (i + 1) files) roots'
+      → GrowsBy u v (length file.table) → IsAdopted b v file root → roots' ≡ roots ++ root ∷ [] → AreAdopted b v (take (i + 1) files) roots'
   adopted-further root roots' compiled are grows is pushed =
       let lower : NamesLower u = IsTable-lower u compiled.table in
       let more = roots-more b v (take i files) roots file root (roots-grown b u v (length file.table) lower grows (take i files) roots are)
@@ -133,5 +113,4 @@ module _ (b : Grid) (old u v : List Node) (files : List TableFile) (roots : List
   grown-further before now =
       let count : node_count (take (i + 1) files) ≡ node_count (take i files) + (0 + length file.table) =
       ap node_count taken ∙ sum_by-append (λ (f : TableFile). length f.table) (take i files) (file ∷ []) in
-      grows-then old u v (node_count (take i files)) (length file.table) (node_count (take (i + 1) files)) before now
-      (omega (arith, count))
+      grows-then old u v (node_count (take i files)) (length file.table) (node_count (take (i + 1) files)) before now (omega (arith, count))

@@ -1,17 +1,12 @@
 -- The command `join`: when it answers, and what its statuses show.
-use Rattle.std.proofs.Common.{◌≡◌, ◌⊎◌, inl, inr, sym, ap, subst, ◌∙◌, ℕ, List, Option, Some, IfSome, slice_get, arith}
-use Rattle.game_rules.specs.Games.{WinsWithin}
-use Rattle.game_rules.specs.declared.Outcome.{Outcome}
-use Rattle.game_rules.specs.declared.Outcome.TheVariants.{Refused, Wins, Fouls, Draws, GoesOn}
-use Rattle.game_rules.specs.declared.Point.{Point}
-use Rattle.game_rules.specs.Grid.{Grid}
-use Rattle.game_rules.specs.Play.{after, outcome}
+use Rattle.std.proofs.Common.{◌≡◌, ◌⊎◌, inl, inr, sym, ap, subst, ◌∙◌, ℕ, List, Some, IfSome, slice_get, arith}
+use Rattle.game_rules.proofs.Common.{WinsWithin}
+use Rattle.join_command.proofs.Common.{Grid, after, outcome, Outcome, GoesOn, Point, last, TableFile, PositionFile, Done, NotFound}
+use Rattle.join_command.proofs.Common.{AreTableFiles, AttackJoins, OpenOr}
+use Rattle.game_rules.specs.declared.Outcome.TheVariants.{Refused, Wins, Fouls, Draws}
 use Rattle.strategy_graph.proofs.Soundness.{accepted-wins}
-use Rattle.strategy_compiler.specs.Walks.{last}
-use Rattle.position_files.specs.declared.TableFile.{TableFile}
-use Rattle.position_files.specs.declared.PositionFile.{PositionFile}
 use Rattle.command_base.specs.declared.status.Status.{Status}
-use Rattle.command_base.specs.declared.status.Status.TheVariants.{Done, NotFound, Full}
+use Rattle.command_base.specs.declared.status.Status.TheVariants.{Full}
 use Rattle.command_base.specs.Statuses.{status_number}
 use Rattle.command_base.specs.Runs.{Run}
 use Rattle.command_base.specs.Told.{AnswersTold}
@@ -19,11 +14,9 @@ use Rattle.command_base.specs.Positions.{of_position}
 use Rattle.command_base.proofs.ToldLaws.{where-told}
 use Rattle.file_loading.specs.HeldFiles.{IsUnhinderedShelf}
 use Rattle.file_loading.proofs.FileRunLaws.{Speaks, files-answer, files-shown, shows-then}
-use Rattle.file_loading.specs.ManyFiles.{AreTableFiles}
 use Rattle.file_loading.specs.declared.TheConstants.{MAX_WORK}
-use Rattle.join_command.specs.Joins.{AttackJoins, IsJoinRun, IsJoinShown, IsWonByFiles, JoinLacks}
-use Rattle.join_command.specs.Joins.{HasNoTable, joins_command}
-use Rattle.join_command.specs.Answering.{HasNoAnswer, OpenOr}
+use Rattle.join_command.specs.Joins.{IsJoinRun, IsJoinShown, IsWonByFiles, JoinLacks, HasNoTable, joins_command}
+use Rattle.join_command.specs.Answering.{HasNoAnswer}
 
 -- ---- what is said of a position
 
@@ -77,8 +70,7 @@ module _ (p : Point) (files : List TableFile) (file : PositionFile) (status : St
 pub join-answers : (p : Point) (names : List (List ℕ)) (run : Run) → IsJoinRun p names run → (files : List TableFile)
     → IsUnhinderedShelf (λ shelf. AreTableFiles MAX_WORK (Some shelf) names files) run
     → AnswersTold (of_position (joins_command p names files)) run
-join-answers p names run is files free =
-    files-answer (joins_command p names)
+join-answers p names run is files free = files-answer (joins_command p names)
     (λ fs file status text says. said-answers p fs file status text (outcome file.kind file.board p) says) MAX_WORK names run files free is
 
 -- what statuses 0 and 9 of `join` show

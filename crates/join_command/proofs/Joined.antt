@@ -1,40 +1,24 @@
 -- The answers to all replies make a node that wins, and its table plays on as the files.
-use Rattle.std.proofs.Common.{◌≡◌, inl, inr, ℕ, zero, suc, ◌<◌, ◌≤◌, List, [], ◌∷◌, length, map, ap, refl, sym, subst, ◌∙◌}
-use Rattle.std.proofs.Common.{arith}
-use Rattle.std.proofs.Common.{Option, Some, None, slice_get, All, true, false, Bool, Result, Ok, Err, IfOk, option_map, append-nil}
-use Rattle.std.proofs.Common.{◌||◌}
+use Rattle.std.proofs.Common.{◌≡◌, inl, inr, ℕ, zero, suc, ◌<◌, ◌≤◌, List, [], ◌∷◌, length, map, ap, refl, sym, subst, ◌∙◌, arith, Option}
+use Rattle.std.proofs.Common.{Some, None, slice_get, All, true, false, Bool, Result, Ok, Err, IfOk, option_map, append-nil, ◌||◌, rules}
 use Rattle.std.specs.List.{AllByRecursion, list_any}
-use Rattle.game_rules.proofs.Common.{Grid, after, goes_on, is_same_point, outcome, points_of}
-use Rattle.game_rules.specs.declared.RuleKind.{RuleKind}
-use Rattle.game_rules.specs.declared.Outcome.{Outcome}
-use Rattle.game_rules.specs.declared.Outcome.TheVariants.{GoesOn}
-use Rattle.game_rules.specs.declared.Point.{Point}
+use Rattle.join_command.proofs.Common.{Grid, after, goes_on, outcome, points_of, RuleKind, Outcome, GoesOn, Point, Node, Reply, MAX_NODES}
+use Rattle.join_command.proofs.Common.{Accepted, IsTable, NamesLower, SaysSame, TableOnBoard, answer_at, answers_of, PutsIn, answering_node}
+use Rattle.join_command.proofs.Common.{last, PositionFile, TableFile, Answer, NotFound, AnswersAt, IsOpenReply, MayBeAsked, AreAdopted}
+use Rattle.join_command.proofs.Common.{IsAdopted, AreAnswered, HaveRoots, IsAnswered, IsNodeTold, IsTextOfNode, AttackJoins, node_count}
+use Rattle.game_rules.proofs.Common.{is_same_point}
 use Rattle.game_rules.proofs.PointLists.{still-found}
 use Rattle.game_rules.proofs.Points.{is_same_point-itself, is_same_point-same, points-found}
 use Rattle.game_rules.proofs.Positions.{GoesOn-on}
 use Rattle.game_rules.proofs.Tests.{all_get}
-use Rattle.strategy_graph.specs.declared.Node.{Node}
-use Rattle.strategy_graph.specs.declared.Reply.{Reply}
-use Rattle.strategy_graph.specs.declared.TheConstants.{MAX_NODES}
-use Rattle.strategy_graph.proofs.Common.{Accepted, IsTable, NamesLower, NamesOnBoard, SaysSame, TableOnBoard, answer, answer_at, answers_of}
-use Rattle.strategy_graph.proofs.Common.{attacks}
-use Rattle.strategy_graph.proofs.Common.{is_winning}
+use Rattle.strategy_graph.proofs.Common.{NamesOnBoard, answer, attacks, is_winning}
 use Rattle.strategy_graph.proofs.Endings.{attacks-open}
 use Rattle.strategy_graph.proofs.Filling.{IsTable-lower, growth-same}
 use Rattle.strategy_graph.proofs.Following.{accepted-node}
-use Rattle.strategy_compiler.specs.Forks.{AnswersWin}
-use Rattle.strategy_compiler.specs.Nodes.{PutsIn, answering_node, commonest_next, rest_of}
-use Rattle.strategy_compiler.specs.Walks.{last}
+use Rattle.strategy_compiler.proofs.Common.{AnswersWin, commonest_next, rest_of}
 use Rattle.strategy_compiler.proofs.Forks.{IsAnswer, all-weaker, answers-win}
-use Rattle.position_files.specs.declared.PositionFile.{PositionFile}
-use Rattle.position_files.specs.declared.TableFile.{TableFile}
-use Rattle.command_base.specs.declared.answer.Answer.{Answer}
-use Rattle.command_base.specs.declared.status.Status.TheVariants.{NotFound}
-use Rattle.join_command.specs.Answering.{AnswersAt, IsOpenReply, MayBeAsked}
-use Rattle.join_command.specs.Adopting.{AreAdopted, IsAdopted}
-use Rattle.join_command.specs.Meeting.{AreAnswered, HaveRoots, IsAnswered}
-use Rattle.join_command.specs.Making.{IsNodeTold, IsTextOfNode, TellsNode}
-use Rattle.join_command.specs.Joins.{AttackJoins, FollowsFile, IsJoinText, JoinSays, JoinedSays, no_answer_line, node_count}
+use Rattle.join_command.specs.Making.{TellsNode}
+use Rattle.join_command.specs.Joins.{FollowsFile, IsJoinText, JoinSays, JoinedSays, no_answer_line}
 use Rattle.join_command.proofs.Adopted.{root-at, table-same}
 use Rattle.join_command.proofs.Making.{depth-few}
 use Rattle.join_command.proofs.Replies.{asked-before}
@@ -82,15 +66,13 @@ module _ (rule : RuleKind) (b : Grid) (p : Point) (nodes : List Node) (files : L
   -- each reply that goes on is listed
   module _ (answers : List Reply) (are : AreAnswered rule files roots (after b p) answers) where
     pub listed : (q : Point) → outcome rule (after b p) q ≡ GoesOn → list_any (is_same_point q) (map (λ r. r.at) answers) ≡ true
-    listed q go =
-        subst (λ (ps : List Point). list_any (is_same_point q) ps ≡ true) (sym are.points)
-        (still-found (λ q. goes_on (outcome rule (after b p) q)) q (points_of (after b p)) (ap goes_on go)
+    listed q go = subst (λ (ps : List Point). list_any (is_same_point q) ps ≡ true)
+        (sym are.points) (still-found (λ q. goes_on (outcome rule (after b p) q)) q (points_of (after b p)) (ap goes_on go)
         (points-found (after b p) (is_same_point q) q (GoesOn-on rule (after b p) q go) (is_same_point-itself q)))
 
     -- so the answers win
     pub answers-all : IsTable nodes → TableOnBoard b nodes → AnswersWin rule MAX_NODES (after b p) nodes answers
-    answers-all table on =
-        answers-win rule MAX_NODES (after b p) nodes answers are.lost listed
+    answers-all table on = answers-win rule MAX_NODES (after b p) nodes answers are.lost listed
         (all-weaker (IsAnswered rule files roots (after b p)) (IsAnswer rule MAX_NODES (after b p) nodes) (λ r is. record {
           on_board = GoesOn-on rule (after b p) r.at is.0;
           accepted = λ go. ((answer-same r is).same_accepted rule (after (after b p) r.at)).1 is.1.1.accepted;
@@ -102,8 +84,7 @@ module _ (rule : RuleKind) (b : Grid) (p : Point) (nodes : List Node) (files : L
 
 -- the rest of a node that answers is that of no winning node
 not-winning : (o : Option ℕ) → is_winning (rest_of o) ≡ false
-not-winning None = refl
-not-winning (Some j) = refl
+not-winning o = search rules
 
 module _ (rule : RuleKind) (b : Grid) (p : Point) (on : outcome rule b p ≡ GoesOn) (t : List Node) (root : ℕ) (answers : List Reply)
     (at : slice_get t root ≡ Some (answering_node p answers)) where
@@ -116,14 +97,12 @@ module _ (rule : RuleKind) (b : Grid) (p : Point) (on : outcome rule b p ≡ Goe
       rw at (rw (on, not-winning (commonest_next answers), go, here) refl)
 
 -- the reply of an answer that is found, and what is known of it
-reply-at : (Good : Reply → Type 0) (t : List Node) (root : ℕ) (q : Point) (answers : List Reply)
-    → AllByRecursion Good answers → All (λ r. answer_at t root r.at ≡ Some r.next) answers
-    → list_any (is_same_point q) (map (λ r. r.at) answers) ≡ true
+reply-at : (Good : Reply → Type 0) (t : List Node) (root : ℕ) (q : Point) (answers : List Reply) → AllByRecursion Good answers
+    → All (λ r. answer_at t root r.at ≡ Some r.next) answers → list_any (is_same_point q) (map (λ r. r.at) answers) ≡ true
     → (r : Reply) × (r.at ≡ q) × Good r × (answer_at t root r.at ≡ Some r.next)
 reply-at Good t root q [] good all found = cc
 reply-at Good t root q (r ∷ answers) good all found =
-    by-test (is_same_point q r.at) refl found
-    (reply-at Good t root q answers good.1 (λ k d l. all (suc k) d (omega arith))) where
+    by-test (is_same_point q r.at) refl found (reply-at Good t root q answers good.1 (λ k d l. all (suc k) d (omega arith))) where
       by-test : (same : Bool) → is_same_point q r.at ≡ same → (same || list_any (is_same_point q) (map (λ r. r.at) answers)) ≡ true
           → (list_any (is_same_point q) (map (λ r. r.at) answers) ≡ true
           → (r : Reply) × (r.at ≡ q) × Good r × (answer_at t root r.at ≡ Some r.next))
@@ -175,11 +154,9 @@ module _ (rule : RuleKind) (b : Grid) (p : Point) (on : outcome rule b p ≡ Goe
         subst (FollowsFile files (record { kind = rule; board = b }) p told.table) r.1 (
           r.2.1.0,
           r.2.1.1,
-          λ qs.
-              told.same.same_attacks rule b (r.0.at ∷ qs)
-              ∙ attacks-step rule b p on h.grown h.root answers h.at r.0.at r.0.next qs r.2.0 r.3
-              ∙ ap (λ (ps : List Point). p ∷ ps)
-              ((put-same nodes h.grown (answering_node p answers) (IsTable-lower nodes table) h.put r.0.next
+          λ qs. told.same.same_attacks rule b (r.0.at ∷ qs)
+              ∙ attacks-step rule b p on h.grown h.root answers h.at r.0.at r.0.next qs r.2.0 r.3 ∙ ap
+              (λ (ps : List Point). p ∷ ps) ((put-same nodes h.grown (answering_node p answers) (IsTable-lower nodes table) h.put r.0.next
               (answer-inside rule b p nodes files roots adopted r.0 r.2)).same_attacks rule (after (after b p) r.0.at) qs
               ∙ (answer-same rule b p nodes files roots adopted r.0 r.2).same_attacks rule (after (after b p) r.0.at) qs),
         )

@@ -1,3 +1,5 @@
+-- the words of the crate, in one place
+mod Common
 -- the roots of files that are adopted
 mod Adopted
 -- which file answers at a position, and what becomes of all replies

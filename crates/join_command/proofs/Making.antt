@@ -1,18 +1,9 @@
 -- The table that is made of a node of a compiler, and its text.
-use Rattle.std.proofs.Common.{◌≡◌, ℕ, zero, suc, ◌<◌, ◌≤◌, List, [], ◌∷◌, length, map, arith}
-use Rattle.std.proofs.Common.{Option}
-use Rattle.std.proofs.Common.{Some, None, slice_get, inl, All}
+use Rattle.std.proofs.Common.{◌≡◌, ℕ, zero, suc, ◌<◌, ◌≤◌, List, [], ◌∷◌, length, map, arith, Option, Some, None, slice_get, inl, All}
 use Rattle.std.proofs.Common.{Result, Ok, Err, IfOk}
-use Rattle.game_rules.specs.declared.Point.{Point}
-use Rattle.strategy_graph.specs.declared.Node.{Node}
-use Rattle.strategy_graph.specs.declared.Reply.{Reply}
-use Rattle.strategy_graph.specs.declared.TheConstants.{MAX_NODES}
-use Rattle.strategy_graph.proofs.Common.{Accepted, IsTable, answer_at, answers_of, depth, depth_within, greatest, named, node_depth}
-use Rattle.strategy_compiler.specs.Nodes.{PutsIn, answering_node}
-use Rattle.position_files.specs.declared.PositionFile.{PositionFile}
-use Rattle.command_base.specs.declared.answer.Answer.{Answer}
-use Rattle.command_base.specs.declared.status.Status.TheVariants.{Done}
-use Rattle.join_command.specs.Making.{IsNodeTold, IsTextOfNode}
+use Rattle.join_command.proofs.Common.{Point, Node, Reply, MAX_NODES, Accepted, IsTable, answer_at, answers_of, depth, PutsIn}
+use Rattle.join_command.proofs.Common.{answering_node, PositionFile, Answer, Done, IsNodeTold, IsTextOfNode}
+use Rattle.strategy_graph.proofs.Common.{depth_within, greatest, named, node_depth}
 
 -- ---- no node is deeper than the table is long
 
@@ -39,8 +30,6 @@ pub node-told : (nodes grown : List Node) (root : ℕ) (p : Point) (answers : Li
     → PutsIn nodes (answering_node p answers) grown → slice_get grown root ≡ Some (answering_node p answers)
     → All (λ s. answer_at grown root s.at ≡ Some s.next) answers → Accepted file.kind grown root file.board
     → IfOk r (λ a. IsNodeTold nodes p answers file a.status a.text)
-node-told nodes grown root p answers file (Ok a) done told put at listed accepted = inl (
-  done,
-  record { grown = grown; root = root; put = put; at = at; listed = listed; accepted = accepted; told = told },
-)
+node-told nodes grown root p answers file (Ok a) done told put at listed accepted =
+    inl (done, record { grown = grown; root = root; put = put; at = at; listed = listed; accepted = accepted; told = told })
 node-told nodes grown root p answers file (Err e) done told put at listed accepted = tt

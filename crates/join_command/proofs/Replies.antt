@@ -1,29 +1,19 @@
 -- What becomes of replies, one after another.
-use Rattle.std.proofs.Common.{◌≡◌, ℕ, List, [], ◌∷◌, ◌++◌, map, ap, subst, sym, refl, ◌∙◌, true, Option, Some, None}
-use Rattle.std.proofs.Common.{slice_get}
-use Rattle.std.proofs.Common.{append-nil, append_assoc}
+use Rattle.std.proofs.Common.{◌≡◌, ℕ, List, [], ◌∷◌, ◌++◌, map, ap, subst, sym, ◌∙◌, true, Option, Some, None, slice_get, append-nil}
+use Rattle.std.proofs.Common.{append_assoc, filter}
 use Rattle.std.proofs.lemmas.List.{map-append}
-use Rattle.std.specs.List.{AllByRecursion, filter, list_all}
-use Rattle.game_rules.proofs.Common.{Grid, after, goes_on, outcome, points_of, LosesOr}
-use Rattle.game_rules.specs.Games.{loses_or}
-use Rattle.game_rules.specs.declared.RuleKind.{RuleKind}
-use Rattle.game_rules.specs.declared.Outcome.{Outcome}
-use Rattle.game_rules.specs.declared.Outcome.TheVariants.{Refused, Wins, Fouls, Draws, GoesOn}
-use Rattle.game_rules.specs.declared.Point.{Point}
+use Rattle.std.specs.List.{AllByRecursion, list_all}
+use Rattle.join_command.proofs.Common.{Grid, after, goes_on, outcome, points_of, RuleKind, Outcome, GoesOn, Point, TableFile, Reply}
+use Rattle.join_command.proofs.Common.{AnswersAt, IsOpenReply, MayBeAsked, OpenOr, IsAnswerTold, AreAnswered, IsAnswered}
+use Rattle.game_rules.proofs.Common.{loses_or}
 use Rattle.game_rules.proofs.Games.{each_reply}
 use Rattle.game_rules.proofs.Tests.{all_push}
-use Rattle.position_files.specs.declared.TableFile.{TableFile}
-use Rattle.strategy_graph.specs.declared.Reply.{Reply}
-use Rattle.join_command.specs.Answering.{AnswersAt, IsOpenReply, MayBeAsked, OpenOr}
-use Rattle.join_command.specs.Asking.{IsAnswerTold}
-use Rattle.join_command.specs.Meeting.{AreAnswered, IsAnswered}
 
 -- a reply that goes on to a board at which no file has an answer is open
 pub open-by : (rule : RuleKind) (files : List TableFile) (b c : Grid) (q : Point) → outcome rule b q ≡ GoesOn → c ≡ after b q
     → IsAnswerTold rule files c None → IsOpenReply rule files b q
-open-by rule files b c q go there none =
-    subst (λ (o : Outcome). OpenOr o (IsAnswerTold rule files (after b q) None)) (sym go)
-    (subst (λ (d : Grid). IsAnswerTold rule files d None) there none)
+open-by rule files b c q go there none = subst (λ (o : Outcome). OpenOr o (IsAnswerTold rule files (after b q) None))
+    (sym go) (subst (λ (d : Grid). IsAnswerTold rule files d None) there none)
 
 -- what may be asked after a reply may be asked before it
 pub asked-before : (b : Grid) (q : Point) (file : TableFile) (i : ℕ) → MayBeAsked (after b q) file i → MayBeAsked b file i
@@ -50,24 +40,6 @@ module _ (rule : RuleKind) (files : List TableFile) (roots : List (Option ℕ)) 
     now : MetUpTo rule files roots b answers (q ∷ rest)
     now = subst (MetUpTo rule files roots b answers) step met
 
-    -- a reply that loses
-    pub met-lost : LosesOr (outcome rule b q) ⊥ → MetUpTo rule files roots b answers rest
-    met-lost lost = by-outcome (outcome rule b q) refl lost where
-      by-outcome : (o : Outcome) → outcome rule b q ≡ o → LosesOr o ⊥ → MetUpTo rule files roots b answers rest
-      by-outcome Refused is h = let met = now in record {
-        lost = rw is at met.lost;
-        points = rw is at met.points;
-        each = met.each;
-      }
-      by-outcome (Fouls f) is h = let met = now in record {
-        lost = rw is at met.lost;
-        points = rw is at met.points;
-        each = met.each;
-      }
-      by-outcome GoesOn is h = absurd h
-      by-outcome Wins is h = absurd h
-      by-outcome Draws is h = absurd h
-
     -- a reply that goes on, with its answer
     pub met-more : (answers' : List Reply) (next k : ℕ) → outcome rule b q ≡ GoesOn → AnswersAt rule files (after b q) k
         → slice_get roots k ≡ Some (Some next) → answers' ≡ answers ++ (record { at = q; next = next }) ∷ []
@@ -77,9 +49,8 @@ module _ (rule : RuleKind) (files : List TableFile) (roots : List (Option ℕ)) 
         let r : Reply = record { at = q; next = next } in
         subst (λ (rs : List Reply). MetUpTo rule files roots b rs rest) (sym pushed) (record {
           lost = rw go at met.lost;
-          points =
-              ap (λ (ps : List Point). ps ++ filter (λ q. goes_on (outcome rule b q)) rest)
-              (map-append (λ (r : Reply). r.at) answers (r ∷ []))
+          points = ap
+              (λ (ps : List Point). ps ++ filter (λ q. goes_on (outcome rule b q)) rest) (map-append (λ (r : Reply). r.at) answers (r ∷ []))
               ∙ append_assoc (map (λ r. r.at) answers) (q ∷ []) (filter (λ q. goes_on (outcome rule b q)) rest) ∙ (rw go at met.points);
           each = all_push (IsAnswered rule files roots b) answers r met.each (go, (k, by, there));
         })

@@ -1,9 +1,5 @@
 use Rattle.std.proofs.Common.{take}
-use Rattle.strategy_graph.specs.Tables.{TableOnBoard}
-use Rattle.strategy_compiler.specs.Growth.{GrowsBy}
-use Rattle.strategy_compiler.specs.Nodes.{IsCompiled}
-use Rattle.join_command.specs.Adopting.{AreAdopted}
-use Rattle.join_command.specs.Joins.{node_count}
+use Rattle.join_command.proofs.Common.{TableOnBoard, GrowsBy, IsCompiled, AreAdopted, node_count}
 use Rattle.join_command.proofs.adopting.adopt_files.Given as goal
 
 abbrev pub invariant-loop-file : goal.invariant-loop-file

@@ -3,8 +3,7 @@ use Rattle.join_command.proofs.Adopted.{adopted-on, adopted-root}
 use Rattle.join_command.proofs.adopting.adopt_root.Goals as goal
 
 pub returns-in_err-numbers-in-Attack-clause-on_board : goal.returns-in_err-numbers-in-Attack-clause-on_board
-returns-in_err-numbers-in-Attack-clause-on_board c = λ on.
-    c.adopt_table.ensures.adopts.on_board c.args.board.now on
+returns-in_err-numbers-in-Attack-clause-on_board c = λ on. c.adopt_table.ensures.adopts.on_board c.args.board.now on
     (adopted-on c.args.board.now c.args.file.now c.requires.accepted.text.0 c.requires.accepted.text.1
     (c.has_size_of.ensures.size.0 c.if-not-has_size_of.false))
 
@@ -16,7 +15,6 @@ returns-in_ok-numbers-in-Attack-clause-adopted c =
     c.index.ensures
 
 pub returns-in_ok-numbers-in-Attack-clause-on_board : goal.returns-in_ok-numbers-in-Attack-clause-on_board
-returns-in_ok-numbers-in-Attack-clause-on_board c = λ on.
-    c.adopt_table.ensures.adopts.on_board c.args.board.now on
+returns-in_ok-numbers-in-Attack-clause-on_board c = λ on. c.adopt_table.ensures.adopts.on_board c.args.board.now on
     (adopted-on c.args.board.now c.args.file.now c.requires.accepted.text.0 c.requires.accepted.text.1
     (c.has_size_of.ensures.size.0 c.if-not-has_size_of.false))

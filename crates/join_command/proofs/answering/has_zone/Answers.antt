@@ -1,6 +1,5 @@
 use Rattle.std.proofs.Common.{subst}
-use Rattle.zone_checker.specs.Verdicts.{IsVerdict}
-use Rattle.join_command.specs.declared.TheConstants.{MAX_PAIRS}
+use Rattle.join_command.proofs.Common.{IsVerdict, MAX_PAIRS}
 use Rattle.join_command.proofs.Asking.{accepted-by_zone, spent-lacks}
 use Rattle.join_command.proofs.answering.has_zone.Goals as goal
 

@@ -1,7 +1,6 @@
 -- The last node of the table wins as the node does.
 use Rattle.std.proofs.Common.{ℕ, arith, ap, ◌-◌, ◌∙◌}
-use Rattle.strategy_graph.specs.Tables.{depth}
-use Rattle.strategy_compiler.specs.Walks.{last}
+use Rattle.join_command.proofs.Common.{depth, last}
 use Rattle.strategy_compiler.proofs.Growing.{win-table}
 use Rattle.join_command.proofs.Making.{depth-few}
 use Rattle.join_command.proofs.joining.table_text.Goals as goal
