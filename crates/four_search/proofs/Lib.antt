@@ -3,6 +3,8 @@
 
 -- the words of the crate, in one place
 mod Common
+-- replies of Black that are no fouls wherever White plays first
+mod CalmPoints
 -- the game of fours, position by position, and the search of it
 mod Trying
 mod Deepening

@@ -6,12 +6,15 @@ use Rattle.std.specs.List.{list_any, find, sum_by}
 use Rattle.std.proofs.lemmas.Bool.Decides.{nat_tests}
 use Rattle.std.proofs.lemmas.List.Sums.{sum_by-cons}
 use Rattle.game_rules.specs.declared.RuleKind.{RuleKind}
+use Rattle.game_rules.specs.declared.RuleKind.TheVariants.{Renju}
+use Rattle.game_rules.specs.declared.Side.{Side}
+use Rattle.game_rules.specs.declared.Side.TheVariants.{Black, White}
 use Rattle.game_rules.specs.declared.Outcome.{Outcome}
 use Rattle.game_rules.specs.declared.Outcome.TheVariants.{Refused, Wins, Fouls, Draws, GoesOn}
 use Rattle.game_rules.specs.declared.Point.{Point}
 use Rattle.game_rules.proofs.Common.{Grid, points_of, five, is_at, IsPosition, outcome, mover, after, goes_on_with, has_five, wins_or}
 use Rattle.game_rules.proofs.Common.{starts_win, wins_under, wins_by_fours, four_move, is_empty, is_same_point, has_fouls, other}
-use Rattle.game_rules.proofs.Common.{five_points, empties_of}
+use Rattle.game_rules.proofs.Common.{five_points, empties_of, put}
 use Rattle.game_rules.proofs.Points.{is_same_point-itself, any_witness, none_of}
 use Rattle.game_rules.proofs.PointLists.{not_found, no_point}
 use Rattle.game_rules.proofs.Games.{five-wins}
@@ -25,7 +28,7 @@ use Rattle.row_shapes.specs.declared.fives.FivePoints.TheVariants.{None as NoPoi
 use Rattle.row_shapes.proofs.FiveLaws.{one-empty, short-one, several-left, one-stays, not_taken-five, taken-none}
 use Rattle.threat_moves.specs.declared.block.BlockAnswer.{BlockAnswer}
 use Rattle.threat_moves.specs.declared.block.BlockAnswer.TheVariants.{Lost, One}
-use Rattle.threat_moves.proofs.Common.{is_four_move, fate, block_wins, by_block, by_fives}
+use Rattle.threat_moves.proofs.Common.{is_four_move, fate, block_wins, by_block, by_fives, all_foul}
 use Rattle.threat_moves.proofs.BlockLaw.{block_decides, no-reply-wins}
 use Rattle.threat_moves.proofs.FourLaws.{four-goes_on, four-five, taken-no_four, no_last-win, none-no_four}
 use Rattle.threat_moves.proofs.Fates.{blocked, not_all-foul}
@@ -36,6 +39,8 @@ use Rattle.four_search.specs.Searching.{found_by, line_behind, line_from, four_l
 use Rattle.four_search.specs.Searching.{found_answering}
 use Rattle.four_search.specs.declared.four_points.FourPoint.{FourPoint}
 use Rattle.four_search.specs.FourPoints.{makes, four_point_at, four_points_of, RulesOut, HasCalmBlock}
+use Rattle.four_search.specs.CalmPoints.{HasCalmPoints}
+use Rattle.four_search.proofs.CalmPoints.{calm-reply}
 use Rattle.four_search.proofs.Listing.{at-told, each-told}
 
 -- ---- one after another
@@ -416,32 +421,50 @@ module _ (rule : RuleKind) (moves budget : ℕ) (b : Grid) (lawful : IsPosition 
 
 -- ---- the last move
 
-module _ (rule : RuleKind) (b : Grid) (lawful : IsPosition rule b) (none : has_five rule b (mover b) ≡ false)
-    (calm : has_fouls rule (other (mover b)) ≡ false) where
-  last-four : (p : Point) → is_four_move rule b p ≡ true → starts_win (has_five rule) rule b (wins_by_fours rule zero) p ≡ false
-  last-four p four =
+no_fouls : (rule : RuleKind) → has_fouls rule White ≡ false
+no_fouls Renju = refl
+no_fouls _ = refl
+
+module _ (rule : RuleKind) (b : Grid) (lawful : IsPosition rule b) (none : has_five rule b (mover b) ≡ false) where
+  module _ (stays : (p : Point) → is_four_move rule b p ≡ true → all_foul rule (after b p) ≡ false) where
+    last-four : (p : Point) → is_four_move rule b p ≡ true → starts_win (has_five rule) rule b (wins_by_fours rule zero) p ≡ false
+    last-four p four = block_decides rule zero b p lawful four ∙ no_last-win rule (after b p) (fate rule (after b p)) (stays p four)
+
+    last-start : (p : Point) → test rule zero b lawful none p ≡ true → ⊥
+    last-start p h = by_test (is_four_move rule b p) refl where
+      by_test : (r : Bool) → is_four_move rule b p ≡ r → ⊥
+      by_test true e = let no : true ≡ false = sym h ∙ last-four p e in cc
+      by_test false e = let no : true ≡ false = sym h ∙ no_four rule zero b lawful none p e in cc
+
+    -- with one move left and no five point there is no win, where no four leaves the defender fouls alone
+    found-stays : (moves budget : ℕ) → moves ≡ 1 → 0 < budget → NoWin (budget - 1) ≡ found_at rule moves b budget
+    unfolding four_tree
+    found-stays moves budget e fits =
+        let fit : nat_le 1 budget ≡ true = grind (arith, nat_tests) in
+        let lost : wins_by_fours rule 1 b ≡ false = wins-is rule b lawful none zero
+        ∙ none_of (test rule zero b lawful none) (points_of b) last-start in
+        ap (λ r. cond r (NoWin (budget - 1)) Spent) (sym fit)
+        ∙ ap (λ w. found_by budget 1 w (four_line rule 1 b)) (sym lost)
+        ∙ ap (λ (m : ℕ). found_at rule m b budget) (sym e)
+
+  -- so where the defender has no fouls
+  pub found-last : has_fouls rule (other (mover b)) ≡ false → (moves budget : ℕ) → moves ≡ 1 → 0 < budget
+      → NoWin (budget - 1) ≡ found_at rule moves b budget
+  found-last calm = found-stays (λ p four.
       let found = any_witness (five rule (after b p) (mover b)) (points_of (after b p)) (four-five rule b p four) in
       let empty = five-empty rule (after b p) (mover b) found.0 found.1 in
-      let turn = ap (has_fouls rule) (mover-then rule b p lawful (four-goes_on rule b p four)) ∙ calm in
-      block_decides rule zero b p lawful four ∙ no_last-win rule (after b p) (fate rule (after b p))
-      (not_all-foul rule (after b p) found.0 empty turn)
+      not_all-foul rule (after b p) found.0 empty (ap (has_fouls rule) (mover-then rule b p lawful (four-goes_on rule b p four)) ∙ calm))
 
-  last-start : (p : Point) → test rule zero b lawful none p ≡ true → ⊥
-  last-start p h = by_test (is_four_move rule b p) refl where
-    by_test : (r : Bool) → is_four_move rule b p ≡ r → ⊥
-    by_test true e = let no : true ≡ false = sym h ∙ last-four p e in cc
-    by_test false e = let no : true ≡ false = sym h ∙ no_four rule zero b lawful none p e in cc
-
-  -- with one move left and no five point there is no win, where the defender has no fouls
-  pub found-last : (moves budget : ℕ) → moves ≡ 1 → 0 < budget → NoWin (budget - 1) ≡ found_at rule moves b budget
-  unfolding four_tree
-  found-last moves budget e fits =
-      let fit : nat_le 1 budget ≡ true = grind (arith, nat_tests) in
-      let lost : wins_by_fours rule 1 b ≡ false = wins-is rule b lawful none zero
-      ∙ none_of (test rule zero b lawful none) (points_of b) last-start in
-      ap (λ r. cond r (NoWin (budget - 1)) Spent) (sym fit)
-      ∙ ap (λ w. found_by budget 1 w (four_line rule 1 b)) (sym lost)
-      ∙ ap (λ (m : ℕ). found_at rule m b budget) (sym e)
+  -- and where it has two calm points
+  pub found-calm : HasCalmPoints b → (moves budget : ℕ) → moves ≡ 1 → 0 < budget → NoWin (budget - 1) ≡ found_at rule moves b budget
+  found-calm calm = by_side (mover b) refl where
+    by_side : (s : Side) → mover b ≡ s → (moves budget : ℕ) → moves ≡ 1 → 0 < budget → NoWin (budget - 1) ≡ found_at rule moves b budget
+    by_side Black e = found-last (ap (λ s. has_fouls rule (other s)) e ∙ no_fouls rule)
+    by_side White e = found-stays (λ p four.
+        let on = four-goes_on rule b p four in
+        let same : put b White p ≡ after b p = ap (λ s. put b s p) (sym e) in
+        let turn : mover (put b White p) ≡ Black = ap mover same ∙ mover-then rule b p lawful on ∙ ap other e in
+        ap (all_foul rule) (sym same) ∙ calm-reply rule b lawful.board calm p (GoesOn-empty rule b p on) turn)
 
 -- ---- after the one block of a four
 

@@ -1,3 +1,4 @@
+pub mod CalmPoints
 pub mod FourGame
 pub mod Searching
 pub mod FourPoints

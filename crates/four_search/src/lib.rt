@@ -6,6 +6,7 @@
 #![tactic(auto)]
 
 mod answer;
+mod calm;
 mod fewest;
 mod four_points;
 mod gaps;

@@ -19,6 +19,7 @@ ghost use Rattle.four_search.specs.FourPoints.{four_points_of, AfterFour, AfterR
 ghost use Rattle.four_search.specs.Roots.{TellsRoot};
 ghost use Rattle.four_search.specs.Searching.{found_at, found_trying, found_behind, found_answering};
 
+use crate::calm::has_calm_corners;
 use crate::four_points::{FourPoint, next_four_points};
 use crate::memory::FourMemory;
 use crate::root::Root;
@@ -96,7 +97,8 @@ pub(crate) fn search<R: Rule, V: Seen<R>>(
 
 /// Searches a position that comes after a four and its block. The attacker has no five point, the defender's are known in short, and
 /// the budget is not spent. The points are known that made a five point before the four and its block. Only a position with fours
-/// enough is looked up.
+/// enough is looked up. For a last move, which is searched here where the defender has fouls, it is enough that these cannot be all of
+/// its replies.
 #[cycle(search)]
 fn search_on<R: Rule, V: Seen<R>>(
     view: &mut V,
@@ -115,6 +117,11 @@ fn search_on<R: Rule, V: Seen<R>>(
     ensures found { IfOk result (λ found. found ≡ found_at R.KIND limits.moves (V.position view.old) limits.budget) }
     ensures same { V.position view.new ≡ V.position view.old }
 {
+    if limits.moves == 1 && has_calm_corners(view.board()) {
+        return Ok(Found::NoWin {
+            left: limits.budget - 1,
+        });
+    }
     if rules_out::<R, V>(view, threat) {
         return Ok(Found::NoWin {
             left: limits.budget - 1,

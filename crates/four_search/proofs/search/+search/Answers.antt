@@ -16,7 +16,7 @@ use Rattle.four_search.proofs.Common.{four_points_of, found_trying, found_behind
 use Rattle.four_search.proofs.Listing.{drop-all, drop-next}
 use Rattle.four_search.proofs.Trying.{found-four_points, ruled-out, each-four_point, not_taken, taken-safe, try_all, try_all-none, step_at}
 use Rattle.four_search.proofs.Trying.{step-goes_on, step-ends, found-nothing, answering-no-more, behind-else, block-none, block-threat}
-use Rattle.four_search.proofs.Trying.{block-last, behind-last, trying-else, trying-goes}
+use Rattle.four_search.proofs.Trying.{block-last, behind-last, found-calm, trying-else, trying-goes}
 use Rattle.four_search.proofs.Remembering.{denied-found, found-denied}
 use Rattle.four_search.proofs.search.+search.Goals.{try_four_points-then-takes+in_ok-found+in-NoWin, try_four_points-else-takes}
 use Rattle.four_search.proofs.search.+search.Goals as goal
@@ -250,3 +250,8 @@ pub behind-returns-then-has_calm_block-clause-found : goal.behind-returns-then-h
 behind-returns-then-has_calm_block-clause-found g t c =
     c.without_win.ensures.found ∙ behind-last _ _ _ c.has_calm_block.ensures.lawful c.requires.goes_on c.requires.safe _ _ _
     c.requires.made (c.has_calm_block.ensures.calm c.if-has_calm_block.true) c.if-limits-eq1.true
+
+pub search_on-returns-then-has_calm_corners-clause-found : goal.search_on-returns-then-has_calm_corners-clause-found
+search_on-returns-then-has_calm_corners-clause-found g t c =
+    let calm = rw c.board.ensures.board at (c.has_calm_corners.ensures.calm c.if-has_calm_corners.true) in
+    found-calm _ _ c.requires.lawful c.requires.none calm _ _ c.if-limits-eq1.true c.requires.some_budget
