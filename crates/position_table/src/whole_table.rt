@@ -28,14 +28,15 @@ impl<V: Copy> Model for WholeTable<V> {
 }
 
 impl<V: Copy> WholeTable<V> {
-    /// An empty table of this capacity, which is at least 1. `Err` says that memory ran out.
+    /// An empty table of this capacity, which is at least 1. It takes memory as entries come, since a small search keeps few of them.
+    /// `Err` says that memory ran out.
     pub fn new(alloc: Global, capacity: u32) -> Result<WholeTable<V>, AllocError>
         requires capacity { 0 < capacity }
         ensures empty { IfOk result (λ t. t ≡ record { entries = []; capacity = capacity }) }
     {
         let cap = NonZeroUsize::new(capacity as usize).unwrap();
         Ok(WholeTable {
-            cache: LruCache::new(alloc, cap)?,
+            cache: LruCache::sparse(alloc, cap)?,
         })
     }
 
