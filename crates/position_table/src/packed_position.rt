@@ -4,7 +4,7 @@
 //! the largest board. So a key takes no memory of its own, and two keys are equal exactly where the boards are the same.
 #![tactic(auto)]
 
-ghost use Rattle.std.specs.Prelude.{◌≡◌, ◌<◌, ◌≤◌, ◌+◌, ◌*◌};
+ghost use Rattle.std.specs.Prelude.{◌≡◌, ◌<◌, ◌≤◌, ◌+◌, ◌*◌, length};
 ghost use Rattle.position_table.specs.Remembering.{TestTells};
 ghost use Rattle.position_table.specs.Packing.{packed, KeysTellBoards, bytes_of as bytes_of_lem, byte_at as byte_at_lem, code_at as code_at_lem, code_of as code_of_lem};
 
@@ -72,42 +72,52 @@ impl PackedPosition {
     }
 }
 
-/// The bytes of a board's cells. They are read by their places, since a key is made for each look at a table.
+/// The bytes of a board's cells. Those that have four come first, with no test for the end of the cells, since a key is made for each
+/// look at a table.
 fn bytes_of(cells: &[Cell]) -> [u8; PACKED_BYTES]
     ensures bytes { result ≡ bytes_of_lem cells.now }
 {
     let mut bytes = [0; PACKED_BYTES];
-    for k in 0..PACKED_BYTES {
-        if 4 * k >= cells.len() {
-            return bytes;
-        }
-        bytes[k] = byte_at(cells, k);
+    let whole = (cells.len() / 4).min(PACKED_BYTES);
+    for k in 0..whole {
+        bytes[k] = whole_byte(cells, k);
     }
+    if whole == PACKED_BYTES {
+        return bytes;
+    }
+    bytes[whole] = last_byte(cells, whole);
     bytes
 }
 
-/// Byte `k` of the cells. All but the last one have their four cells at hand, so that one comparison serves for them.
+/// Byte `k`, which has four cells.
 #[inline(always)]
-fn byte_at(cells: &[Cell], k: usize) -> u8
+fn whole_byte(cells: &[Cell], k: usize) -> u8
     requires near { k < PACKED_BYTES }
+    requires within { 4 * k + 3 < length cells.now }
     ensures byte { result ≡ byte_at_lem cells.now k }
 {
     let place = 4 * k;
-    if place + 3 < cells.len() {
-        byte(
-            code_of(cells[place]),
-            code_of(cells[place + 1]),
-            code_of(cells[place + 2]),
-            code_of(cells[place + 3]),
-        )
-    } else {
-        byte(
-            code_at(cells, place),
-            code_at(cells, place + 1),
-            code_at(cells, place + 2),
-            0,
-        )
-    }
+    byte(
+        code_of(cells[place]),
+        code_of(cells[place + 1]),
+        code_of(cells[place + 2]),
+        code_of(cells[place + 3]),
+    )
+}
+
+/// Byte `k`, where three cells are left at most.
+fn last_byte(cells: &[Cell], k: usize) -> u8
+    requires near { k < PACKED_BYTES }
+    requires end { length cells.now ≤ 4 * k + 3 }
+    ensures byte { result ≡ byte_at_lem cells.now k }
+{
+    let place = 4 * k;
+    byte(
+        code_at(cells, place),
+        code_at(cells, place + 1),
+        code_at(cells, place + 2),
+        0,
+    )
 }
 
 /// The byte of four cells, two bits for each, the first of them in the lowest bits.
