@@ -1,13 +1,10 @@
 -- A move that goes on, played on a view and put on a board that is a copy of it, and taken back on both.
 use Rattle.std.proofs.Common.{◌≡◌, true, ap, sym, ◌∙◌}
-use Rattle.game_rules.proofs.Common.{Grid, IsBoard, is_empty, put, lift, outcome, mover, after}
-use Rattle.game_rules.specs.declared.RuleKind.{RuleKind}
-use Rattle.game_rules.specs.declared.Side.{Side}
-use Rattle.game_rules.specs.declared.Point.{Point}
+use Rattle.stone_board.proofs.Common.{Grid, IsBoard, is_empty, put, lift, RuleKind, Side, Point, holds_stone}
+use Rattle.game_rules.proofs.Common.{outcome, mover, after}
 use Rattle.game_rules.specs.declared.Outcome.TheVariants.{GoesOn}
 use Rattle.game_rules.proofs.Boards.{lift-put}
 use Rattle.game_rules.proofs.Positions.{GoesOn-empty}
-use Rattle.stone_board.specs.Steps.{holds_stone}
 use Rattle.stone_board.proofs.Stones.{put-holds_stone}
 
 module _ (rule : RuleKind) {view board : Grid} (p : Point) (copy : board ≡ view) (on : outcome rule view p ≡ GoesOn) where

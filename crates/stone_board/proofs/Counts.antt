@@ -1,19 +1,15 @@
 -- What a board keeps of its stones, as they come and go.
-use Rattle.std.proofs.Common.{◌≡◌, ℕ, zero, suc, ◌+◌, ◌-◌, ◌*◌, ◌<◌, ◌≤◌, true, subst, replicate, cond, sym}
-use Rattle.std.proofs.Common.{ap, ◌∙◌, List, [], ◌∷◌, length, refl, arith, slice_index_or, count_by}
+use Rattle.std.proofs.Common.{◌≡◌, ℕ, zero, suc, ◌+◌, ◌-◌, ◌*◌, ◌<◌, ◌≤◌, true, subst, replicate, cond, sym, ap, ◌∙◌, List, [], ◌∷◌, length}
+use Rattle.std.proofs.Common.{refl, arith, slice_index_or, count_by}
 use Rattle.std.proofs.lemmas.List.{length-replicate}
 use Rattle.std.proofs.lemmas.List.Folds.{sum_by-replicate}
 use Rattle.game_rules.proofs.Cells.{empty_stone}
-use Rattle.game_rules.proofs.Common.{Grid, IsBoard, is_on, is_empty, is_stone_of, stone_of, stones_of, holds, put, lift}
-use Rattle.game_rules.specs.declared.Cell.{Cell}
-use Rattle.game_rules.specs.declared.Cell.TheVariants.{Empty}
-use Rattle.game_rules.specs.declared.TheConstants.{MIN_SIDE, MAX_SIDE}
-use Rattle.game_rules.specs.declared.Point.{Point}
-use Rattle.game_rules.specs.declared.Side.{Side}
-use Rattle.game_rules.specs.declared.Side.TheVariants.{Black, White}
+use Rattle.stone_board.proofs.Common.{Grid, IsBoard, is_on, is_empty, is_stone_of, stone_of, holds, put, lift, Cell, Empty, MAX_SIDE, Point}
+use Rattle.stone_board.proofs.Common.{Side, Black, White, IsKept, all_turned}
+use Rattle.game_rules.proofs.Common.{stones_of}
+use Rattle.game_rules.specs.declared.TheConstants.{MIN_SIDE}
 use Rattle.game_rules.proofs.Positions.{stones_of-put, IsBoard-put, put-lift, lift-empty, IsBoard-lift}
 use Rattle.game_rules.proofs.Boards.{and_left}
-use Rattle.stone_board.proofs.Common.{IsKept, all_turned}
 use Rattle.stone_board.proofs.LineBits.{AreLines-put, AreLines-lift, AreLines-empty}
 
 pub put-black : (b : Grid) (p : Point) (black white : ℕ) (bits : List ℕ) → IsKept b black white bits → is_empty b p ≡ true
@@ -67,22 +63,20 @@ lift-white b p black white bits kept mine = record {
 }
 
 -- a board with no stone
-pub kept-empty : (width height : ℕ) (cells : List Cell) (bits : List ℕ) → MIN_SIDE ≤ width → width ≤ MAX_SIDE → MIN_SIDE ≤ height
-    → height ≤ MAX_SIDE
-    → cells ≡ replicate (width * height) Empty → bits ≡ replicate 512 0
-    → IsKept (record { width = width; height = height; cells = cells }) 0 0 bits
+pub kept-empty : (width height : ℕ) (cells : List Cell) (bits : List ℕ)
+    → MIN_SIDE ≤ width → width ≤ MAX_SIDE → MIN_SIDE ≤ height → height ≤ MAX_SIDE → cells ≡ replicate (width * height) Empty
+    → bits ≡ replicate 512 0 → IsKept (record { width = width; height = height; cells = cells }) 0 0 bits
 kept-empty width height cells bits wide width_fits high height_fits e f =
     let b : List Cell → Grid = λ l. record { width = width; height = height; cells = l } in
     let none : (s : Side) → 0 ≡ stones_of (b (replicate (width * height) Empty)) s = λ s. sym (no_stones s (width * height)) in
-    subst (λ (l : List Cell). IsKept (b l) 0 0 bits) (sym e)
-    (subst (λ (l : List ℕ). IsKept (b (replicate (width * height) Empty)) 0 0 l) (sym f) (record {
+    subst (λ (l : List Cell). IsKept (b l) 0 0 bits)
+    (sym e) (subst (λ (l : List ℕ). IsKept (b (replicate (width * height) Empty)) 0 0 l) (sym f) (record {
       board = record {
         wide = wide;
         width_fits = width_fits;
         high = high;
         height_fits = height_fits;
-        filled = length-replicate
-            (width * height) Empty;
+        filled = length-replicate (width * height) Empty;
       };
       blacks = none Black;
       whites = none White;

@@ -1,26 +1,19 @@
 -- The bits of lines: a turn of a point's bits on its four lines changes what is told of that point and side, and nothing else.
 use Rattle.std.proofs.Common.{◌≡◌, ◌≢◌, ◌⊎◌, inl, inr, ℕ, zero, suc, ◌+◌, ◌*◌, ◌%◌, ◌^◌, ◌<◌, true, false, cond, ◌&&◌, refl, sym, ap, subst}
-use Rattle.std.proofs.Common.{◌∙◌, arith, List, length, replicate}
-use Rattle.std.specs.Prelude.{slice_index_or, bit_xor}
+use Rattle.std.proofs.Common.{◌∙◌, arith, List, length, replicate, slice_index_or, bit_xor}
 use Rattle.std.specs.Int.{bit_at}
 use Rattle.std.proofs.lemmas.Bool.{cases_eq, cases_lt, both_ways}
 use Rattle.std.proofs.Math.Bool.{and-false}
 use Rattle.std.proofs.lemmas.List.{get_or-set_same, get_or-set_other, get_or-replicate, length-replicate, get_or_past}
 use Rattle.std.proofs.Math.ListN.{length-set}
 use Rattle.std.proofs.lemmas.Nat.Bits.{bit_at_xor, bit_at-pow_same, bit_at-pow_other, bit_at-lt, bit_at-zero}
-use Rattle.game_rules.proofs.Common.{Grid, IsBoard, is_on, is_empty, is_stone_of, stone_of, place_of, holds, put, lift}
-use Rattle.game_rules.specs.declared.Cell.{Cell}
-use Rattle.game_rules.specs.declared.Cell.TheVariants.{Empty}
-use Rattle.game_rules.specs.declared.Side.{Side}
-use Rattle.game_rules.specs.declared.Side.TheVariants.{Black, White}
-use Rattle.game_rules.specs.declared.Axis.{Axis}
-use Rattle.game_rules.specs.declared.Axis.TheVariants.{Row, Column, Down, Up}
-use Rattle.game_rules.specs.declared.Point.{Point}
+use Rattle.stone_board.proofs.Common.{Grid, IsBoard, is_on, is_empty, is_stone_of, stone_of, place_of, holds, put, lift, Cell, Empty, Side}
+use Rattle.stone_board.proofs.Common.{Black, White, Axis, Row, Column, Down, Up, Point, line_of, place_on, axis_number, side_number}
+use Rattle.stone_board.proofs.Common.{index_of, told, AreLines, turned, all_turned}
 use Rattle.game_rules.proofs.Boards.{Apart, same_or_apart, not-apart, and_left, empty_holds, stone_of_side, holds-put_same, holds-put_other}
 use Rattle.game_rules.proofs.Boards.{is_empty-on, on_x, on_y}
 use Rattle.game_rules.proofs.Positions.{holds-other, put-lift, lift-empty, IsBoard-lift}
 use Rattle.game_rules.proofs.Cells.{empty_cell, empty_stone}
-use Rattle.stone_board.specs.Lines.{line_of, place_on, axis_number, side_number, index_of, told, AreLines, turned, all_turned}
 
 -- ---- a point, its axis and a side are told by an index and a place
 
@@ -71,15 +64,13 @@ parts : (a c n m u v : ℕ) → n < 64 → m < 64 → u < 2 → v < 2 → 128 * 
 parts a c n m u v n_low m_low u_low v_low h = (omega arith, omega arith, omega arith)
 
 pub same_place : (d : Axis) (p q : Point) → IsNear p → IsNear q → line_of d p ≡ line_of d q → place_on d p ≡ place_on d q → p ≡ q
-same_place d p q near close line place = elim (same_or_apart p q) [
-  | inl same ↦ same
-  | inr apart ↦ absurd (by_axis d line place apart)
-] where
-  by_axis : (d : Axis) → line_of d p ≡ line_of d q → place_on d p ≡ place_on d q → Apart p q → ⊥
-  by_axis Row line place apart = apart.apart (omega arith) (omega arith)
-  by_axis Column line place apart = apart.apart (omega arith) (omega arith)
-  by_axis Down line place apart = apart.apart (omega arith) (omega arith)
-  by_axis Up line place apart = apart.apart (omega arith) (omega arith)
+same_place d p q near close line place =
+    elim (same_or_apart p q) [ inl same ↦ same | inr apart ↦ absurd (by_axis d line place apart) ] where
+      by_axis : (d : Axis) → line_of d p ≡ line_of d q → place_on d p ≡ place_on d q → Apart p q → ⊥
+      by_axis Row line place apart = apart.apart (omega arith) (omega arith)
+      by_axis Column line place apart = apart.apart (omega arith) (omega arith)
+      by_axis Down line place apart = apart.apart (omega arith) (omega arith)
+      by_axis Up line place apart = apart.apart (omega arith) (omega arith)
 
 -- ---- one turn
 
@@ -94,8 +85,7 @@ module _ (lines : List ℕ) (s : Side) (d : Axis) (p : Point) where
       let i : ℕ = index_of s d (line_of d p) in
       let k : ℕ = place_on d p in
       ap (λ n. bit_at n k) (get_or-set_same lines i (bit_xor (slice_index_or lines i 0) (2 ^ k)) 0 within)
-      ∙ bit_at_xor (slice_index_or lines i 0) (2 ^ k) k
-      ∙ ap (λ n. (told lines s d p + n) % 2) (bit_at-pow_same k)
+      ∙ bit_at_xor (slice_index_or lines i 0) (2 ^ k) k ∙ ap (λ n. (told lines s d p + n) % 2) (bit_at-pow_same k)
 
   turned-other : (t : Side) (e : Axis) (q : Point) → index_of s d (line_of d p) < length lines
       → (index_of t e (line_of e q) ≡ index_of s d (line_of d p) → place_on e q ≡ place_on d p → ⊥)
@@ -112,12 +102,9 @@ module _ (lines : List ℕ) (s : Side) (d : Axis) (p : Point) where
         | inl same ↦
             let apart : n ≢ k = differ same in
             let low = bit_at-lt (slice_index_or lines j 0) n in
-            ap (λ m. bit_at (slice_index_or (turned lines s d p) m 0) n) same
-            ∙ ap (λ m. bit_at m n) (get_or-set_same lines i bits 0 within)
-            ∙ bit_at_xor (slice_index_or lines i 0) (2 ^ k) n
-            ∙ ap (λ m. (bit_at (slice_index_or lines i 0) n + m) % 2) (bit_at-pow_other k n apart)
-            ∙ ap (λ m. (bit_at (slice_index_or lines m 0) n + 0) % 2) (sym same)
-            ∙ omega (arith, low)
+            ap (λ m. bit_at (slice_index_or (turned lines s d p) m 0) n) same ∙ ap (λ m. bit_at m n) (get_or-set_same lines i bits 0 within)
+            ∙ bit_at_xor (slice_index_or lines i 0) (2 ^ k) n ∙ ap (λ m. (bit_at (slice_index_or lines i 0) n + m) % 2)
+            (bit_at-pow_other k n apart) ∙ ap (λ m. (bit_at (slice_index_or lines m 0) n + 0) % 2) (sym same) ∙ omega (arith, low)
       ]
 
 -- ---- the four turns of a point
@@ -155,8 +142,7 @@ module _ (lines : List ℕ) (s : Side) (p : Point) (all : length lines ≡ 512) 
   -- a bit that is another's stays in each turn
   stays : (t : Side) (e : Axis) (q : Point) → IsNear q → (d : Axis) (more : List ℕ) → length more ≡ 512 → (t ≡ s → e ≡ d → q ≡ p → ⊥)
       → told (turned more s d p) t e q ≡ told more t e q
-  stays t e q close d more full differ =
-      turned-other more s d p t e q (within d more full) (λ index place.
+  stays t e q close d more full differ = turned-other more s d p t e q (within d more full) (λ index place.
       let same = parts (axis_number e) (axis_number d) (line_of e q) (line_of d p) (side_number t) (side_number s)
       (line_low e q close) (line_low d p near) (side_low t) (side_low s) index in
       let axis : e ≡ d = same_axis e d same.0 in
@@ -167,31 +153,22 @@ module _ (lines : List ℕ) (s : Side) (p : Point) (all : length lines ≡ 512) 
   pub all_turned-other : (t : Side) (e : Axis) (q : Point) → IsNear q → (t ≡ s → q ≡ p → ⊥)
       → told (all_turned lines s p) t e q ≡ told lines t e q
   unfolding all_turned
-  all_turned-other t e q close differ =
-      stays t e q close Up third full_third (λ side axis point. differ side point)
-      ∙ stays t e q close Down second full_second (λ side axis point. differ side point)
-      ∙ stays t e q close Column first full_first (λ side axis point. differ side point)
-      ∙ stays t e q close Row lines all (λ side axis point. differ side point)
+  all_turned-other t e q close differ = stays t e q close Up third full_third (λ side axis point. differ side point)
+      ∙ stays t e q close Down second full_second (λ side axis point. differ side point) ∙ stays t e q close Column first full_first
+      (λ side axis point. differ side point) ∙ stays t e q close Row lines all (λ side axis point. differ side point)
 
   pub all_turned-same : (e : Axis) → told (all_turned lines s p) s e p ≡ (told lines s e p + 1) % 2
   unfolding all_turned
   all_turned-same Row =
-      stays s Row p near Up third full_third (λ side axis point. cc)
-      ∙ stays s Row p near Down second full_second (λ side axis point. cc)
-      ∙ stays s Row p near Column first full_first (λ side axis point. cc)
-      ∙ turned-same lines s Row p (within Row lines all)
-  all_turned-same Column =
-      stays s Column p near Up third full_third (λ side axis point. cc)
-      ∙ stays s Column p near Down second full_second (λ side axis point. cc)
-      ∙ turned-same first s Column p (within Column first full_first)
-      ∙ ap (λ n. (n + 1) % 2) (stays s Column p near Row lines all (λ side axis point. cc))
-  all_turned-same Down =
-      stays s Down p near Up third full_third (λ side axis point. cc)
-      ∙ turned-same second s Down p (within Down second full_second)
-      ∙ ap (λ n. (n + 1) % 2)
+      stays s Row p near Up third full_third (λ side axis point. cc) ∙ stays s Row p near Down second full_second (λ side axis point. cc)
+      ∙ stays s Row p near Column first full_first (λ side axis point. cc) ∙ turned-same lines s Row p (within Row lines all)
+  all_turned-same Column = stays s Column p near Up third full_third (λ side axis point. cc)
+      ∙ stays s Column p near Down second full_second (λ side axis point. cc) ∙ turned-same first s Column p
+      (within Column first full_first) ∙ ap (λ n. (n + 1) % 2) (stays s Column p near Row lines all (λ side axis point. cc))
+  all_turned-same Down = stays s Down p near Up third full_third (λ side axis point. cc)
+      ∙ turned-same second s Down p (within Down second full_second) ∙ ap (λ n. (n + 1) % 2)
       (stays s Down p near Column first full_first (λ side axis point. cc) ∙ stays s Down p near Row lines all (λ side axis point. cc))
-  all_turned-same Up =
-      turned-same third s Up p (within Up third full_third)
+  all_turned-same Up = turned-same third s Up p (within Up third full_third)
       ∙ ap (λ n. (n + 1) % 2) (stays s Up p near Down second full_second (λ side axis point. cc)
       ∙ stays s Up p near Column first full_first (λ side axis point. cc) ∙ stays s Up p near Row lines all (λ side axis point. cc))
 
@@ -221,10 +198,7 @@ module _ (b : Grid) (s : Side) (p : Point) (ok : IsBoard b) (empty : is_empty b 
   else-same : (t : Side) (q : Point) → (t ≡ s → q ≡ p → ⊥) → holds (put b s p) t q ≡ holds b t q
   else-same t q differ = elim (rival s t) [
     | inr other ↦ holds-other b s t p ok empty other q
-    | inl side ↦ elim (same_or_apart p q) [
-      | inr apart ↦ holds-put_other b s t p q here apart
-      | inl same ↦ absurd (differ side (sym same))
-    ]
+    | inl side ↦ elim (same_or_apart p q) [ inr apart ↦ holds-put_other b s t p q here apart | inl same ↦ absurd (differ side (sym same)) ]
   ]
 
   -- the bit of a side and a point is that of the stone, or another
@@ -248,12 +222,10 @@ module _ (b : Grid) (s : Side) (p : Point) (ok : IsBoard b) (empty : is_empty b 
           let before : told lines s e p ≡ 0 = h.stones s e p here ∙ ap (λ r. cond r 1 0) (empty_holds b s p empty) in
           let after : told more s e p ≡ cond (holds (put b s p) s p) 1 0 =
           turn ∙ ap (λ n. (n + 1) % 2) before ∙ sym (ap (λ r. cond r 1 0) (holds-put_same b s p ok here)) in
-          subst (λ (u : Side). told more u e q ≡ cond (holds (put b s p) u q) 1 0) (sym same.0)
-          (subst (λ (r : Point). told more s e r ≡ cond (holds (put b s p) s r) 1 0) (sym same.1) after)
-      | inr differ ↦
-          all_turned-other lines s p h.all close t e q (board-near b q ok on) differ
-          ∙ h.stones t e q on
-          ∙ sym (ap (λ r. cond r 1 0) (else-same t q differ))
+          subst (λ (u : Side). told more u e q ≡ cond (holds (put b s p) u q) 1 0)
+          (sym same.0) (subst (λ (r : Point). told more s e r ≡ cond (holds (put b s p) s r) 1 0) (sym same.1) after)
+      | inr differ ↦ all_turned-other lines s p h.all close t e q (board-near b q ok on) differ
+          ∙ h.stones t e q on ∙ sym (ap (λ r. cond r 1 0) (else-same t q differ))
     ]
 
     lift-told : AreLines (put b s p) lines → (t : Side) (e : Axis) (q : Point) → is_on b q ≡ true → told more t e q ≡ cond (holds b t q) 1 0
@@ -263,12 +235,10 @@ module _ (b : Grid) (s : Side) (p : Point) (ok : IsBoard b) (empty : is_empty b 
           let before : told lines s e p ≡ 1 = h.stones s e p here ∙ ap (λ r. cond r 1 0) (holds-put_same b s p ok here) in
           let after : told more s e p ≡ cond (holds b s p) 1 0 =
           turn ∙ ap (λ n. (n + 1) % 2) before ∙ sym (ap (λ r. cond r 1 0) (empty_holds b s p empty)) in
-          subst (λ (u : Side). told more u e q ≡ cond (holds b u q) 1 0) (sym same.0)
-          (subst (λ (r : Point). told more s e r ≡ cond (holds b s r) 1 0) (sym same.1) after)
-      | inr differ ↦
-          all_turned-other lines s p h.all close t e q (board-near b q ok on) differ
-          ∙ h.stones t e q on
-          ∙ ap (λ r. cond r 1 0) (else-same t q differ)
+          subst (λ (u : Side). told more u e q ≡ cond (holds b u q) 1 0)
+          (sym same.0) (subst (λ (r : Point). told more s e r ≡ cond (holds b s r) 1 0) (sym same.1) after)
+      | inr differ ↦ all_turned-other lines s p h.all close t e q (board-near b q ok on) differ
+          ∙ h.stones t e q on ∙ ap (λ r. cond r 1 0) (else-same t q differ)
     ]
 
     -- with a stone more, and with one less

@@ -2,11 +2,7 @@
 use Rattle.std.proofs.Common.{◌≡◌, ℕ, ◌+◌, ◌-◌, ◌≤◌, ◌<◌, nat_lt, ◌&&◌, true, inl, inr, refl, arith}
 use Rattle.std.proofs.lemmas.Bool.{cases_lt}
 use Rattle.std.proofs.lemmas.Bool.Decides.{nat_tests}
-use Rattle.game_rules.proofs.Common.{Grid, IsBoard}
-use Rattle.game_rules.specs.declared.Axis.{Axis}
-use Rattle.game_rules.specs.declared.Axis.TheVariants.{Row, Column, Down, Up}
-use Rattle.game_rules.specs.declared.TheConstants.{MAX_SIDE}
-use Rattle.stone_board.specs.Lines.{HasPointOnLine, line_of}
+use Rattle.stone_board.proofs.Common.{Grid, IsBoard, Axis, Row, Column, Down, Up, MAX_SIDE, HasPointOnLine, line_of}
 
 within : (x y w h : ℕ) → x < w → y < h → (nat_lt x w && nat_lt y h) ≡ true
 within x y w h column row = grind (arith, nat_tests)

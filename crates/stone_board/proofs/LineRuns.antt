@@ -1,16 +1,11 @@
 -- How many stones stand next to a point, by the bits of its line.
-use Rattle.std.proofs.Common.{◌≡◌, inl, inr, ℕ, ◌+◌, ◌≤◌, ◌<◌, min, Bool, true, false, cond, refl, sym, ap, subst}
-use Rattle.std.proofs.Common.{◌∙◌, arith, Some}
+use Rattle.std.proofs.Common.{◌≡◌, inl, inr, ℕ, ◌+◌, ◌≤◌, ◌<◌, min, Bool, true, false, cond, refl, sym, ap, subst, ◌∙◌, arith, Some}
 use Rattle.std.specs.Int.{bit_at}
 use Rattle.std.proofs.lemmas.Bool.{cases_lt}
-use Rattle.game_rules.proofs.Common.{Grid, IsBoard, is_on, stone_at, towards, stones_towards}
-use Rattle.game_rules.specs.declared.Side.{Side}
-use Rattle.game_rules.specs.declared.Axis.{Axis}
-use Rattle.game_rules.specs.declared.Point.{Point}
-use Rattle.game_rules.specs.declared.Way.{Way}
-use Rattle.game_rules.specs.declared.Way.TheVariants.{Ahead, Behind}
+use Rattle.stone_board.proofs.Common.{Grid, IsBoard, is_on, stone_at, towards, Side, Axis, Point, Way, Ahead, Behind, line_of, place_on}
+use Rattle.stone_board.proofs.Common.{place_towards, places_left, TellsLine, steps_left}
+use Rattle.game_rules.proofs.Common.{stones_towards}
 use Rattle.game_rules.proofs.Runs.{Leads, ahead_is, behind_is}
-use Rattle.stone_board.proofs.Common.{line_of, place_on, place_towards, places_left, TellsLine, steps_left}
 use Rattle.stone_board.proofs.LineBits.{board-near}
 use Rattle.stone_board.proofs.LineStones.{along-places, place_low}
 use Rattle.stone_board.proofs.Strides.{step_on, past_none}
@@ -56,8 +51,7 @@ module _ (b : Grid) (s : Side) (d : Axis) (p : Point) (bits : ℕ) (ok : IsBoard
   step_bit : (w : Way) (k : ℕ) → k ≤ left w → bit_at bits (place_towards w (place_on d p) k) ≡ cond (stone_at b s (towards w d p k)) 1 0
   step_bit w k h =
       let found = step_of w k h in
-      ap (bit_at bits) (sym found.3.place) ∙ tells.stones found.0 found.2 found.3.line
-      ∙ sym (ap (λ o. cond (stone_at b s o) 1 0) found.1)
+      ap (bit_at bits) (sym found.3.place) ∙ tells.stones found.0 found.2 found.3.line ∙ sym (ap (λ o. cond (stone_at b s o) 1 0) found.1)
 
   module _ (w : Way) (far i : ℕ) (here : i ≡ place_on d p)
       (set : (k : ℕ) → 1 ≤ k → k ≤ far → k ≤ places_left w i → bit_at bits (place_towards w i k) ≡ 1)

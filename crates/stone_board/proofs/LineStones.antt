@@ -3,18 +3,15 @@ use Rattle.std.proofs.Common.{◌≡◌, inl, inr, ℕ, ◌+◌, ◌-◌, ◌≤
 use Rattle.std.specs.Prelude.{Option, Some, None, bit_or}
 use Rattle.std.specs.Int.{bit_at}
 use Rattle.std.proofs.lemmas.Nat.Bits.{bit_at_or, bit_at-pow_same, bit_at-pow_other, bit_at-lt}
-use Rattle.game_rules.proofs.Common.{Grid, IsBoard, is_on, is_empty, along, stone_at, holds, put, stones_ahead, stones_behind, other}
-use Rattle.game_rules.specs.declared.Side.{Side}
-use Rattle.game_rules.specs.declared.Axis.{Axis}
-use Rattle.game_rules.specs.declared.Axis.TheVariants.{Row, Column, Down, Up}
-use Rattle.game_rules.specs.declared.Point.{Point}
+use Rattle.stone_board.proofs.Common.{Grid, IsBoard, is_on, is_empty, stone_at, holds, put, Side, Axis, Row, Column, Down, Up, Point}
+use Rattle.stone_board.proofs.Common.{line_of, place_on, TellsLine}
+use Rattle.game_rules.proofs.Common.{along, stones_ahead, stones_behind, other}
 use Rattle.game_rules.proofs.Boards.{Apart, and_left, same_or_apart, not-apart, empty_holds, holds-put_same, holds-put_other, is_empty-on}
 use Rattle.game_rules.proofs.Boards.{stone_of-other}
 use Rattle.std.proofs.lemmas.Bool.{cases_lt}
 use Rattle.game_rules.proofs.Lines.{OnLine, along-OnLine}
 use Rattle.game_rules.proofs.Positions.{holds-other}
 use Rattle.game_rules.proofs.Runs.{ahead_leads, behind_leads}
-use Rattle.stone_board.specs.Lines.{line_of, place_on, TellsLine}
 use Rattle.stone_board.proofs.LineBits.{IsNear, board-near, same_place}
 
 -- a point so many steps along the axis is on the same line, so many places on
@@ -89,20 +86,15 @@ module _ (b : Grid) (s : Side) (d : Axis) (p : Point) (bits : ℕ) (ok : IsBoard
       | inl same ↦ subst (λ (r : Point). bit_at (bit_or bits (2 ^ place_on d p)) (place_on d r) ≡ cond (holds (put b s p) s r) 1 0) same
           (let low = bit_at-lt bits (place_on d p) in
           bit_at_or bits (2 ^ place_on d p) (place_on d p) ∙ ap (λ n. max (bit_at bits (place_on d p)) n) (bit_at-pow_same (place_on d p))
-          ∙ omega (arith, low)
-          ∙ sym (ap (λ r. cond r 1 0) (holds-put_same b s p ok here)))
-      | inr apart ↦
-          bit_at_or bits (2 ^ place_on d p) (place_on d q)
+          ∙ omega (arith, low) ∙ sym (ap (λ r. cond r 1 0) (holds-put_same b s p ok here)))
+      | inr apart ↦ bit_at_or bits (2 ^ place_on d p) (place_on d q)
           ∙ ap (λ n. max (bit_at bits (place_on d q)) n) (bit_at-pow_other (place_on d p) (place_on d q) (λ place. not-apart q
           (subst (λ (r : Point). Apart r q) (sym (same_place d q p (board-near b q ok on) (board-near b p ok here) line place)) apart)))
-          ∙ omega arith
-          ∙ tells.stones q on line
-          ∙ sym (ap (λ r. cond r 1 0) (holds-put_other b s s p q here apart))
+          ∙ omega arith ∙ tells.stones q on line ∙ sym (ap (λ r. cond r 1 0) (holds-put_other b s s p q here apart))
     ]
 
   -- and leaves that of the other side
   pub TellsLine-other : {n : ℕ} → TellsLine b (other s) d n bits → TellsLine (put b s p) (other s) d n bits
   TellsLine-other tells = record {
-    stones = λ q on line. tells.stones q on line
-        ∙ sym (ap (λ r. cond r 1 0) (holds-other b s (other s) p ok empty (stone_of-other s) q));
+    stones = λ q on line. tells.stones q on line ∙ sym (ap (λ r. cond r 1 0) (holds-other b s (other s) p ok empty (stone_of-other s) q));
   }

@@ -1,13 +1,9 @@
 -- What stands at steps along an axis.
 use Rattle.std.proofs.Common.{◌≡◌, true, refl, sym, ap, ◌∙◌, Option, Some, None}
-use Rattle.game_rules.proofs.Common.{Grid, is_on, is_line_three_at}
-use Rattle.game_rules.specs.declared.Point.{Point}
-use Rattle.game_rules.specs.declared.RuleKind.{RuleKind}
-use Rattle.game_rules.specs.declared.Side.{Side}
-use Rattle.game_rules.specs.declared.Axis.{Axis}
+use Rattle.stone_board.proofs.Common.{Grid, is_on, Point, RuleKind, Side, Axis, kept_on}
+use Rattle.game_rules.proofs.Common.{is_line_three_at}
 use Rattle.game_rules.proofs.Boards.{kept_by}
 use Rattle.game_rules.proofs.Threes.{kept_three_by}
-use Rattle.stone_board.proofs.Common.{kept_on}
 
 pub kept-Some : (b : Grid) (o : Option Point) (q : Point) → kept_on b o ≡ Some q → (o ≡ Some q) × (is_on b q ≡ true)
 kept-Some b None q h = cc

@@ -64,9 +64,8 @@ module _ (bits place : ℕ) (near : place < 32) where
   moved_is : moved ≡ bits * 2 ^ (32 - place) % 2 ^ 32
   moved_is =
       let one : 31 - place + 1 ≡ 32 - place = omega (arith, near) in
-      mul-mod_first (bits * 2 ^ (31 - place)) 2 4294967296
-      ∙ ap (λ m. m % 2 ^ 32) (mul_assoc bits (2 ^ (31 - place)) 2
-      ∙ ap (λ m. bits * m) (sym (pow-add 2 (31 - place) 1) ∙ ap (λ m. 2 ^ m) one))
+      mul-mod_first (bits * 2 ^ (31 - place)) 2 4294967296 ∙ ap
+      (λ m. m % 2 ^ 32) (mul_assoc bits (2 ^ (31 - place)) 2 ∙ ap (λ m. bits * m) (sym (pow-add 2 (31 - place) 1) ∙ ap (λ m. 2 ^ m) one))
 
   moved_bit : (i : ℕ) → i < 32 → bit_at moved i ≡ bit_at (bits * 2 ^ (32 - place)) i
   moved_bit i low = ap (λ m. bit_at m i) moved_is ∙ bit_low (bits * 2 ^ (32 - place)) 32 i low

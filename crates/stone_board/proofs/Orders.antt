@@ -2,9 +2,8 @@
 use Rattle.std.proofs.Common.{◌≡◌, ℕ, ◌+◌, ◌-◌, ◌<◌, Bool, true, false, cond, refl, sym, ap, ◌∙◌, arith, List, [], ◌∷◌, ◌++◌, nat_lt}
 use Rattle.std.proofs.lemmas.Bool.Decides.{nat_tests}
 use Rattle.game_rules.proofs.Common.{row_from, points_within}
-use Rattle.game_rules.specs.declared.Point.{Point}
+use Rattle.stone_board.proofs.Common.{Point, points_left, following}
 use Rattle.game_rules.proofs.ReadingOrder.{row_from-first, rows_from, rows_from-first}
-use Rattle.stone_board.specs.Order.{points_left, following}
 use borrow.Author.Tests.{ltb-true}
 
 left_from_row-rows : (width height y : ℕ) (r : Bool) → nat_lt y height ≡ r

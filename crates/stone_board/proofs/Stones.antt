@@ -1,11 +1,8 @@
 -- Stones of either side.
 use Rattle.std.proofs.Common.{◌≡◌, true}
-use Rattle.game_rules.proofs.Common.{Grid, IsBoard, is_on, is_empty, cell_at, holds, put}
-use Rattle.game_rules.specs.declared.Side.{Side}
-use Rattle.game_rules.specs.declared.Point.{Point}
+use Rattle.stone_board.proofs.Common.{Grid, IsBoard, is_on, is_empty, cell_at, holds, put, Side, Point, holds_stone}
 use Rattle.game_rules.proofs.Boards.{holds-put_same, is_empty-on}
 use Rattle.game_rules.proofs.Cells.{stone_by}
-use Rattle.stone_board.specs.Steps.{holds_stone}
 
 -- a stone of a side is a stone
 pub holds-holds_stone : (b : Grid) (s : Side) (p : Point) → holds b s p ≡ true → holds_stone b p ≡ true

@@ -1,17 +1,10 @@
 -- How far a walk along an axis stays on the board.
-use Rattle.std.proofs.Common.{◌≡◌, ℕ, ◌+◌, ◌-◌, ◌*◌, ◌≤◌, ◌<◌, Bool, true, false, refl, ap, ◌∙◌, arith, nat_lt}
-use Rattle.std.specs.Prelude.{Option, Some, None}
+use Rattle.std.proofs.Common.{◌≡◌, ℕ, ◌+◌, ◌-◌, ◌≤◌, ◌<◌, Bool, true, false, refl, ap, ◌∙◌, arith, nat_lt, Option, Some, None}
 use Rattle.std.proofs.lemmas.Bool.Decides.{nat_tests}
-use Rattle.game_rules.proofs.Common.{Grid, is_on, holds, stone_at, towards}
-use Rattle.game_rules.specs.declared.Side.{Side}
-use Rattle.game_rules.specs.declared.Axis.{Axis}
-use Rattle.game_rules.specs.declared.Point.{Point}
-use Rattle.game_rules.specs.declared.Way.{Way}
-use Rattle.game_rules.specs.declared.Axis.TheVariants.{Row, Column, Down, Up}
-use Rattle.game_rules.specs.declared.Way.TheVariants.{Ahead, Behind}
+use Rattle.stone_board.proofs.Common.{Grid, is_on, holds, stone_at, towards, Side, Axis, Point, Way, Row, Column, Down, Up, Ahead, Behind}
+use Rattle.stone_board.proofs.Common.{steps_left}
 use Rattle.game_rules.proofs.Boards.{on_x, on_y}
 use Rattle.game_rules.proofs.Lines.{OnLine, along-OnLine, OnLine-along}
-use Rattle.stone_board.specs.Walks.{steps_left}
 
 -- ---- how far the board goes
 

@@ -9,8 +9,7 @@ returns-in-Ahead-clause-set c =
     rw c.in-Ahead.is (λ k low high near. ahead_set c.args.bits c.args.place c.ranges.bits.fits k low (omega (arith, found, high)))
 
 pub returns-in-Ahead-clause-clear : goal.returns-in-Ahead-clause-clear
-returns-in-Ahead-clause-clear c =
-    rw c.in-Ahead.is (λ short. ap (λ n. bit_at c.args.bits (c.args.place + (1 + n))) c.trailing_ones.ensures
+returns-in-Ahead-clause-clear c = rw c.in-Ahead.is (λ short. ap (λ n. bit_at c.args.bits (c.args.place + (1 + n))) c.trailing_ones.ensures
     ∙ ahead_clear c.args.bits c.args.place c.ranges.bits.fits)
 
 pub returns-in-Behind-clause-set : goal.returns-in-Behind-clause-set

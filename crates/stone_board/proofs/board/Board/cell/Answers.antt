@@ -1,6 +1,5 @@
 use Rattle.std.proofs.Common.{◌≡◌, ◌<◌, true, length, ap, ◌∙◌}
-use Rattle.game_rules.specs.Grid.{Grid, is_on, cell_at, place_of}
-use Rattle.game_rules.specs.declared.Cell.TheVariants.{Empty}
+use Rattle.stone_board.proofs.Common.{Grid, is_on, cell_at, place_of, Empty}
 use Rattle.game_rules.proofs.Boards.{place_fits}
 use Rattle.stone_board.proofs.Counts.{same_item}
 use Rattle.stone_board.proofs.board.Board.cell.Goals as goal

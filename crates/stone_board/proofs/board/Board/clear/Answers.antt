@@ -1,7 +1,5 @@
 use Rattle.std.proofs.Common.{◌≡◌, ◌*◌, ℕ, length, replicate, ap, ◌∙◌, List, rules}
-use Rattle.game_rules.specs.Grid.{Grid}
-use Rattle.game_rules.specs.declared.Cell.{Cell}
-use Rattle.game_rules.specs.declared.Cell.TheVariants.{Empty}
+use Rattle.stone_board.proofs.Common.{Grid, Cell, Empty}
 use Rattle.stone_board.proofs.Counts.{kept-cleared}
 use Rattle.stone_board.proofs.board.Board.clear.Goals as goal
 
