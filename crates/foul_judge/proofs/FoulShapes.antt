@@ -1,27 +1,30 @@
--- What the shapes of a point tell of Black's foul there, where Black has fouls.
-use Rattle.std.proofs.Common.{ℕ, zero, suc, ◌+◌, ◌*◌, Bool, cond, ◌≡◌, ◌%◌, true, false, arith, ◌/◌, ◌<◌, sym}
-use Rattle.std.proofs.Common.{ap, ◌∙◌, ◌^◌, ◌≤◌, not, List, refl, nat_eq, nat_le, sum_by, count_by, Some, None, map}
+-- What the shapes of a point tell of a move of Black there, where Black has fouls.
+use Rattle.std.proofs.Common.{ℕ, zero, suc, ◌+◌, ◌*◌, Bool, cond, ◌≡◌, ◌%◌, true, false, arith, ◌/◌, ◌<◌, sym, ◌&&◌, rules}
+use Rattle.std.proofs.Common.{ap, ◌∙◌, ◌^◌, not, List, refl, nat_eq, nat_le, sum_by, count_by, Option, is_none}
 use Rattle.std.specs.Int.{bit_at}
 use Rattle.std.specs.List.{range_with_len, list_any}
+use Rattle.std.specs.Option.{option_map_or}
 use Rattle.std.proofs.lemmas.Nat.Bits.{bit_at_lowest, bit_at-suc}
-use Rattle.std.proofs.lemmas.Bool.Decides.{nat_tests}
-use Rattle.game_rules.proofs.Common.{Grid, IsBoard, is_empty, holds, put, axes, along, run_of, fours_of, is_line_three_at, has_fouls}
-use Rattle.game_rules.proofs.Common.{first_foul, is_three, stone_foul, black_foul}
+use Rattle.game_rules.proofs.Common.{Grid, IsBoard, is_empty, put, axes, along, run_of, fours_of, is_line_three_at, has_fouls}
+use Rattle.game_rules.proofs.Common.{first_foul, stone_foul, black_foul, five, mover, outcome, empties_of, is_win, is_foul}
 use Rattle.game_rules.specs.declared.RuleKind.{RuleKind}
 use Rattle.game_rules.specs.declared.Axis.{Axis}
 use Rattle.game_rules.specs.declared.Point.{Point}
+use Rattle.game_rules.specs.declared.Side.{Side}
 use Rattle.game_rules.specs.declared.Side.TheVariants.{Black}
-use Rattle.game_rules.specs.declared.Foul.TheVariants.{Overline, DoubleFour}
+use Rattle.game_rules.specs.declared.Foul.{Foul}
+use Rattle.game_rules.specs.declared.Foul.TheVariants.{Overline, DoubleFour, DoubleThree}
+use Rattle.game_rules.specs.declared.Outcome.{Outcome}
+use Rattle.game_rules.specs.declared.Outcome.TheVariants.{Wins, Fouls, Draws, GoesOn}
 use Rattle.game_rules.specs.declared.Axis.TheVariants.{Row, Column, Down, Up}
 use Rattle.game_rules.proofs.Boards.{is_empty-on, holds-put_same}
 use Rattle.game_rules.proofs.Positions.{IsBoard-put}
 use Rattle.game_rules.proofs.Fives.{five_alone}
 use Rattle.row_shapes.specs.declared.shapes.Shape.{Shape}
 use Rattle.row_shapes.specs.Rule.{reach_of}
-use Rattle.row_shapes.specs.LineCodes.{line_code}
-use Rattle.row_shapes.specs.LineShapes.{shape_of, shape_at, three_bits, IsShape}
-use Rattle.row_shapes.proofs.CodeDigits.{reach_five, told_shape}
-use Rattle.foul_judge.proofs.Common.{has_line_three}
+use Rattle.row_shapes.specs.LineShapes.{stone_shape, shape_at, three_bits, IsShape}
+use Rattle.row_shapes.proofs.CodeDigits.{reach_five}
+use Rattle.foul_judge.proofs.Common.{has_line_three, black_outcome, foul_in, outcome_of_shapes, stone_shapes, two_threes}
 use Rattle.foul_judge.proofs.ThreePlaces.{foul-step}
 use Rattle.foul_judge.proofs.MayFoul.{no_two_threes, line_by_bits}
 
@@ -99,101 +102,112 @@ module _ (rule : RuleKind) (b : Grid) (d : Axis) (p : Point) where
   three_bits-is = halved-sum three_at
 
   -- each place of a three point has its bit
-  pub three_bit : (i : ℕ) → i < 11 → bit_at (three_bits rule b Black d p) i ≡ cond (is_line_three_at rule b Black d p (along d p i 5)) 1 0
-  three_bit i low =
+  pub three_bit : (points i : ℕ) → points ≡ three_bits rule b Black d p → i < 11
+      → bit_at points i ≡ cond (is_line_three_at rule b Black d p (along d p i 5)) 1 0
+  three_bit points i e low =
       let here : 0 + i ≡ i = omega arith in
-      ap (λ n. bit_at n i) three_bits-is ∙ halved-bits three_at 11 0 i low ∙ ap (λ j. cond (three_at j) 1 0) here
+      ap (λ n. bit_at n i) (e ∙ three_bits-is) ∙ halved-bits three_at 11 0 i low ∙ ap (λ j. cond (three_at j) 1 0) here
 
   -- the axis has one exactly where there is a bit
   pub three_bits-some : not (nat_eq (three_bits rule b Black d p) 0) ≡ has_line_three rule b d p
-  three_bits-some = line_by_bits rule b p d (three_bits rule b Black d p) (rw three_bits-is (halved-low three_at)) three_bit
+  three_bits-some = line_by_bits rule b p d (three_bits rule b Black d p) (rw three_bits-is (halved-low three_at))
+      (λ i low. three_bit _ i refl low)
 
-module _ (rule : RuleKind) (b : Grid) (p : Point) (ok : IsBoard b) (empty : is_empty b p ≡ true) (fouls : has_fouls rule Black ≡ true) where
-  abbrev next : Grid
-  next = put b Black p
+-- ---- what the shapes of a stone say together
 
-  abbrev told : Axis → Shape
-  told d = shape_of (reach_of rule Black) (line_code (reach_of rule Black) b Black d p)
+-- the side that has fouls is Black
+pub fouls-black : (rule : RuleKind) (s : Side) → has_fouls rule s ≡ true → s ≡ Black
+fouls-black rule s h = search rules
 
-  made : (d : Axis) → IsShape (reach_of rule Black) (told d) (shape_at rule b Black d p)
-  made d = told_shape rule b Black d p ok empty
+pub black-fouls : (rule : RuleKind) (s : Side) → has_fouls rule s ≡ true → has_fouls rule Black ≡ true
+black-fouls rule s h = ap (has_fouls rule) (sym (fouls-black rule s h)) ∙ h
 
-  five_told : (d : Axis) → (told d).five ≡ nat_eq (run_of next Black d p) 5
-  unfolding shape_at
-  five_told d = (made d).five ∙ five_alone rule fouls (run_of next Black d p)
+asked : (five over fours threes : Bool) (quiet : Outcome)
+    → cond five Wins (option_map_or Fouls (first_foul five over fours threes) quiet)
+    ≡ cond five Wins (cond over (Fouls Overline) (cond fours (Fouls DoubleFour) (cond threes (Fouls DoubleThree) quiet)))
+asked five over fours threes quiet = search rules
 
-  over_told : (d : Axis) → (told d).over ≡ nat_le 6 (run_of next Black d p)
-  unfolding shape_at
-  over_told d = (made d).over (reach_five rule fouls)
+foul_told : (five over fours threes last : Bool)
+    → foul_in (cond five Wins (option_map_or Fouls (first_foul five over fours threes) (cond last Draws GoesOn)))
+    ≡ first_foul five over fours threes
+foul_told five over fours threes last = search rules
 
-  fours_told : (d : Axis) → (told d).fours ≡ fours_of rule next Black d p
-  unfolding shape_at
-  fours_told d = (made d).fours
+-- neither a win nor a foul is what is neither a five nor a foul
+quiet_by : (five last : Bool) (foul : Option Foul)
+    → (not (is_win (cond five Wins (option_map_or Fouls foul (cond last Draws GoesOn))))
+    && not (is_foul (cond five Wins (option_map_or Fouls foul (cond last Draws GoesOn))))) ≡ (not five && is_none foul)
+quiet_by five last foul = search rules
 
-  three_told : (d : Axis) → (told d).three ≡ three_bits rule next Black d p
-  unfolding shape_at
-  three_told d = (made d).three
+module _ (rule : RuleKind) (b : Grid) (p : Point) where
+  pub quiet-outcome : (o : Outcome) → o ≡ black_outcome rule b p
+      → (not (is_win o) && not (is_foul o)) ≡ (not (five rule b Black p) && is_none (black_foul rule b p))
+  quiet-outcome o e = ap (λ (t : Outcome). not (is_win t) && not (is_foul t)) e
+      ∙ quiet_by (five rule b Black p) (nat_eq (empties_of b) 1) (black_foul rule b p)
 
-  mine : holds next Black p ≡ true
-  mine = holds-put_same b Black p ok (is_empty-on b p empty)
+  -- where a side that has fouls is to move
+  pub by_turn : (s : Side) → s ≡ mover b → has_fouls rule s ≡ true → is_empty b p ≡ true → outcome rule b p ≡ black_outcome rule b p
+  unfolding outcome
+  by_turn s turn has empty =
+      let moves : mover b ≡ Black = sym turn ∙ fouls-black rule s has in
+      rw (moves, black-fouls rule s has, empty) refl
 
-  abbrev two : Bool
-  two = nat_le 2 (count_by (λ d. is_three rule next d p (black_foul rule next)) axes)
+  module _ (fouls : has_fouls rule Black ≡ true) where
+    abbrev next : Grid
+    next = put b Black p
 
-  module _ (shapes : List Shape) (are : shapes ≡ map told axes) where
-    fives : list_any (λ (shape : Shape). shape.five) shapes ≡ list_any (λ d. nat_eq (run_of next Black d p) 5) axes
-    fives = rw (are, five_told Row, five_told Column, five_told Down, five_told Up) refl
+    -- a shape that is told is the one that the stone makes, since an overline is told where five neighbours are seen
+    pub made_is : (d : Axis) (told : Shape) → IsShape (reach_of rule Black) told (shape_at rule b Black d p)
+        → told ≡ stone_shape rule (put b Black p) Black d p
+    unfolding shape_at
+    made_is d told is = λ i. record {
+      five = is.five i;
+      over = is.over (reach_five rule fouls) i;
+      fours = is.fours i;
+      straight = is.straight i;
+      three = is.three i;
+    }
 
-    overs : list_any (λ (shape : Shape). shape.over) shapes ≡ list_any (λ d. nat_le 6 (run_of next Black d p)) axes
-    overs = rw (are, over_told Row, over_told Column, over_told Down, over_told Up) refl
+    module _ (ok : IsBoard b) (empty : is_empty b p ≡ true) where
+      abbrev exactly_five : Bool
+      exactly_five = list_any (λ d. nat_eq (run_of next Black d p) 5) axes
 
-    fours : sum_by (λ (shape : Shape). shape.fours) shapes ≡ sum_by (λ d. fours_of rule next Black d p) axes
-    fours = rw (are, fours_told Row, fours_told Column, fours_told Down, fours_told Up) refl
+      five_is : five rule b Black p ≡ exactly_five
+      five_is = rw (
+        empty,
+        five_alone rule fouls (run_of next Black Row p),
+        five_alone rule fouls (run_of next Black Column p),
+        five_alone rule fouls (run_of next Black Down p),
+        five_alone rule fouls (run_of next Black Up p),
+      ) refl
 
-    threes : count_by (λ (shape : Shape). not (nat_eq shape.three 0)) shapes ≡ count_by (λ d. has_line_three rule next d p) axes
-    threes = rw (
-      are,
-      three_told Row,
-      three_told Column,
-      three_told Down,
-      three_told Up,
-      three_bits-some rule next Row p,
-      three_bits-some rule next Column p,
-      three_bits-some rule next Down p,
-      three_bits-some rule next Up p,
-    ) refl
+      foul_is : black_foul rule b p ≡ first_foul exactly_five (list_any (λ d. nat_le 6 (run_of next Black d p)) axes)
+          (nat_le 2 (sum_by (λ d. fours_of rule next Black d p) axes)) (two_threes rule next p)
+      unfolding stone_foul
+      foul_is = foul-step rule b p ok empty
 
-    foul_is : black_foul rule b p ≡ first_foul (list_any (λ (shape : Shape). shape.five) shapes)
-        (list_any (λ (shape : Shape). shape.over) shapes) (nat_le 2 (sum_by (λ (shape : Shape). shape.fours) shapes)) two
-    unfolding stone_foul
-    foul_is = foul-step rule b p ok empty ∙ rw (fives, overs, fours) refl
+      shapes_five : list_any (λ (shape : Shape). shape.five) (stone_shapes rule next p) ≡ exactly_five
+      shapes_five = rw (
+        five_alone rule fouls (run_of next Black Row p),
+        five_alone rule fouls (run_of next Black Column p),
+        five_alone rule fouls (run_of next Black Down p),
+        five_alone rule fouls (run_of next Black Up p),
+      ) refl
 
-    foul_by : (five over four three : Bool) → five ≡ list_any (λ (shape : Shape). shape.five) shapes
-        → over ≡ list_any (λ (shape : Shape). shape.over) shapes → four ≡ nat_le 2 (sum_by (λ (shape : Shape). shape.fours) shapes)
-        → three ≡ two → black_foul rule b p ≡ first_foul five over four three
-    foul_by five over four three e f g h = foul_is ∙ rw (← e, ← f, ← g, ← h) refl
+      pub by_shapes : (shapes : List Shape) → shapes ≡ stone_shapes rule (put b Black p) p
+          → black_outcome rule b p ≡ outcome_of_shapes shapes (two_threes rule (put b Black p) p) (empties_of b)
+      by_shapes shapes are = rw (are, five_is, foul_is, shapes_five) (asked exactly_five _ _ _ _)
 
-    pub by_over : (five over : Bool) → five ≡ list_any (λ (shape : Shape). shape.five) shapes
-        → over ≡ list_any (λ (shape : Shape). shape.over) shapes → five ≡ false → over ≡ true → black_foul rule b p ≡ Some Overline
-    by_over five over e f not_five is = foul_by five over _ _ e f refl refl ∙ rw (not_five, is) refl
+      pub foul_in-outcome : foul_in (black_outcome rule b p) ≡ black_foul rule b p
+      foul_in-outcome = rw (five_is, foul_is) (foul_told exactly_five _ _ _ _)
 
-    enough : (n m : ℕ) → n ≡ m → 2 ≤ n → true ≡ nat_le 2 m
-    enough n m e low = grind (arith, nat_tests)
-
-    few : (n m : ℕ) → n ≡ m → n < 2 → false ≡ nat_le 2 m
-    few n m e low = grind (arith, nat_tests)
-
-    pub by_fours : (five over : Bool) (n : ℕ) → five ≡ list_any (λ (shape : Shape). shape.five) shapes
-        → over ≡ list_any (λ (shape : Shape). shape.over) shapes → n ≡ sum_by (λ (shape : Shape). shape.fours) shapes → five ≡ false
-        → over ≡ false → 2 ≤ n → black_foul rule b p ≡ Some DoubleFour
-    by_fours five over n e f g not_five not_over low = foul_by five over true _ e f (enough n _ g low) refl ∙ rw (not_five, not_over) refl
-
-    pub by_none : (five over : Bool) (n : ℕ) (three : Bool) → five ≡ list_any (λ (shape : Shape). shape.five) shapes
-        → over ≡ list_any (λ (shape : Shape). shape.over) shapes → n ≡ sum_by (λ (shape : Shape). shape.fours) shapes → three ≡ two
-        → five ≡ false → over ≡ false → n < 2 → three ≡ false → black_foul rule b p ≡ None
-    by_none five over n three e f g h not_five not_over low is =
-        foul_by five over false three e f (few n _ g low) h ∙ rw (not_five, not_over, is) refl
-
-    -- fewer than two axes with a three point make no two threes
-    pub few_lines : (n : ℕ) → n ≡ count_by (λ (shape : Shape). not (nat_eq shape.three 0)) shapes → n < 2 → false ≡ two
-    few_lines n e low = sym (no_two_threes rule next p (IsBoard-put b Black p ok) mine n (e ∙ threes) low)
+      -- fewer than two axes with a three point make no two threes
+      pub few_lines : (shapes : List Shape) → shapes ≡ stone_shapes rule (put b Black p) p → (n : ℕ)
+          → n ≡ count_by (λ (shape : Shape). not (nat_eq shape.three 0)) shapes → n < 2 → false ≡ two_threes rule (put b Black p) p
+      few_lines shapes are n e low = sym (no_two_threes rule next p (IsBoard-put b Black p ok)
+          (holds-put_same b Black p ok (is_empty-on b p empty)) n (e ∙ rw (
+            are,
+            three_bits-some rule next Row p,
+            three_bits-some rule next Column p,
+            three_bits-some rule next Down p,
+            three_bits-some rule next Up p,
+          ) refl) low)

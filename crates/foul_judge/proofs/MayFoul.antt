@@ -7,7 +7,7 @@ use Rattle.std.proofs.lemmas.Bool.{or_parts, false_from_ne_true}
 use Rattle.std.proofs.lemmas.Bool.Decides.{nat_tests}
 use Rattle.std.proofs.lemmas.Nat.Bits.{bit_at-zero, same_from_bits_below}
 use Rattle.game_rules.proofs.Common.{Grid, IsBoard, is_on, is_empty, put, along, axes, holds, is_line_three_at, is_line_three_point, run_of}
-use Rattle.game_rules.proofs.Common.{fours_of, black_foul, stone_foul, is_three}
+use Rattle.game_rules.proofs.Common.{fours_of, black_foul, stone_foul, is_three, wins_on, empties_of}
 use Rattle.game_rules.specs.declared.RuleKind.{RuleKind}
 use Rattle.game_rules.specs.declared.Axis.{Axis}
 use Rattle.game_rules.specs.declared.Point.{Point}
@@ -20,11 +20,11 @@ use Rattle.game_rules.proofs.Rows.{any_found, any_none}
 use Rattle.game_rules.proofs.Outcomes.{no_first}
 use Rattle.game_rules.proofs.Threes.{no_line_points}
 use Rattle.row_shapes.specs.Reach.{stones_in_reach}
+use Rattle.row_shapes.specs.Rule.{fewer_never}
 use Rattle.row_shapes.proofs.Reaches.{reach-put, few-no_fours, few-no_three}
+use Rattle.foul_judge.specs.BlackMoves.{black_outcome, quiet_outcome}
 use Rattle.foul_judge.specs.ShortCut.{reaches_of, may_have_two_threes, may_foul, has_line_three}
 use Rattle.foul_judge.proofs.ThreePlaces.{foul-step, no_three, not_free}
-
--- ---- tests of the four axes
 
 -- ---- what the reaches tell of a stone on the board
 
@@ -125,6 +125,17 @@ module _ (rule : RuleKind) (b : Grid) (p : Point) (ok : IsBoard b) (empty : is_e
   -- where the short cut says that a point can be no foul, it is none
   pub no_foul : black_foul rule b p ≡ None
   no_foul = foul-step rule b p ok empty ∙ none
+
+  no_win : (d : Axis) → wins_on rule b Black d p ≡ false
+  no_win d =
+      let run = run_of-put b Black p on_board ok d in
+      let short = few d in
+      let low : run_of next Black d p < 5 = omega (arith, run, short) in
+      rw (empty, fewer_never rule Black (run_of next Black d p) low) refl
+
+  -- and no five
+  pub quiet_by_few : black_outcome rule b p ≡ quiet_outcome (empties_of b)
+  quiet_by_few = rw (no_win Row, no_win Column, no_win Down, no_win Up, no_foul) refl
 
 -- ---- the short cut before the judge asks itself
 

@@ -1,5 +1,5 @@
 -- Three points of a stone are among the places of the line around it, and the search for one that is no foul.
-use Rattle.std.proofs.Common.{◌≡◌, ◌≢◌, ℕ, ◌<◌, ◌/◌, ◌^◌, bit_and, Bool, true, false, cond, ◌&&◌, not, refl, sym, ap, add-one, ◌∙◌}
+use Rattle.std.proofs.Common.{◌≡◌, ◌≢◌, ℕ, ◌<◌, ◌/◌, ◌^◌, bit_and, Bool, true, false, cond, ◌&&◌, not, refl, sym, ap, add-one, ◌∙◌, arith}
 use Rattle.std.specs.Prelude.{Option, Some, None, is_none}
 use Rattle.std.specs.Int.{bit_at}
 use Rattle.std.proofs.lemmas.Nat.Bits.{shr_and_one}
@@ -76,3 +76,8 @@ module _ (rule : RuleKind) (b : Grid) (d : Axis) (p : Point) where
 pub bit_clear : (n i : ℕ) (r : Bool) → bit_at n i ≡ cond r 1 0 → bit_and (n / 2 ^ i) 1 ≢ 1 → r ≡ false
 bit_clear n i true e h = absurd (h (shr_and_one n i ∙ e))
 bit_clear n i false e h = refl
+
+-- and one that is set says yes
+pub bit_set : (n i : ℕ) (r : Bool) → bit_at n i ≡ cond r 1 0 → bit_and (n / 2 ^ i) 1 ≡ 1 → r ≡ true
+bit_set n i true e h = refl
+bit_set n i false e h = let clear = shr_and_one n i ∙ e in absurd (omega (arith, clear, h))

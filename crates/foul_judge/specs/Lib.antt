@@ -1,3 +1,4 @@
 pub mod Threes
+pub mod BlackMoves
 pub mod ShortCut
 pub mod Lawful

@@ -1,23 +1,26 @@
 //! The renju foul judge.
 //!
-//! Most points can be no foul, as the stones next to them tell. On any other Black's stone is put, and the cases are asked
-//! in their order: a run of five, an overline, two fours, two threes. An axis is a three only if some three point of it is
-//! itself no foul, so the judge asks itself about a board with one stone more; it plays and lifts on the board that it was
-//! lent. (RIF Rules of Renju; which double-threes are allowed to stand is decided by this recursion alone.)
+//! Most points can be no foul, as the stones next to them tell. On any other the shapes of its four lines tell what Black's stone
+//! makes there, before it is put, and the cases are asked in their order: a run of five, an overline, two fours, two threes. Only
+//! where two lines have three points, as far as they decide, is the stone put: an axis is a three only if some three point of it is
+//! itself no foul, so the judge asks itself about a board with one stone more; it plays and lifts on the board that it was lent.
+//! (RIF Rules of Renju; which double-threes are allowed to stand is decided by this recursion alone.)
 #![tactic(auto)]
 
-ghost use Rattle.std.specs.Prelude.{◌≡◌, ◌<◌, ◌≤◌, IsTrue, nat_le, ◌==◌, map};
-ghost use Rattle.std.specs.List.{list_any, count_by, sum_by};
-ghost use Rattle.game_rules.specs.Grid.{IsBoard, is_empty, holds, along as along_lem, axes};
-ghost use Rattle.game_rules.specs.Shapes.{is_line_three_at, run_of, fours_of};
-ghost use Rattle.game_rules.specs.Play.{is_three as is_three_lem, stone_foul as stone_foul_lem, black_foul as black_foul_lem, foul_of};
-ghost use Rattle.row_shapes.specs.Reach.{stones_in_reach};
-ghost use Rattle.foul_judge.specs.ShortCut.{reaches_of, has_line_three as has_line_three_lem};
-ghost use Rattle.foul_judge.specs.Threes.{free_three};
+ghost use Rattle.std.specs.Prelude.{◌≡◌, ◌<◌, ◌&&◌, true, IsTrue, not};
+ghost use Rattle.game_rules.specs.Grid.{IsBoard, is_empty, holds, empties_of, put, along as along_lem};
+ghost use Rattle.game_rules.specs.Shapes.{is_line_three_at};
+ghost use Rattle.game_rules.specs.Play.{is_three as is_three_lem, black_foul as black_foul_lem, foul_of, is_win, is_foul};
+ghost use Rattle.row_shapes.specs.LineShapes.{three_bits};
+ghost use Rattle.foul_judge.specs.BlackMoves.{black_outcome as black_outcome_lem, outcome_of_shapes as outcome_of_shapes_lem};
+ghost use Rattle.foul_judge.specs.BlackMoves.{foul_in as foul_in_lem};
+ghost use Rattle.foul_judge.specs.Threes.{free_three, stone_shapes, two_threes as two_threes_lem};
 
-use crate::short_cut::{may_foul, may_have_two_threes, reaches};
-use game_rules::Foul;
-use row_shapes::{Rule, five_at, fours_through, three_points};
+use crate::outcome::quiet_outcome;
+use crate::shapes::{black_shapes, fours, has_five, has_overline, line_threes};
+use crate::short_cut::may_foul;
+use game_rules::{Foul, Outcome};
+use row_shapes::{Rule, Shape};
 use stone_board::{Axis, Board, Point, Side};
 
 /// The foul that a stone of Black makes on an empty point: none where the rule has no fouls, and none where the stone
@@ -28,91 +31,118 @@ pub fn foul_at<R: Rule>(board: &mut Board, p: Point) -> Option<Foul>
     ensures same { board.new ≡ board.old }
 {
     if R::BLACK_FOULS {
-        black_foul::<R>(board, p)
+        foul_in(black_outcome::<R>(board, p))
     } else {
         None
     }
 }
 
-/// Black's foul at an empty point, where Black has fouls.
+/// The foul in an outcome, if it is one.
+fn foul_in(outcome: Outcome) -> Option<Foul>
+    ensures foul { result ≡ foul_in_lem outcome }
+{
+    match outcome {
+        Outcome::Fouls(foul) => Some(foul),
+        _ => None,
+    }
+}
+
+/// What becomes of a move of Black on an empty point, whoever is to move, where Black has fouls. With few stones near it is neither
+/// a win nor a foul.
 #[cycle(fouls)]
-fn black_foul<R: Rule>(board: &mut Board, p: Point) -> Option<Foul>
+#[inline(always)]
+pub(crate) fn black_outcome<R: Rule>(board: &mut Board, p: Point) -> Outcome
     requires empty { IsTrue (is_empty board.old p) }
-    ensures foul { result ≡ black_foul_lem R.KIND board.old p }
+    requires fouls { R.BLACK_FOULS ≡ true }
+    ensures outcome { result ≡ black_outcome_lem R.KIND board.old p }
+    ensures same { board.new ≡ board.old }
+    ensures board { IsBoard board.old }
+{
+    if !may_foul(board, p) {
+        return quiet_outcome(board);
+    }
+    let made = black_shapes::<R>(board, p);
+    outcome_of_shapes::<R>(board, p, &made)
+}
+
+/// The same by the shapes that the stone makes.
+#[cycle(fouls)]
+#[inline(never)]
+fn outcome_of_shapes<R: Rule>(board: &mut Board, p: Point, made: &[Shape; 4]) -> Outcome
+    requires board { IsBoard board.old }
+    requires empty { IsTrue (is_empty board.old p) }
+    requires fouls { R.BLACK_FOULS ≡ true }
+    requires made { made.now ≡ stone_shapes R.KIND (put board.old Side.Black p) p }
+    ensures outcome { let threes = two_threes_lem R.KIND (put board.old Side.Black p) p in
+        result ≡ outcome_of_shapes_lem made.now threes (empties_of board.old) }
     ensures same { board.new ≡ board.old }
 {
-    let reaches = reaches(board, p);
-    if !may_foul(&reaches) {
-        return None;
+    if has_five(made) {
+        Outcome::Wins
+    } else if has_overline(made) {
+        Outcome::Fouls(Foul::Overline)
+    } else if fours(made) >= 2 {
+        Outcome::Fouls(Foul::DoubleFour)
+    } else if has_two_threes::<R>(board, p, made) {
+        Outcome::Fouls(Foul::DoubleThree)
+    } else {
+        quiet_outcome(board)
+    }
+}
+
+/// Whether two axes are threes of the stone that Black would put on an empty point. The judge asks itself about no further stone
+/// where fewer than two axes have three points as far as their lines decide.
+#[cycle(fouls)]
+fn has_two_threes<R: Rule>(board: &mut Board, p: Point, made: &[Shape; 4]) -> bool
+    requires board { IsBoard board.old }
+    requires empty { IsTrue (is_empty board.old p) }
+    requires fouls { R.BLACK_FOULS ≡ true }
+    requires made { made.now ≡ stone_shapes R.KIND (put board.old Side.Black p) p }
+    ensures two { result ≡ two_threes_lem R.KIND (put board.old Side.Black p) p }
+    ensures same { board.new ≡ board.old }
+{
+    if line_threes(made) < 2 {
+        return false;
     }
     board.put(p, Side::Black);
-    let result = stone_foul::<R>(board, p, &reaches);
+    let result = two_threes::<R>(board, p, made);
     board.lift(p);
     result
 }
 
-/// The foul that Black's stone on `p` makes.
+/// Whether two axes are threes of Black's stone on `p`. No further axis is asked once two are found.
 #[cycle(fouls)]
-#[tactic(auto, unfolding(game_rules::specs::Play::stone_foul))]
-fn stone_foul<R: Rule>(board: &mut Board, p: Point, reaches: &[u32; 4]) -> Option<Foul>
+fn two_threes<R: Rule>(board: &mut Board, p: Point, made: &[Shape; 4]) -> bool
     requires board { IsBoard board.old }
     requires stone { IsTrue (holds board.old Side.Black p) }
-    requires reaches { reaches.now ≡ reaches_of board.old p }
-    ensures foul { result ≡ stone_foul_lem R.KIND board.old p (black_foul_lem R.KIND board.old) }
+    requires fouls { R.BLACK_FOULS ≡ true }
+    requires made { made.now ≡ stone_shapes R.KIND board.old p }
+    ensures two { result ≡ two_threes_lem R.KIND board.old p }
     ensures same { board.new ≡ board.old }
 {
-    let runs = runs(board, p);
-    if has_five(&runs) {
-        None
-    } else if has_overline(&runs) {
-        Some(Foul::Overline)
-    } else if fours::<R>(board, p, reaches) >= 2 {
-        Some(Foul::DoubleFour)
-    } else if has_two_threes::<R>(board, p, reaches) {
-        Some(Foul::DoubleThree)
-    } else {
-        None
-    }
-}
-
-/// Whether two axes are threes of Black's stone on `p`. The judge asks itself about no further stone where fewer than two
-/// axes have the stones for a three, or three points as far as their lines decide, nor once two threes are found.
-#[cycle(fouls)]
-fn has_two_threes<R: Rule>(board: &mut Board, p: Point, reaches: &[u32; 4]) -> bool
-    requires board { IsBoard board.old }
-    requires stone { IsTrue (holds board.old Side.Black p) }
-    requires reaches { reaches.now ≡ reaches_of board.old p }
-    ensures two { result ≡ nat_le 2 (count_by (λ d. is_three_lem R.KIND board.old d p (black_foul_lem R.KIND board.old)) axes) }
-    ensures same { board.new ≡ board.old }
-{
-    if !may_have_two_threes(reaches) {
-        return false;
-    }
-    if line_threes::<R>(board, p, reaches) < 2 {
-        return false;
-    }
-    let row = is_three::<R>(board, Axis::Row, p);
-    let column = is_three::<R>(board, Axis::Column, p);
+    let row = is_three::<R>(board, Axis::Row, p, made[0].three);
+    let column = is_three::<R>(board, Axis::Column, p, made[1].three);
     if row && column {
         return true;
     }
-    let down = is_three::<R>(board, Axis::Down, p);
+    let down = is_three::<R>(board, Axis::Down, p, made[2].three);
     if down && (row || column) {
         return true;
     }
-    (row || column || down) && is_three::<R>(board, Axis::Up, p)
+    (row || column || down) && is_three::<R>(board, Axis::Up, p, made[3].three)
 }
 
-/// Whether the axis has a three point of Black's stone on `p` where Black has no foul. The stone is on place 5 of the
-/// eleven places of the line that are asked.
+/// Whether the axis has a three point of Black's stone on `p` where Black has no foul. These are its three points as far as the
+/// line decides: the bits of eleven places, the stone on place 5.
 #[cycle(fouls)]
-fn is_three<R: Rule>(board: &mut Board, axis: Axis, p: Point) -> bool
+fn is_three<R: Rule>(board: &mut Board, axis: Axis, p: Point, line_points: u16) -> bool
     requires board { IsBoard board.old }
     requires stone { IsTrue (holds board.old Side.Black p) }
+    requires fouls { R.BLACK_FOULS ≡ true }
+    requires points { line_points ≡ three_bits R.KIND board.old Side.Black axis p }
     ensures three { result ≡ is_three_lem R.KIND board.old axis p (black_foul_lem R.KIND board.old) }
     ensures same { board.new ≡ board.old }
 {
-    let line_points = three_points::<R>(board, p, axis);
     for place in 0..11 {
         if line_points >> place & 1 == 1 && is_free_three::<R>(board, axis, p, place) {
             return true;
@@ -126,6 +156,7 @@ fn is_three<R: Rule>(board: &mut Board, axis: Axis, p: Point) -> bool
 #[cycle(fouls)]
 fn is_free_three<R: Rule>(board: &mut Board, axis: Axis, p: Point, ahead: u8) -> bool
     requires stone { IsTrue (holds board.old Side.Black p) }
+    requires fouls { R.BLACK_FOULS ≡ true }
     requires near { ahead < 11 }
     requires three { IsTrue (is_line_three_at R.KIND board.old Side.Black axis p (along_lem axis p ahead 5)) }
     ensures three { result ≡ free_three R.KIND board.old axis p (along_lem axis p ahead 5) }
@@ -133,84 +164,13 @@ fn is_free_three<R: Rule>(board: &mut Board, axis: Axis, p: Point, ahead: u8) ->
 {
     match board.along(p, axis, ahead, 5) {
         None => false,
-        Some(q) => !five_at::<R>(board, Side::Black, q) && black_foul::<R>(board, q).is_none(),
+        Some(q) => is_quiet(black_outcome::<R>(board, q)),
     }
 }
 
-/// The lengths of the runs through Black's stone on `p`, in the order of the axes.
-fn runs(board: &Board, p: Point) -> [u32; 4]
-    requires stone { IsTrue (holds board.now Side.Black p) }
-    ensures runs { result ≡ map (λ d. run_of board.now Side.Black d p) axes }
+/// Whether a move with this outcome neither wins nor is a foul.
+fn is_quiet(outcome: Outcome) -> bool
+    ensures quiet { result ≡ (not (is_win outcome) && not (is_foul outcome)) }
 {
-    [
-        board.run(p, Axis::Row),
-        board.run(p, Axis::Column),
-        board.run(p, Axis::Down),
-        board.run(p, Axis::Up),
-    ]
-}
-
-/// Whether one of the runs is of exactly five.
-fn has_five(runs: &[u32; 4]) -> bool
-    ensures five { result ≡ list_any (λ run. run == 5) runs.now }
-{
-    runs.iter().any(|run| *run == 5)
-}
-
-/// Whether one of the runs is of six or more.
-fn has_overline(runs: &[u32; 4]) -> bool
-    ensures overline { result ≡ list_any (λ run. nat_le 6 run) runs.now }
-{
-    runs.iter().any(|run| *run >= 6)
-}
-
-/// The number of fours of Black's stone on `p`, added over the four axes.
-fn fours<R: Rule>(board: &Board, p: Point, reaches: &[u32; 4]) -> u32
-    requires stone { IsTrue (holds board.now Side.Black p) }
-    requires reaches { reaches.now ≡ reaches_of board.now p }
-    ensures fours { result ≡ sum_by (λ d. fours_of R.KIND board.now Side.Black d p) axes }
-{
-    fours_on::<R>(board, Axis::Row, p, reaches[0])
-        + fours_on::<R>(board, Axis::Column, p, reaches[1])
-        + fours_on::<R>(board, Axis::Down, p, reaches[2])
-        + fours_on::<R>(board, Axis::Up, p, reaches[3])
-}
-
-/// The number of fours of Black's stone on `p` on the axis. With fewer than three stones within reach it has none, and is
-/// not looked at.
-fn fours_on<R: Rule>(board: &Board, axis: Axis, p: Point, reach: u32) -> u32
-    requires stone { IsTrue (holds board.now Side.Black p) }
-    requires reach { reach ≡ stones_in_reach board.now Side.Black axis p }
-    ensures fours { result ≡ fours_of R.KIND board.now Side.Black axis p }
-    ensures bound { result ≤ 20 }
-{
-    if reach < 3 {
-        0
-    } else {
-        fours_through::<R>(board, p, axis)
-    }
-}
-
-/// How many axes have a three point of Black's stone on `p`, as far as the axis decides.
-fn line_threes<R: Rule>(board: &Board, p: Point, reaches: &[u32; 4]) -> u32
-    requires board { IsBoard board.now }
-    requires stone { IsTrue (holds board.now Side.Black p) }
-    requires reaches { reaches.now ≡ reaches_of board.now p }
-    ensures threes { result ≡ count_by (λ d. has_line_three_lem R.KIND board.now d p) axes }
-{
-    u32::from(has_line_three::<R>(board, Axis::Row, p, reaches[0]))
-        + u32::from(has_line_three::<R>(board, Axis::Column, p, reaches[1]))
-        + u32::from(has_line_three::<R>(board, Axis::Down, p, reaches[2]))
-        + u32::from(has_line_three::<R>(board, Axis::Up, p, reaches[3]))
-}
-
-/// Whether the axis has a three point of Black's stone on `p`, as far as the axis decides. With fewer than two stones within
-/// reach it has none, and is not looked at.
-fn has_line_three<R: Rule>(board: &Board, axis: Axis, p: Point, reach: u32) -> bool
-    requires board { IsBoard board.now }
-    requires stone { IsTrue (holds board.now Side.Black p) }
-    requires reach { reach ≡ stones_in_reach board.now Side.Black axis p }
-    ensures three { result ≡ has_line_three_lem R.KIND board.now axis p }
-{
-    reach >= 2 && three_points::<R>(board, p, axis) != 0
+    !matches!(outcome, Outcome::Wins | Outcome::Fouls(_))
 }

@@ -8,6 +8,7 @@ mod foul;
 mod outcome;
 mod position;
 mod seen;
+mod shapes;
 mod short_cut;
 
 pub use foul::foul_at;

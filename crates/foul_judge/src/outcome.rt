@@ -1,15 +1,17 @@
 //! What becomes of a move.
 //!
 //! Asked in this order, as the rules do: is the point free, does the stone win, is it a foul, is the board full, and else the game
-//! goes on. So a five of Black is a win even where it would be a foul too (RIF Rules of Renju).
+//! goes on. So a five of Black is a win even where it would be a foul too (RIF Rules of Renju). Of a side that has fouls the foul
+//! judge tells all but the first.
 #![tactic(auto)]
 
-ghost use Rattle.std.specs.Prelude.{◌≡◌, IsTrue};
-ghost use Rattle.game_rules.specs.Grid.{is_empty};
-ghost use Rattle.game_rules.specs.Play.{mover as mover_lem, outcome as outcome_lem, foul_of as foul_of_lem};
+ghost use Rattle.std.specs.Prelude.{◌≡◌};
+ghost use Rattle.game_rules.specs.Grid.{empties_of};
+ghost use Rattle.game_rules.specs.Play.{mover as mover_lem, outcome as outcome_lem};
+ghost use Rattle.foul_judge.specs.BlackMoves.{quiet_outcome as quiet_outcome_lem};
 
-use crate::foul_at;
-use game_rules::{Foul, Outcome};
+use crate::foul::black_outcome;
+use game_rules::Outcome;
 use row_shapes::{Rule, five_at};
 use stone_board::{Board, Point, Side};
 
@@ -34,29 +36,24 @@ pub fn outcome_at<R: Rule>(board: &mut Board, p: Point) -> Outcome
         return Outcome::Refused;
     }
     let side = mover(board);
-    if five_at::<R>(board, side, p) {
-        return Outcome::Wins;
+    if R::has_fouls(side) {
+        return black_outcome::<R>(board, p);
     }
-    match foul_of::<R>(board, side, p) {
-        Some(foul) => Outcome::Fouls(foul),
-        None => {
-            if board.empties() == 1 {
-                Outcome::Draws
-            } else {
-                Outcome::GoesOn
-            }
-        }
+    if five_at::<R>(board, side, p) {
+        Outcome::Wins
+    } else {
+        quiet_outcome(board)
     }
 }
 
-/// The foul of a side at an empty point. White has none. The board is as before.
-fn foul_of<R: Rule>(board: &mut Board, side: Side, p: Point) -> Option<Foul>
-    requires empty { IsTrue (is_empty board.old p) }
-    ensures foul { result ≡ foul_of_lem R.KIND board.old side p }
-    ensures same { board.new ≡ board.old }
+/// The outcome of a move on an empty point that neither wins nor is a foul.
+#[inline(always)]
+pub(crate) fn quiet_outcome(board: &Board) -> Outcome
+    ensures outcome { result ≡ quiet_outcome_lem (empties_of board.now) }
 {
-    match side {
-        Side::Black => foul_at::<R>(board, p),
-        Side::White => None,
+    if board.empties() == 1 {
+        Outcome::Draws
+    } else {
+        Outcome::GoesOn
     }
 }

@@ -1,20 +1,17 @@
 //! A lawful position that tells the shapes of its lines.
 //!
-//! It is its position in all but the outcomes of moves of Black where Black has fouls, which the shapes of its lines tell.
+//! As a position that a search sees it is the plain one, whose outcomes are told by shapes wherever Black has fouls.
 #![tactic(auto)]
 
 ghost use Rattle.std.specs.Prelude.{◌≡◌, ◌≤◌, IfOk, IsOk, IsTrue, length};
 ghost use Rattle.game_rules.specs.Grid.{is_empty};
 ghost use Rattle.game_rules.specs.Games.{five_points as five_points_lem};
-ghost use Rattle.row_shapes.specs.Rule.{reach_of};
-ghost use Rattle.row_shapes.specs.LineCodes.{line_code};
+ghost use Rattle.row_shapes.specs.Rule.{reach_of as reach_of_lem};
+ghost use Rattle.row_shapes.specs.LineCodes.{line_code as line_code_lem};
 ghost use Rattle.row_shapes.specs.LineShapes.{shape_of, shape_at as shape_at_lem, IsShape};
 
-use crate::codes::code_at;
-use crate::line_shapes::{reach, shape_at};
-use crate::outcome::outcome_at;
 use foul_judge::{Outcome, Position, Seen};
-use row_shapes::{FivePoints, Rule, Shape, is_five_point};
+use row_shapes::{FivePoints, Rule, Shape, is_five_point, line_code, reach_of, shape_at};
 use smallvec::SmallVec;
 use std::alloc::{AllocError, Global};
 use std::marker::Model;
@@ -62,19 +59,18 @@ impl<R: Rule> LineTables<R> {
     #[inline(always)]
     pub fn shape(&self, p: Point, axis: Axis, side: Side) -> Shape
         requires empty { IsTrue (is_empty self.now p) }
-        ensures shape { result ≡ shape_of (reach_of R.KIND side) (line_code (reach_of R.KIND side) self.now side axis p) }
-        ensures made { IsShape (reach_of R.KIND side) result (shape_at_lem R.KIND self.now side axis p) }
+        ensures shape { result ≡ shape_of (reach_of_lem R.KIND side) (line_code_lem (reach_of_lem R.KIND side) self.now side axis p) }
+        ensures made { IsShape (reach_of_lem R.KIND side) result (shape_at_lem R.KIND self.now side axis p) }
     {
         shape_at::<R>(self.position.board(), p, axis, side)
     }
 
     /// The code of the neighbours of an empty point, as the side sees them. No memory is taken.
-    #[inline(always)]
     pub fn code(&self, p: Point, axis: Axis, side: Side) -> u32
         requires empty { IsTrue (is_empty self.now p) }
-        ensures code { result ≡ line_code (reach_of R.KIND side) self.now side axis p }
+        ensures code { result ≡ line_code_lem (reach_of_lem R.KIND side) self.now side axis p }
     {
-        code_at(self.position.board(), p, axis, side, reach::<R>(side))
+        line_code(self.position.board(), p, axis, side, reach_of::<R>(side))
     }
 
     /// All five points of the side, in reading order. With at most eight of them no memory is taken and it is `Ok`; else
@@ -117,7 +113,7 @@ impl<R: Rule> Seen<R> for LineTables<R> {
     }
 
     fn outcome(&mut self, p: Point) -> Outcome {
-        outcome_at(&mut self.position, p)
+        self.position.outcome(p)
     }
 
     fn play(&mut self, p: Point) {

@@ -1,10 +1,10 @@
 -- The codes of lines.
 use Rattle.std.proofs.Common.{◌≡◌, ℕ, zero, suc, ◌+◌, ◌-◌, ◌*◌, ◌^◌, ◌≤◌, ◌<◌, Bool, true, false, cond}
-use Rattle.std.proofs.Common.{refl, sym, ap, ◌∙◌, arith, nat_lt, drop, ◌⊎◌, inl, inr, ◌&&◌}
+use Rattle.std.proofs.Common.{refl, sym, ap, ◌∙◌, arith, nat_lt, drop, ◌⊎◌, inl, inr, lit≤}
 use Rattle.std.proofs.Common.{Option, Some, None, map, bit_and, min}
 use Rattle.std.specs.Int.{bit_at}
 use Rattle.std.proofs.lemmas.Nat.Bits.{bit_at_and, bit_at-lt, bit_at_ones}
-use Rattle.game_rules.proofs.Common.{Grid, is_on, along, IsBoard, is_empty, put, has_fouls, row_wins, run_of, wins_on}
+use Rattle.game_rules.proofs.Common.{Grid, is_on, along, IsBoard, is_empty, has_fouls}
 use Rattle.game_rules.specs.declared.Side.{Side}
 use Rattle.game_rules.specs.declared.Point.{Point}
 use Rattle.game_rules.specs.declared.RuleKind.{RuleKind}
@@ -126,6 +126,38 @@ reach_five Freestyle f = cc
 reach_five Exact f = cc
 reach_five Renju f = refl
 
+-- the same digits make the same code
+same_digits : (f g : ℕ → ℕ) (r : ℕ) → (r ≡ 4) ⊎ (r ≡ 5) → ((i : ℕ) → i ≤ 2 * r → f i ≡ g i)
+    → from_digits (map f (places_beside r)) ≡ from_digits (map g (places_beside r))
+same_digits f g r (inl four) h =
+    let e : (i : ℕ) → i ≤ 8 → f i ≡ g i = λ i low. h i (omega arith) in
+    rw four (omega (
+      arith,
+      e 0 (lit≤ tt),
+      e 1 (lit≤ tt),
+      e 2 (lit≤ tt),
+      e 3 (lit≤ tt),
+      e 5 (lit≤ tt),
+      e 6 (lit≤ tt),
+      e 7 (lit≤ tt),
+      e 8 (lit≤ tt),
+    ))
+same_digits f g r (inr five) h =
+    let e : (i : ℕ) → i ≤ 10 → f i ≡ g i = λ i low. h i (omega arith) in
+    rw five (omega (
+      arith,
+      e 0 (lit≤ tt),
+      e 1 (lit≤ tt),
+      e 2 (lit≤ tt),
+      e 3 (lit≤ tt),
+      e 4 (lit≤ tt),
+      e 6 (lit≤ tt),
+      e 7 (lit≤ tt),
+      e 8 (lit≤ tt),
+      e 9 (lit≤ tt),
+      e 10 (lit≤ tt),
+    ))
+
 -- a number of digits below 3 is below the power of their number
 digits_low : (f : ℕ → ℕ) → ((i : ℕ) → f i < 3) → (r : ℕ) → (r ≡ 4) ⊎ (r ≡ 5) → from_digits (map f (places_beside r)) < 3 ^ (2 * r)
 digits_low f h r (inl four) = rw four (omega (arith, h 0, h 1, h 2, h 3, h 5, h 6, h 7, h 8))
@@ -135,17 +167,18 @@ pub code_low : (b : Grid) (s : Side) (d : Axis) (q : Point) (r : ℕ) → (r ≡
 unfolding line_code
 code_low b s d q r reach = digits_low (λ i. digit_at b s (along d q i r)) (λ i. digit_low b s (along d q i r)) r reach
 
+-- bits that tell the digits of the places tell the code
+pub code_of_places : (b : Grid) (s : Side) (d : Axis) (p : Point) (r own taken : ℕ) → (r ≡ 4) ⊎ (r ≡ 5)
+    → ((i : ℕ) → i ≤ 2 * r → bit_at own i + 2 * bit_at taken i ≡ digit_at b s (along d p i r))
+    → from_digits (map (λ i. bit_at own i + 2 * bit_at taken i) (places_beside r)) ≡ line_code r b s d p
+unfolding line_code
+code_of_places b s d p r own taken reach h =
+    same_digits (λ i. bit_at own i + 2 * bit_at taken i) (λ i. digit_at b s (along d p i r)) r reach h
+
 -- the shape that the code tells is the one that a stone makes
 pub told_shape : (rule : RuleKind) (b : Grid) (s : Side) (d : Axis) (p : Point) → IsBoard b → is_empty b p ≡ true
     → IsShape (reach_of rule s) (shape_of (reach_of rule s) (line_code (reach_of rule s) b s d p)) (shape_at rule b s d p)
 told_shape rule b s d p ok empty = reach_law rule b s d p ok empty
-
--- so its five tells whether a stone wins there
-pub told_five : (rule : RuleKind) (b : Grid) (s : Side) (d : Axis) (p : Point) → IsBoard b → is_empty b p ≡ true
-    → (shape_of (reach_of rule s) (line_code (reach_of rule s) b s d p)).five ≡ wins_on rule b s d p
-unfolding shape_at
-told_five rule b s d p ok empty = (told_shape rule b s d p ok empty).five
-    ∙ sym (ap (λ r. r && row_wins rule s (run_of (put b s p) s d p)) empty)
 
 -- ---- the first bits of a number
 

@@ -28,6 +28,8 @@ mod HalfShapes
 mod HalfCodes
 mod HalfTables
 mod HalfPlaces
+-- the places around a point
+mod PlacesAround
 -- windows of lines
 mod RowBits
 mod WindowLaws

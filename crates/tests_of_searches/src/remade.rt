@@ -1,12 +1,13 @@
 //! What line tables tell of the empty points of a board, compared with what is made from scratch, by walks over the board.
 
-ghost use Rattle.std.specs.Prelude.{IsTrue};
+ghost use Rattle.std.specs.Prelude.{IsTrue, ◌<◌, ◌≤◌};
+ghost use Rattle.game_rules.specs.Grid.{is_on};
 ghost use Rattle.stone_board.specs.Steps.{holds_stone};
 
 use crate::compared::same;
 use foul_judge::{Position, Seen};
-use line_tables::{LineTables, reach};
-use row_shapes::{Rule, Shape, Shapes, fours_through, line_code, straight_through, three_points};
+use line_tables::LineTables;
+use row_shapes::{Rule, Shape, Shapes, fours_through, reach_of, straight_through, three_points};
 use std::process::Abort;
 use stone_board::{Axis, Board, Point, Side};
 use test_boards::AXES;
@@ -39,6 +40,34 @@ fn walked_shape<R: Rule>(board: &mut Board, p: Point, axis: Axis, side: Side) ->
     Some(shape)
 }
 
+/// The digit of the point so many steps ahead of another and so many back again, by its cell.
+fn digit(board: &Board, p: Point, axis: Axis, side: Side, ahead: u8, back: u8) -> u32
+    requires on { IsTrue (is_on board.now p) }
+    requires ahead { ahead < 128 }
+    requires back { back < 128 }
+{
+    match board.along(p, axis, ahead, back) {
+        Some(q) if board.is_empty(q) => 0,
+        Some(q) if board.holds(side, q) => 1,
+        _ => 2,
+    }
+}
+
+/// The code of a point, by a walk over its line from the last neighbour to the first.
+fn walked_code(board: &Board, p: Point, axis: Axis, side: Side, reach: u8) -> u32
+    requires on { IsTrue (is_on board.now p) }
+    requires near { reach ≤ 5 }
+{
+    let mut code: u32 = 0;
+    for place in (0..2 * reach + 1).rev() {
+        if place != reach {
+            let digit = digit(board, p, axis, side, place, reach);
+            code = code.wrapping_mul(3).wrapping_add(digit);
+        }
+    }
+    code
+}
+
 /// The code of an empty point that the tables tell, and the one made from scratch.
 fn codes<R: Rule>(
     tables: &LineTables<R>,
@@ -47,11 +76,11 @@ fn codes<R: Rule>(
     axis: Axis,
     side: Side,
 ) -> Option<(u32, u32)> {
-    let reach = reach::<R>(side);
+    let reach = reach_of::<R>(side);
     if reach < 4 || 5 < reach || !board.on(p) || !tables.board().is_empty(p) {
         return None;
     }
-    let made = line_code(board, p, axis, side, reach);
+    let made = walked_code(board, p, axis, side, reach as u8);
     Some((tables.code(p, axis, side), made))
 }
 
@@ -84,7 +113,7 @@ fn compare_at<R: Rule>(
     axis: Axis,
     side: Side,
 ) {
-    let reach = reach::<R>(side);
+    let reach = reach_of::<R>(side);
     let (told, made) = codes::<R>(tables, board, p, axis, side).expect(rt, "codes");
     same(rt, told, made);
     let told = told_shape::<R>(tables, p, axis, side).expect(rt, "a shape");

@@ -1,5 +1,5 @@
-use Rattle.line_tables.proofs.Places.{moved_bit}
-use Rattle.line_tables.proofs.codes.moved.Goals as goal
+use Rattle.row_shapes.proofs.PlacesAround.{moved_bit}
+use Rattle.row_shapes.proofs.places.moved.Goals as goal
 
 pub returns : goal.returns
 returns c = record {

@@ -3,8 +3,8 @@ use Rattle.std.specs.Int.{bit_at, w64}
 use Rattle.std.proofs.lemmas.Nat.Bits.{bit_at_and, bit_at_or, bit_at_not, bit_at-lt}
 use Rattle.game_rules.specs.declared.Side.{Side}
 use Rattle.stone_board.specs.Lines.{line_of, TellsLine}
-use Rattle.line_tables.proofs.Places.{digit_is}
-use Rattle.line_tables.proofs.codes.places_around.Goals as goal
+use Rattle.row_shapes.proofs.PlacesAround.{digit_is}
+use Rattle.row_shapes.proofs.places.places_around.Goals as goal
 
 pub returns-clause-digits : goal.returns-clause-digits
 returns-clause-digits c = λ i low.

@@ -1,1 +1,0 @@
--- The words of line_tables, all in one place for the files of laws.
