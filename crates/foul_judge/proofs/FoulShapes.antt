@@ -4,9 +4,10 @@ use Rattle.std.proofs.Common.{ap, ◌∙◌, ◌^◌, not, List, refl, nat_eq, n
 use Rattle.std.specs.Int.{bit_at}
 use Rattle.std.specs.List.{range_with_len, list_any}
 use Rattle.std.specs.Option.{option_map_or}
+use Rattle.std.proofs.lemmas.Bool.Decides.{nat_tests}
 use Rattle.std.proofs.lemmas.Nat.Bits.{bit_at_lowest, bit_at-suc}
 use Rattle.game_rules.proofs.Common.{Grid, IsBoard, is_empty, put, axes, along, run_of, fours_of, is_line_three_at, has_fouls}
-use Rattle.game_rules.proofs.Common.{first_foul, stone_foul, black_foul, five, mover, outcome, empties_of, is_win, is_foul}
+use Rattle.game_rules.proofs.Common.{row_wins, is_straight, first_foul, stone_foul, black_foul, five, mover, outcome, empties_of, is_win, is_foul}
 use Rattle.game_rules.specs.declared.RuleKind.{RuleKind}
 use Rattle.game_rules.specs.declared.Axis.{Axis}
 use Rattle.game_rules.specs.declared.Point.{Point}
@@ -17,16 +18,18 @@ use Rattle.game_rules.specs.declared.Foul.TheVariants.{Overline, DoubleFour, Dou
 use Rattle.game_rules.specs.declared.Outcome.{Outcome}
 use Rattle.game_rules.specs.declared.Outcome.TheVariants.{Wins, Fouls, Draws, GoesOn}
 use Rattle.game_rules.specs.declared.Axis.TheVariants.{Row, Column, Down, Up}
-use Rattle.game_rules.proofs.Boards.{is_empty-on, holds-put_same}
+use Rattle.game_rules.proofs.Boards.{is_empty-on, holds-put_same, run_of-put}
 use Rattle.game_rules.proofs.Positions.{IsBoard-put}
 use Rattle.game_rules.proofs.Fives.{five_alone}
 use Rattle.row_shapes.specs.declared.shapes.Shape.{Shape}
-use Rattle.row_shapes.specs.Rule.{reach_of}
+use Rattle.row_shapes.specs.Rule.{reach_of, fewer_never}
+use Rattle.row_shapes.specs.Reach.{stones_in_reach}
+use Rattle.row_shapes.proofs.Reaches.{reach-put}
 use Rattle.row_shapes.specs.LineShapes.{stone_shape, shape_at, three_bits, IsShape}
 use Rattle.row_shapes.proofs.CodeDigits.{reach_five}
 use Rattle.foul_judge.proofs.Common.{has_line_three, black_outcome, foul_in, outcome_of_shapes, stone_shapes, two_threes}
 use Rattle.foul_judge.proofs.ThreePlaces.{foul-step}
-use Rattle.foul_judge.proofs.MayFoul.{no_two_threes, line_by_bits}
+use Rattle.foul_judge.proofs.MayFoul.{no_two_threes, line_by_bits, few_fours, few_three_points}
 
 -- the number whose bits from a on a test tells, shifted down
 halved : (ℕ → Bool) → ℕ → ℕ → ℕ
@@ -92,6 +95,9 @@ halved-low t = omega (
   one_bit (t 9),
   one_bit (t 10),
 )
+
+no_bits : (n : ℕ) → not (nat_eq n 0) ≡ false → n ≡ 0
+no_bits n h = grind (arith, nat_tests)
 
 module _ (rule : RuleKind) (b : Grid) (d : Axis) (p : Point) where
   abbrev three_at : ℕ → Bool
@@ -192,6 +198,24 @@ module _ (rule : RuleKind) (b : Grid) (p : Point) where
         five_alone rule fouls (run_of next Black Down p),
         five_alone rule fouls (run_of next Black Up p),
       ) refl
+
+      -- with fewer than two stones within reach of it the stone makes nothing on the axis
+      pub blank_shape : (d : Axis) → stones_in_reach b Black d p < 2
+          → record { five = false; over = false; fours = 0; straight = false; three = 0 } ≡ stone_shape rule (put b Black p) Black d p
+      unfolding is_straight
+      blank_shape d few =
+          let here = is_empty-on b p empty in
+          let stone = holds-put_same b Black p ok here in
+          let same = reach-put b Black p here d in
+          let run = run_of-put b Black p here ok d in
+          let short : run_of next Black d p < 4 = omega (arith, run, few) in
+          let five : row_wins rule Black (run_of next Black d p) ≡ false = fewer_never rule Black (run_of next Black d p) (omega arith) in
+          let over : nat_le 6 (run_of next Black d p) ≡ false = grind (arith, nat_tests) in
+          let four : nat_eq (run_of next Black d p) 4 ≡ false = grind (arith, nat_tests) in
+          let fours = few_fours rule next p stone d (stones_in_reach b Black d p) (sym same) (omega (arith, few)) in
+          let none = few_three_points rule next p stone (IsBoard-put b Black p ok) d (stones_in_reach b Black d p) (sym same) few in
+          let three = no_bits (three_bits rule next Black d p) (three_bits-some rule next d p ∙ none) in
+          rw (five, over, four, fours, three) refl
 
       pub by_shapes : (shapes : List Shape) → shapes ≡ stone_shapes rule (put b Black p) p
           → black_outcome rule b p ≡ outcome_of_shapes shapes (two_threes rule (put b Black p) p) (empties_of b)

@@ -18,7 +18,7 @@ ghost use Rattle.foul_judge.specs.Threes.{free_three, stone_shapes, two_threes a
 
 use crate::outcome::quiet_outcome;
 use crate::shapes::{black_shapes, fours, has_five, has_overline, line_threes};
-use crate::short_cut::may_foul;
+use crate::short_cut::{may_foul, reaches};
 use game_rules::{Foul, Outcome};
 use row_shapes::{Rule, Shape};
 use stone_board::{Axis, Board, Point, Side};
@@ -58,10 +58,11 @@ pub(crate) fn black_outcome<R: Rule>(board: &mut Board, p: Point) -> Outcome
     ensures same { board.new ≡ board.old }
     ensures board { IsBoard board.old }
 {
-    if !may_foul(board, p) {
+    let reaches = reaches(board, p);
+    if !may_foul(&reaches) {
         return quiet_outcome(board);
     }
-    let made = black_shapes::<R>(board, p);
+    let made = black_shapes::<R>(board, p, &reaches);
     outcome_of_shapes::<R>(board, p, &made)
 }
 

@@ -2,7 +2,8 @@
 //!
 //! Most empty points can be no foul of Black, and the stones next to them tell so: a four needs three other stones in one
 //! row with one gap at most, a five and an overline more, and two threes need two others on each of two axes. So most points are
-//! decided before a shape is worked out.
+//! decided before a shape is worked out. For the rest the numbers, counted once, tell which axes can have a four or a three: no
+//! shape is worked out on another.
 #![tactic(auto)]
 
 ghost use Rattle.std.specs.Prelude.{◌≡◌, IsTrue, nat_le};
@@ -13,21 +14,29 @@ ghost use Rattle.foul_judge.specs.ShortCut.{reaches_of, may_foul as may_foul_lem
 use row_shapes::stones_in_reach;
 use stone_board::{Axis, Board, Point, Side};
 
-/// Whether Black's stone on a point could be a foul, by the numbers of stones within reach of it. Where it could not, it is none,
-/// and no five. A stone on the point itself makes no difference.
-#[tactic(auto, unfolding(crate::specs::ShortCut::may_foul, crate::specs::ShortCut::reaches_of))]
-pub(crate) fn may_foul(board: &Board, p: Point) -> bool
+/// How many stones of Black are within reach of the point on each axis, in the order of the axes. A stone on the point
+/// itself makes no difference.
+#[tactic(auto, unfolding(crate::specs::ShortCut::reaches_of))]
+pub(crate) fn reaches(board: &Board, p: Point) -> [u32; 4]
     requires on { IsTrue (is_on board.now p) }
-    ensures may { result ≡ may_foul_lem (reaches_of board.now p) }
+    ensures reaches { result ≡ reaches_of board.now p }
     ensures board { IsBoard board.now }
 {
-    let reaches = [
+    [
         stones_in_reach(board, Side::Black, Axis::Row, p),
         stones_in_reach(board, Side::Black, Axis::Column, p),
         stones_in_reach(board, Side::Black, Axis::Down, p),
         stones_in_reach(board, Side::Black, Axis::Up, p),
-    ];
-    may_have_four(&reaches) || may_have_two_threes(&reaches)
+    ]
+}
+
+/// Whether Black's stone on a point with these reaches could be a foul. Where it could not, it is none, and no five.
+#[inline(always)]
+#[tactic(auto, unfolding(crate::specs::ShortCut::may_foul))]
+pub(crate) fn may_foul(reaches: &[u32; 4]) -> bool
+    ensures may { result ≡ may_foul_lem reaches.now }
+{
+    may_have_four(reaches) || may_have_two_threes(reaches)
 }
 
 /// Whether three stones or more are within reach on some axis, as a four, a five and an overline need.

@@ -11,7 +11,7 @@ use Rattle.foul_judge.proofs.ThreePlaces.{three_by_place, no_three, no_free_thre
 use Rattle.foul_judge.proofs.ThreePlaces.{bit_clear, bit_set}
 use Rattle.foul_judge.proofs.MayFoul.{quiet_by_few}
 use Rattle.foul_judge.proofs.FoulShapes.{by_shapes, few_lines, quiet-outcome, three_bit}
-use Rattle.foul_judge.proofs.Common.{free_three, stone_shapes, two_threes}
+use Rattle.foul_judge.proofs.Common.{may_foul, free_three, stone_shapes, two_threes}
 use Rattle.foul_judge.proofs.foul.+fouls.Goals.{is_three-else-line_points-place-eq1-via-then-line_points-place-eq1+else-is_free_three}
 use Rattle.foul_judge.proofs.foul.+fouls.Goals.{is_three-else-line_points-place-eq1-via-else-line_points-place-eq1}
 use Rattle.foul_judge.proofs.foul.+fouls.Goals as goal
@@ -19,13 +19,13 @@ use Rattle.foul_judge.proofs.foul.+fouls.Goals as goal
 pub black_outcome-returns-then-not-may_foul-clause-outcome : goal.black_outcome-returns-then-not-may_foul-clause-outcome
 black_outcome-returns-then-not-may_foul-clause-outcome g t c =
     c.quiet_outcome.ensures.outcome
-    ∙ sym (quiet_by_few g.R.Rule.KIND c.args.board.now c.args.p c.may_foul.ensures.board c.requires.empty
-    (sym c.may_foul.ensures.may ∙ c.if-not-may_foul.true))
+    ∙ sym (quiet_by_few g.R.Rule.KIND c.args.board.now c.args.p c.reaches-reaches.ensures.board c.requires.empty
+    (ap may_foul (sym c.reaches-reaches.ensures.reaches) ∙ sym c.may_foul.ensures.may ∙ c.if-not-may_foul.true))
 
 pub black_outcome-returns-clause-outcome : goal.black_outcome-returns-clause-outcome
 black_outcome-returns-clause-outcome g t c =
     c.outcome_of_shapes.ensures.outcome
-    ∙ sym (by_shapes g.R.Rule.KIND c.args.board.now c.args.p (sym g.met.R.Rule.fouls ∙ c.requires.fouls) c.may_foul.ensures.board
+    ∙ sym (by_shapes g.R.Rule.KIND c.args.board.now c.args.p (sym g.met.R.Rule.fouls ∙ c.requires.fouls) c.reaches-reaches.ensures.board
     c.requires.empty c.black_shapes-made.result c.black_shapes-made.ensures.shapes)
 
 pub has_two_threes-returns-then-line_threes-lt2-clause-two : goal.has_two_threes-returns-then-line_threes-lt2-clause-two
