@@ -1,5 +1,7 @@
 -- The proofs of the theorems: acceptance by tests that compute, and each session.
 mod TestedTables
+-- a held game, by the game of its node
+mod PlayedGames
 mod OverlineSessions
 mod StartSession
 -- the win that the brain finds itself, and the session in which it follows it

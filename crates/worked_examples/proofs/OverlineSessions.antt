@@ -29,9 +29,9 @@ use Rattle.brain_session.specs.ChosenMoves.{chosen, chosen_anew}
 use Rattle.brain_session.specs.Steps.{row_of, brain_step}
 use Rattle.brain_session.specs.Sessions.{answers_from, state_after, answer_texts, session_text}
 use Rattle.brain_session.specs.HeldGames.{BeginsHeldGame, replies, game_answers}
-use Rattle.brain_session.proofs.HeldGames.{held-games-go_well}
 use Rattle.worked_examples.specs.HeldSessions.{PlaysHeldGame, overline_board, overline_table, elsewhere_input, block_input}
 use Rattle.worked_examples.proofs.TestedTables.{names_lower, lower_by}
+use Rattle.worked_examples.proofs.PlayedGames.{plays_held}
 
 -- ---- the table is accepted
 
@@ -98,8 +98,7 @@ overline-held = record {
 told : List Command
 told =
     Start 15 ∷ Rule 4 ∷ Board ∷ Stone 3 3 1 ∷ Stone 4 3 1 ∷ Stone 5 3 1 ∷ Stone 12 14 1 ∷ Stone 14 14 1 ∷ Stone 7 0 2 ∷ Stone 7 1 2 ∷ Stone
-    7 2 2 ∷ Stone 2 3 2
-    ∷ Stone 7 4 2 ∷ Stone 7 5 2 ∷ []
+    7 2 2 ∷ Stone 2 3 2 ∷ Stone 7 4 2 ∷ Stone 7 5 2 ∷ []
 
 played : Game
 played = new_game Renju overline_board White
@@ -134,33 +133,17 @@ elsewhere_replies = refl
 
 elsewhere_game : game_answers Renju overline_table.table 1 overline_board (point_at 0 14 ∷ []) ≡ Move (point_at 6 3) ∷ Move (point_at 7 3) ∷
     []
-unfolding overline_board attacks outcome black_foul black_foul_within stone_foul fours_of is_three is_three_point
-    gives_straight is_straight
+unfolding overline_board attacks outcome black_foul black_foul_within stone_foul fours_of is_three is_three_point gives_straight is_straight
 elsewhere_game = refl
 
 elsewhere_won : game Renju overline_table.table 1 overline_board (point_at 0 14 ∷ []) ≡ Won 2
-unfolding overline_board game outcome black_foul black_foul_within stone_foul fours_of is_three is_three_point
-    gives_straight is_straight
+unfolding overline_board game outcome black_foul black_foul_within stone_foul fours_of is_three is_three_point gives_straight is_straight
 elsewhere_won = refl
 
 pub elsewhere-game : PlaysHeldGame overline_table elsewhere_input 1 (point_at 0 14 ∷ []) (Move (point_at 6 3) ∷ Move (point_at 7 3) ∷ []) 2
 unfolding played state_after overline_board told row_of
-elsewhere-game =
-    let law = held-games-go_well overline_table overline-held told Done elsewhere played 1 begins in
-    record {
-      before = told;
-      command = Done;
-      later = elsewhere;
-      game_there = played;
-      lines = elsewhere_lines;
-      begins = begins;
-      replied = elsewhere_replies;
-      first = law.first;
-      says = law.says;
-      answered = law.answers ∙ ap (λ (qs : List Point). game_answers Renju overline_table.table 1 overline_board qs) elsewhere_replies
-          ∙ elsewhere_game;
-      won = elsewhere_won;
-    }
+elsewhere-game = plays_held overline_table overline-held elsewhere_input told Done elsewhere played 1 _ _ 2 elsewhere_lines begins
+    elsewhere_replies elsewhere_game elsewhere_won
 
 -- ---- the block
 
@@ -188,30 +171,14 @@ unfolding told block overline_board replies state_after row_of chosen chosen_ane
 block_replies = refl
 
 block_game : game_answers Renju overline_table.table 1 overline_board (point_at 7 3 ∷ []) ≡ Move (point_at 6 3) ∷ Error OpponentFoul ∷ []
-unfolding overline_board attacks outcome black_foul black_foul_within stone_foul fours_of is_three is_three_point
-    gives_straight is_straight
+unfolding overline_board attacks outcome black_foul black_foul_within stone_foul fours_of is_three is_three_point gives_straight is_straight
 block_game = refl
 
 block_won : game Renju overline_table.table 1 overline_board (point_at 7 3 ∷ []) ≡ Won 1
-unfolding overline_board game outcome black_foul black_foul_within stone_foul fours_of is_three is_three_point
-    gives_straight is_straight
+unfolding overline_board game outcome black_foul black_foul_within stone_foul fours_of is_three is_three_point gives_straight is_straight
 block_won = refl
 
 pub block-game : PlaysHeldGame overline_table block_input 1 (point_at 7 3 ∷ []) (Move (point_at 6 3) ∷ Error OpponentFoul ∷ []) 1
 unfolding played state_after overline_board told row_of
-block-game =
-    let law = held-games-go_well overline_table overline-held told Done block played 1 begins in
-    record {
-      before = told;
-      command = Done;
-      later = block;
-      game_there = played;
-      lines = block_lines;
-      begins = begins;
-      replied = block_replies;
-      first = law.first;
-      says = law.says;
-      answered = law.answers ∙ ap (λ (qs : List Point). game_answers Renju overline_table.table 1 overline_board qs) block_replies
-          ∙ block_game;
-      won = block_won;
-    }
+block-game = plays_held overline_table overline-held block_input told Done block played 1 _ _ 1 block_lines begins
+    block_replies block_game block_won

@@ -100,11 +100,8 @@ module _ (h : HeldTable) (x y : ℕ) (made : Point) (apart : first_node start_ga
   no_answers = refl
 
   session_answers : answers_from (new_brain h) (told ++ Done ∷ later) ≡ SaysOk ∷ Move (point_at 4 7) ∷ Move made ∷ []
-  session_answers =
-      told_answers
-      ∙ ap (λ (l : List Answer). SaysOk ∷ l) (session_by (state_after (new_brain h) told) Done later _ done_step)
-      ∙ ap (λ (l : List Answer). SaysOk ∷ Move (point_at 4 7) ∷ l)
-      (session_by (state_at attacked_game) (Turn x y) (End ∷ []) _ turn_step)
+  session_answers = told_answers ∙ ap (λ (l : List Answer). SaysOk ∷ l) (session_by (state_after (new_brain h) told) Done later _ done_step)
+      ∙ ap (λ (l : List Answer). SaysOk ∷ Move (point_at 4 7) ∷ l) (session_by (state_at attacked_game) (Turn x y) (End ∷ []) _ turn_step)
       ∙ ap (λ (l : List Answer). SaysOk ∷ Move (point_at 4 7) ∷ Move made ∷ l) no_answers
 
   pub session_says : (input : List ℕ) → commands input ≡ told ++ Done ∷ later
@@ -121,10 +118,8 @@ module _ (h : HeldTable) (x y : ℕ) (made : Point) (apart : first_node start_ga
   no_more = refl
 
   own_replied : replies (brain_step (state_after (new_brain h) told) Done).next later ≡ point_at x y ∷ []
-  own_replied =
-      ap (λ (st : Step). replies st.next later) done_step
-      ∙ replies_by_step (state_at attacked_game) (Turn x y) (End ∷ []) _ turn_step
-      ∙ ap (λ (ps : List Point). point_at x y ∷ ps) no_more
+  own_replied = ap (λ (st : Step). replies st.next later) done_step
+      ∙ replies_by_step (state_at attacked_game) (Turn x y) (End ∷ []) _ turn_step ∙ ap (λ (ps : List Point). point_at x y ∷ ps) no_more
 
   attacks_later : win_attacks Freestyle 1 (after attacked (point_at x y)) [] ≡ made ∷ []
   unfolding win_attacks

@@ -25,10 +25,10 @@ use Rattle.brain_session.specs.ChosenMoves.{Choice, chosen, chosen_anew}
 use Rattle.brain_session.specs.Steps.{Chooses, placed, row_of, with_choice, Step, step_by, brain_step}
 use Rattle.brain_session.specs.Sessions.{answers_from, then_state, state_after, answer_texts, session_text}
 use Rattle.brain_session.specs.HeldGames.{BeginsHeldGame, replies, game_answers, then_replies, answers_by}
-use Rattle.brain_session.proofs.HeldGames.{held-games-go_well}
 use Rattle.worked_examples.specs.HeldSessions.{PlaysHeldGame, three_board, four_board, one_start, taken_back_input, PlaysOwnGame}
 use Rattle.worked_examples.proofs.TestedTables.{names_lower, lower_by}
 use Rattle.worked_examples.proofs.OwnWins.{attack_goes_on, own_win_is, first_move, replied_board, second_move}
+use Rattle.worked_examples.proofs.PlayedGames.{plays_held}
 use Rattle.game_rules.specs.declared.Outcome.TheVariants.{Wins, GoesOn}
 use Rattle.brain_session.specs.OwnGames.{BeginsOwnGame, win_game, win_attacks, win_answers}
 use Rattle.brain_session.proofs.HeldReplies.{session_by}
@@ -131,11 +131,10 @@ turn_row : row_of (state_at (game_at (point_at 4 7 ∷ []) false (Some (OwnWin 2
 unfolding three_board row_of outcome
 turn_row = refl
 
-turn_step : brain_step (state_at (game_at (point_at 4 7 ∷ []) false (Some (OwnWin 2)))) (Turn 0 14)
-    ≡ record {
-      reaction = Says (Move (point_at 3 7));
-      next = state_at (game_at (point_at 3 7 ∷ point_at 0 14 ∷ point_at 4 7 ∷ []) true (Some (OwnWin 1)));
-    }
+turn_step : brain_step (state_at (game_at (point_at 4 7 ∷ []) false (Some (OwnWin 2)))) (Turn 0 14) ≡ record {
+  reaction = Says (Move (point_at 3 7));
+  next = state_at (game_at (point_at 3 7 ∷ point_at 0 14 ∷ point_at 4 7 ∷ []) true (Some (OwnWin 1)));
+}
 unfolding three_board outcome
 turn_step = chooses (state_at (game_at (point_at 4 7 ∷ []) false (Some (OwnWin 2)))) (Turn 0 14)
     (game_at (point_at 0 14 ∷ point_at 4 7 ∷ []) false (Some (OwnWin 2))) _ turn_row own_choice_again
@@ -158,8 +157,7 @@ rest_answers = refl
 
 answers : answers_from (new_brain one_start) (told ++ Done ∷ Turn 0 14 ∷ rest) ≡ SaysOk ∷ Move (point_at 4 7) ∷ Move (point_at 3 7) ∷ SaysOk
     ∷ SaysOk ∷ Move (point_at 8 7) ∷ []
-answers =
-    told_answers
+answers = told_answers
     ∙ ap (λ (x : List Answer). SaysOk ∷ x) (session_by (state_after (new_brain one_start) told) Done (Turn 0 14 ∷ rest) _ done_step)
     ∙ ap (λ (x : List Answer). SaysOk ∷ Move (point_at 4 7) ∷ x)
     (session_by (state_at (game_at (point_at 4 7 ∷ []) false (Some (OwnWin 2)))) (Turn 0 14) rest _ turn_step)
@@ -191,11 +189,8 @@ unfolding taken_back three_board state_after row_of
 taken_state = refl
 
 state_is : state_after (new_brain one_start) before ≡ state_at (game_at (point_at 4 7 ∷ []) false None)
-state_is =
-    told_state
-    ∙ state_by_step (state_after (new_brain one_start) told) Done (Turn 0 14 ∷ taken_back) _ done_step
-    ∙ state_by_step (state_at (game_at (point_at 4 7 ∷ []) false (Some (OwnWin 2)))) (Turn 0 14) taken_back _ turn_step
-    ∙ taken_state
+state_is = told_state ∙ state_by_step (state_after (new_brain one_start) told) Done (Turn 0 14 ∷ taken_back) _ done_step
+    ∙ state_by_step (state_at (game_at (point_at 4 7 ∷ []) false (Some (OwnWin 2)))) (Turn 0 14) taken_back _ turn_step ∙ taken_state
 
 played : Game
 played = game_at (point_at 1 14 ∷ point_at 4 7 ∷ []) false None
@@ -221,26 +216,8 @@ game_won = refl
 
 pub own_win-game : PlaysHeldGame one_start taken_back_input 0 [] (Move (point_at 8 7) ∷ []) 1
 unfolding played
-own_win-game =
-    let law = held-games-go_well one_start one_start-held before (Turn 1 14) (End ∷ []) played 0 begins in
-    record {
-      before = before;
-      command = Turn 1 14;
-      later = End ∷ [];
-      game_there = played;
-      lines = lines_again;
-      begins = begins;
-      replied = no_reply;
-      first = law.first;
-      says = law.says;
-      answered =
-          law.answers
-          ∙ ap (λ (s : State). game_answers Freestyle s.held.table 0 (board_of played)
-          (replies (brain_step (state_after (new_brain one_start) before) (Turn 1 14)).next (End ∷ []))) state_is
-          ∙ ap (λ (qs : List Point). game_answers Freestyle one_start.table 0 (board_of played) qs) no_reply
-          ∙ game_said;
-      won = game_won;
-    }
+own_win-game = plays_held one_start one_start-held taken_back_input before (Turn 1 14) (End ∷ []) played 0 _ _ 1 lines_again begins no_reply
+    (ap (λ (s : State). game_answers Freestyle s.held.table 0 (board_of played) []) state_is ∙ game_said) game_won
 
 -- ---- the game by the win of its own
 
@@ -258,8 +235,7 @@ unfolding rest replies row_of
 no_more = refl
 
 own_replied : replies (brain_step (state_after (new_brain one_start) told) Done).next (Turn 0 14 ∷ rest) ≡ point_at 0 14 ∷ []
-own_replied =
-    ap (λ (st : Step). replies st.next (Turn 0 14 ∷ rest)) done_step
+own_replied = ap (λ (st : Step). replies st.next (Turn 0 14 ∷ rest)) done_step
     ∙ replies_by_step (state_at (game_at (point_at 4 7 ∷ []) false (Some (OwnWin 2)))) (Turn 0 14) rest _ turn_step
     ∙ ap (λ (ps : List Point). point_at 0 14 ∷ ps) no_more
 

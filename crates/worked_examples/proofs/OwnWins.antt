@@ -1,6 +1,6 @@
 -- The win by continuous fours that the brain finds with three in the row, open at both ends.
 use Rattle.std.proofs.Common.{◌≡◌, ◌≢◌, ℕ, ◌+◌, ◌≤◌, Bool, true, false, cond, ◌&&◌, ◌||◌, not, List, ◌∷◌, ◌++◌, get_or, length, drop, refl}
-use Rattle.std.proofs.Common.{sym, ap, subst, ◌∙◌, arith, inl, inr, nat_eq, if◌then◌else◌, Option, Some, None, nat_le}
+use Rattle.std.proofs.Common.{sym, ap, subst, arith, inl, inr, nat_eq, if◌then◌else◌, Option, Some, None, nat_le}
 use Rattle.std.specs.List.{list_all, find, sum_by}
 use Rattle.std.proofs.lemmas.List.Sums.{sum_by-le}
 use Rattle.std.proofs.lemmas.Bool.{or_cases, not-true}
@@ -52,8 +52,7 @@ spare_none c demand next never p h = by_empty (is_empty c p) refl (and_right (no
   by_empty false e k = ap (λ (o : Outcome). wins_or o
       (demand (after c p) (mover c) && list_all (λ q. loses_or (outcome Freestyle (after c p) q) (next (after (after c p) q)))
       (points_of c))) (taken_refused Freestyle c p e)
-  by_empty true e k =
-      no_start-reply Freestyle demand c next p quiet (spare p) (and_left (is_on c (spare p)) _ k)
+  by_empty true e k = no_start-reply Freestyle demand c next p quiet (spare p) (and_left (is_on c (spare p)) _ k)
       (going_is (outcome Freestyle (after c p) (spare p)) (and_right (is_on c (spare p)) _ k)) (never (after (after c p) (spare p)))
 
 no_win_at_once : (c : Grid) → list_all (leaves_spare c) (points_of c) ≡ true → wins_by_fours Freestyle 1 c ≡ false
@@ -65,8 +64,7 @@ no_win_at_once c all = any_none (starts_win (has_five Freestyle) Freestyle c (λ
 win_at_once : (c : Grid) (w : Point) → is_empty c w ≡ true → five Freestyle c (mover c) w ≡ true → wins_by_fours Freestyle 1 c ≡ true
 unfolding wins_under
 win_at_once c w e f =
-    points-found c (starts_win (has_five Freestyle) Freestyle c (λ b. false)) w (is_empty-on c w e)
-    (ap (λ (o : Outcome). wins_or o
+    points-found c (starts_win (has_five Freestyle) Freestyle c (λ b. false)) w (is_empty-on c w e) (ap (λ (o : Outcome). wins_or o
     (has_five Freestyle (after c w) (mover c) && list_all (λ q. loses_or (outcome Freestyle (after c w) q) false) (points_of c)))
     (wins_now Freestyle c w e f))
 
@@ -78,8 +76,7 @@ five_left q = if is_same_point (point_at 3 7) q then point_at 8 7 else point_at 
 
 -- whether the reply q at b is no move, or wins nothing and leaves Black its five
 abbrev leaves_five : Grid → Point → Bool
-leaves_five b q = not (is_empty b q)
-    || (not (five Freestyle b (mover b) q)
+leaves_five b q = not (is_empty b q) || (not (five Freestyle b (mover b) q)
     && (is_empty (after b q) (five_left q) && five Freestyle (after b q) (mover (after b q)) (five_left q)))
 
 some_left : (e w l : Bool) (o : Option Foul) → w ≡ false → l ≡ false → (r : Bool) → (e ≡ true → r ≡ true)
@@ -95,8 +92,7 @@ reply_loses : (b : Grid) (q : Point) → nat_eq (empties_of b) 1 ≡ false → l
     → loses_or (outcome Freestyle b q) (wins_by_fours Freestyle 1 (after b q)) ≡ true
 unfolding outcome
 reply_loses b q some h = by_empty (is_empty b q) refl h where
-  by_empty : (r : Bool) → is_empty b q ≡ r
-      → (not r || (not (five Freestyle b (mover b) q)
+  by_empty : (r : Bool) → is_empty b q ≡ r → (not r || (not (five Freestyle b (mover b) q)
       && (is_empty (after b q) (five_left q) && five Freestyle (after b q) (mover (after b q)) (five_left q)))) ≡ true
       → loses_or (outcome_by (is_empty b q) (five Freestyle b (mover b) q) (foul_of Freestyle b (mover b) q) (nat_eq (empties_of b) 1))
       (wins_by_fours Freestyle 1 (after b q)) ≡ true
@@ -137,10 +133,9 @@ attack_threatens = refl
 attack_starts : starts_win (has_five Freestyle) Freestyle three_board (wins_by_fours Freestyle 1) (point_at 4 7) ≡ true
 unfolding attacked
 attack_starts =
-    let all : list_all (λ q. loses_or (outcome Freestyle attacked q) (wins_by_fours Freestyle 1 (after attacked q))) (points_of attacked)
-    ≡ true =
-    all_implied (λ q. loses_or (outcome Freestyle attacked q) (wins_by_fours Freestyle 1 (after attacked q))) (leaves_five attacked)
-    (points_of attacked) (λ q. reply_loses attacked q attacked_some) attacked_tested in
+    let all : list_all (λ q. loses_or (outcome Freestyle attacked q) (wins_by_fours Freestyle 1 (after attacked q)))
+    (points_of attacked) ≡ true = all_implied (λ q. loses_or (outcome Freestyle attacked q) (wins_by_fours Freestyle 1 (after attacked q)))
+    (leaves_five attacked) (points_of attacked) (λ q. reply_loses attacked q attacked_some) attacked_tested in
     rw (attack_goes_on, attack_threatens, all) refl
 
 second_wins : wins_by_fours Freestyle 2 three_board ≡ true
@@ -279,8 +274,7 @@ points_split = refl
 
 front_tested : list_all starts_none front ≡ true
 unfolding front
-front_tested =
-    all-append starts_none (row_from 0 0 15) from_one row_zero
+front_tested = all-append starts_none (row_from 0 0 15) from_one row_zero
     (all-append starts_none (row_from 1 0 15) from_two row_one (all-append starts_none (row_from 2 0 15) from_three row_two
     (all-append starts_none (row_from 3 0 15) from_four row_three
     (all-append starts_none (row_from 4 0 15) from_five row_four (all-append starts_none (row_from 5 0 15) from_six row_five
@@ -297,10 +291,9 @@ no_five_there = refl
 -- 3,7 is blocked at 4,7, after which Black doesn't win at once
 block_starts_none : starts_win (has_five Freestyle) Freestyle three_board (wins_by_fours Freestyle 1) (point_at 3 7) ≡ false
 unfolding blocked
-block_starts_none =
-    no_start-reply Freestyle (has_five Freestyle) three_board (wins_by_fours Freestyle 1) (point_at 3 7)
-    (not_wins Freestyle three_board (point_at 3 7) no_five_there) (point_at 4 7)
-    (GoesOn-on Freestyle three_board (point_at 4 7) attack_goes_on) block_goes_on (no_win_at_once blocked blocked_tested)
+block_starts_none = no_start-reply Freestyle (has_five Freestyle) three_board
+    (wins_by_fours Freestyle 1) (point_at 3 7) (not_wins Freestyle three_board (point_at 3 7) no_five_there)
+    (point_at 4 7) (GoesOn-on Freestyle three_board (point_at 4 7) attack_goes_on) block_goes_on (no_win_at_once blocked blocked_tested)
 
 none_before : (p : Point) → starts_none p ≡ true → starts_win (has_five Freestyle) Freestyle three_board (wins_by_fours Freestyle 1) p
     ≡ false
@@ -308,11 +301,8 @@ unfolding starts_none
 none_before p h = elim (or_cases (is_same_point (point_at 3 7) p) _ h) [
   | inl same ↦ subst (λ (q : Point). starts_win (has_five Freestyle) Freestyle three_board (wins_by_fours Freestyle 1) q ≡ false)
       (is_same_point-same (point_at 3 7) p same) block_starts_none
-  | inr k ↦
-      no_start-demand Freestyle (has_five Freestyle) three_board (wins_by_fours Freestyle 1) p
-      (not_wins Freestyle three_board p
-      (not-true (five Freestyle three_board (mover three_board) p)
-      (and_left (not (five Freestyle three_board (mover three_board) p)) _ k)))
+  | inr k ↦ no_start-demand Freestyle (has_five Freestyle) three_board (wins_by_fours Freestyle 1) p (not_wins Freestyle three_board p
+      (not-true (five Freestyle three_board (mover three_board) p) (and_left (not (five Freestyle three_board (mover three_board) p)) _ k)))
       (not-true (has_five Freestyle (after three_board p) (mover three_board))
       (and_right (not (five Freestyle three_board (mover three_board) p)) _ k))
 ]

@@ -1,13 +1,11 @@
 -- The session in which a start is followed after moves were taken back.
-use Rattle.std.proofs.Common.{◌≡◌, ℕ, zero, suc, true, false, List, [], ◌∷◌, ◌++◌, codes, refl, ap, ◌∙◌, arith}
-use Rattle.std.proofs.Common.{None, slice_get}
+use Rattle.std.proofs.Common.{◌≡◌, ℕ, zero, suc, true, false, List, [], ◌∷◌, ◌++◌, codes, refl, ap, ◌∙◌, arith, None, slice_get}
 use Rattle.std.specs.Fmt.{digits}
 use Rattle.std.specs.List.{list_all}
 use Rattle.std.proofs.lemmas.List.Elements.{All-nil, All-cons}
 use Rattle.game_rules.proofs.Common.{IsBoard, points_of, outcome, after}
 use Rattle.game_rules.specs.declared.RuleKind.TheVariants.{Freestyle}
 use Rattle.game_rules.specs.declared.Side.TheVariants.{Black}
-use Rattle.game_rules.specs.declared.Point.{Point}
 use Rattle.foul_judge.specs.Lawful.{refusal}
 use Rattle.foul_judge.proofs.Lawfulness.{lawful_from_none}
 use Rattle.strategy_graph.specs.declared.Rest.TheVariants.{To}
@@ -17,7 +15,6 @@ use Rattle.strategy_checker.specs.declared.held.HeldRoot.{HeldRoot}
 use Rattle.strategy_graph.specs.declared.roots.Root.TheVariants.{Defend}
 use Rattle.strategy_graph.proofs.Soundness.{is_met, met-by_test}
 use Rattle.strategy_checker.specs.HeldRoots.{IsHeldRoot, IsHeld}
-use Rattle.gomocup_text.specs.Commands.{commands}
 use Rattle.gomocup_text.specs.declared.Command.{Command}
 use Rattle.gomocup_text.specs.declared.Command.TheVariants.{Turn, Done, End}
 use Rattle.gomocup_text.specs.declared.Answer.TheVariants.{Ok as SaysOk, Move}
@@ -26,12 +23,12 @@ use Rattle.brain_session.specs.ChosenMoves.{chosen, chosen_anew}
 use Rattle.brain_session.specs.Steps.{row_of, brain_step}
 use Rattle.brain_session.specs.Sessions.{answers_from, state_after, answer_texts, session_text}
 use Rattle.brain_session.specs.HeldGames.{BeginsHeldGame, replies, game_answers}
-use Rattle.brain_session.proofs.HeldGames.{held-games-go_well}
 use Rattle.worked_examples.specs.HeldSessions.{PlaysHeldGame, three_board, four_board, two_roots, taken_back_input}
 use Rattle.worked_examples.proofs.TestedTables.{names_lower, lower_by}
 use Rattle.worked_examples.proofs.OwnWinSession.{start_leaves, four_unrefused, none_over, lines, lines_again, before}
-unfoldable use Rattle.worked_examples.proofs.OwnWinSession.{none, told, rest, taken_back}
 use Rattle.worked_examples.proofs.OwnWins.{attack_goes_on, attacked_some}
+use Rattle.worked_examples.proofs.PlayedGames.{plays_held}
+unfoldable use Rattle.worked_examples.proofs.OwnWinSession.{none, told, rest, taken_back}
 unfoldable use Rattle.worked_examples.proofs.OwnWins.{attacked}
 
 -- ---- both roots are accepted
@@ -84,13 +81,8 @@ start_root = record { root = Defend after_four; kind = Freestyle; board = four_b
 
 pub two_roots-held : IsHeld two_roots
 two_roots-held = record {
-  roots =
-      All-cons (IsHeldRoot two_roots.table) _ (start_root ∷ [])
-      (record {
-        lawful = lawful_from_none Freestyle three_board three_is_board three_unrefused;
-        below = refl;
-        accepted = attack_accepted;
-      })
+  roots = All-cons (IsHeldRoot two_roots.table) _ (start_root ∷ [])
+      (record { lawful = lawful_from_none Freestyle three_board three_is_board three_unrefused; below = refl; accepted = attack_accepted })
       (All-cons (IsHeldRoot two_roots.table) start_root []
       (record { lawful = lawful_from_none Freestyle four_board four_is_board four_unrefused; below = refl; accepted = start_accepted })
       (All-nil (IsHeldRoot two_roots.table)));
@@ -132,21 +124,8 @@ game_won = refl
 
 pub first-game : PlaysHeldGame two_roots taken_back_input 2 (point_at 0 14 ∷ []) (Move (point_at 4 7) ∷ Move (point_at 3 7) ∷ []) 2
 unfolding played state_after three_board told row_of
-first-game =
-    let law = held-games-go_well two_roots two_roots-held told Done (Turn 0 14 ∷ rest) played 2 begins in
-    record {
-      before = told;
-      command = Done;
-      later = Turn 0 14 ∷ rest;
-      game_there = played;
-      lines = lines;
-      begins = begins;
-      replied = replied;
-      first = law.first;
-      says = law.says;
-      answered = law.answers ∙ ap (λ (qs : List Point). game_answers Freestyle two_roots.table 2 three_board qs) replied ∙ game_said;
-      won = game_won;
-    }
+first-game = plays_held two_roots two_roots-held taken_back_input told Done (Turn 0 14 ∷ rest) played 2 _ _ 2 lines begins replied game_said
+    game_won
 
 -- ---- the second game, in which White's move was made at the start
 
@@ -178,19 +157,5 @@ game_won_again = refl
 
 pub second-game : PlaysHeldGame two_roots taken_back_input 1 [] (Move (point_at 8 7) ∷ []) 1
 unfolding played_again state_after told taken_back row_of refusal outcome chosen chosen_anew three_board
-second-game =
-    let law = held-games-go_well two_roots two_roots-held before (Turn 1 14) (End ∷ []) played_again 1 begins_again in
-    record {
-      before = before;
-      command = Turn 1 14;
-      later = End ∷ [];
-      game_there = played_again;
-      lines = lines_again;
-      begins = begins_again;
-      replied = no_reply;
-      first = law.first;
-      says = law.says;
-      answered = law.answers ∙ ap (λ (qs : List Point). game_answers Freestyle two_roots.table 1 (board_of played_again) qs) no_reply
-          ∙ game_said_again;
-      won = game_won_again;
-    }
+second-game = plays_held two_roots two_roots-held taken_back_input before (Turn 1 14) (End ∷ []) played_again 1 _ _ 1 lines_again
+    begins_again no_reply game_said_again game_won_again

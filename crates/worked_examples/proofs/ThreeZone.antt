@@ -1,6 +1,6 @@
 -- The win with three in a row has its zone.
-use Rattle.std.proofs.Common.{◌≡◌, inl, inr, ℕ, ◌+◌, ◌-◌, ◌≤◌, Bool, true, false, not, ◌||◌, nat_le, refl, subst, arith}
-use Rattle.std.proofs.Common.{Option, Some, [], ◌∷◌, ◌++◌, sym, codes}
+use Rattle.std.proofs.Common.{◌≡◌, inl, inr, ℕ, ◌+◌, ◌-◌, ◌≤◌, Bool, true, false, not, ◌||◌, nat_le, refl, subst, arith, Option, Some, []}
+use Rattle.std.proofs.Common.{◌∷◌, ◌++◌, sym, codes}
 use Rattle.std.specs.Fmt.{digits}
 use Rattle.std.specs.List.{list_all}
 use Rattle.game_rules.proofs.Common.{Grid, is_empty, is_on, is_same_point, points_of, put, along, mover}
@@ -18,8 +18,7 @@ use Rattle.strategy_graph.proofs.Common.{Answers, answers_of}
 use Rattle.strategy_graph.specs.declared.roots.Root.TheVariants.{Attack}
 use Rattle.relevance_zone.specs.Windows.{stones_in, is_clear_at, is_clear_of}
 use Rattle.relevance_zone.specs.Zones.{Zone, Covers, IsWithstood, Withstands, HasZoneWithin, HasZone, AcceptedRootByZone}
-use Rattle.position_files.specs.Positions.{board_lines, stones}
-use Rattle.position_files.specs.Tables.{table_text, nodes_lines}
+use Rattle.position_files.proofs.Common.{board_lines, stones, table_text, nodes_lines}
 use Rattle.brain_session.specs.States.{point_at}
 use Rattle.worked_examples.specs.HeldSessions.{three_board, four_board, two_roots, answers_by}
 use Rattle.worked_examples.specs.Zones.{three_zone}
@@ -70,9 +69,8 @@ by_test true stones e h = few stones h
 by_test false stones e h = cc
 
 short : (d : Axis) (p : Point) → is_clear_of four_board Black d p ≡ true → stones_in four_board White d p + three_zone.spare d p ≤ 3
-short d p clear =
-    by_test (is_clear_of four_board Black d p) (stones_in four_board White d p) clear
-    (all_at four_board (is_short d) p (each_axis d) (clear_on four_board d p clear))
+short d p clear = by_test (is_clear_of four_board Black d p)
+    (stones_in four_board White d p) clear (all_at four_board (is_short d) p (each_axis d) (clear_on four_board d p clear))
 
 -- ---- the replies to the four
 
@@ -92,16 +90,10 @@ unfolding HasZoneWithin four_board three_board
 blocked = (refl, refl, inl refl)
 
 covers_rest : Covers 1 three_zone (five_zone (point_at 3 7))
-covers_rest = record {
-  points = λ p at. grind (arith, at);
-  windows = λ d p. omega arith;
-}
+covers_rest = record { points = λ p at. grind (arith, at); windows = λ d p. omega arith }
 
 covers_block : Covers 0 three_zone (five_zone (point_at 8 7))
-covers_block = record {
-  points = λ p at. grind (arith, at);
-  windows = λ d p. omega arith;
-}
+covers_block = record { points = λ p at. grind (arith, at); windows = λ d p. omega arith }
 
 abbrev block : Answers
 block = answers_of (answers_by (point_at 4 7) (record { at = point_at 3 7; next = 1 } ∷ []) 0)
@@ -110,9 +102,8 @@ reply : (q : Point) → IsWithstood Black block Has four_board three_zone (five_
 reply q = by_block (is_same_point (point_at 3 7) q) refl where
   by_block : (r : Bool) → is_same_point (point_at 3 7) q ≡ r
       → IsWithstood Black block Has four_board three_zone (five_zone (point_at 3 7)) q
-  by_block true same =
-      subst (IsWithstood Black block Has four_board three_zone (five_zone (point_at 3 7))) (is_same_point-same (point_at 3 7) q same)
-      (inr (1, five_zone (point_at 8 7), refl, blocked, covers_block))
+  by_block true same = subst (IsWithstood Black block Has four_board three_zone (five_zone (point_at 3 7)))
+      (is_same_point-same (point_at 3 7) q same) (inr (1, five_zone (point_at 8 7), refl, blocked, covers_block))
   by_block false apart = inl (rw apart refl, record { point = apart; windows = λ d p in_window. omega arith })
 
 -- ---- the win
