@@ -1,20 +1,17 @@
--- What is remembered of looks at positions: the attacker's moves to try, and what the replies come to.
+-- What is remembered of looks at positions of the defender: what the replies come to.
 use Rattle.std.specs.Prelude.{◌≡◌, ℕ, ◌+◌, ◌≤◌, List, [], take, drop, length, ◌++◌, Option}
 use Rattle.std.specs.Option.{option_map_or}
 use Rattle.game_rules.specs.Grid.{Grid}
 use Rattle.game_rules.specs.declared.RuleKind.{RuleKind}
-use Rattle.game_rules.specs.declared.Point.{Point}
 use Rattle.position_table.specs.Remembering.{Remembered, IsTrueTable}
-use Rattle.threat_game.specs.declared.attacks.Attacks.TheVariants.{Moves}
 use Rattle.threat_game.specs.declared.replies.Child.{Child}
 use Rattle.threat_game.specs.declared.replies.Children.{Children}
 use Rattle.threat_game.specs.ThreatGame.{LosesToThreats}
-use Rattle.threat_game.specs.Attacks.{AreAttacks}
 use Rattle.threat_game.specs.Replies.{AreChildren, HasEscape}
 use Rattle.proof_number.specs.declared.spans.Span.{Span}
 use Rattle.proof_number.specs.declared.looks.Look.{Look}
 use Rattle.proof_number.specs.declared.looks.TheConstants.{LOOKS}
-use Rattle.proof_number.specs.declared.looks.Look.TheVariants.{Tried, Denied, Escape, Replies}
+use Rattle.proof_number.specs.declared.looks.Look.TheVariants.{Denied, Escape, Replies}
 use Rattle.proof_number.specs.Denials.{WinsByFewFours}
 
 -- ---- lists that are kept in one
@@ -40,10 +37,9 @@ pub record IsPart {T : Type 0} (all : List T) (says : List T → Type 0) (span :
 abbrev pub table_in : Option (Remembered Look) → Remembered Look
 table_in made = option_map_or (λ t. t) made (record { entries = []; capacity = LOOKS })
 
--- what is remembered: what each look came to, the lists that it speaks of, and how many looks are still to pass
+-- what is remembered: what each look came to, the children that it speaks of, and how many looks are still to pass
 pub record LookMemory : Type 0 where
   pub table : Remembered Look
-  pub moves : List Point
   pub children : List Child
   pub to_pass : ℕ
 
@@ -58,12 +54,11 @@ AreChildrenOf rule n c count all = (children : Children) → children.all.items 
     → AreChildren rule n c children
 
 -- what a look at a position came to is true, where the attacker has so many more moves
-abbrev pub IsTrueLook : RuleKind → List Point → List Child → Grid → ℕ → Look → Type 0
-IsTrueLook rule moves children b n (Tried span) = IsPart moves (λ ps. AreAttacks rule b (Moves ps)) span
-IsTrueLook rule moves children b n Denied = IsDeniedByFours rule b
-IsTrueLook rule moves children b n Escape = HasEscape rule n b × (n ≤ 2)
-IsTrueLook rule moves children b n (Replies span count) = IsPart children (AreChildrenOf rule n b count) span
+abbrev pub IsTrueLook : RuleKind → List Child → Grid → ℕ → Look → Type 0
+IsTrueLook rule children b n Denied = IsDeniedByFours rule b
+IsTrueLook rule children b n Escape = HasEscape rule n b × (n ≤ 2)
+IsTrueLook rule children b n (Replies span count) = IsPart children (AreChildrenOf rule n b count) span
 
 -- what is remembered is true
 abbrev pub IsTrueLookMemory : RuleKind → LookMemory → Type 0
-IsTrueLookMemory rule m = IsTrueTable Look rule (IsTrueLook rule m.moves m.children) m.table
+IsTrueLookMemory rule m = IsTrueTable Look rule (IsTrueLook rule m.children) m.table

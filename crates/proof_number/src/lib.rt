@@ -5,7 +5,7 @@
 //! Meulen and van den Herik, "Proof-Number Search"). Most replies to a three are settled as soon as they are made, since
 //! the double point still stands after them. One of them gets a node, and its win meets the others, which get none and
 //! count nothing; so the tree holds few nodes that aren't open. Positions of the attacker that are settled are remembered, and
-//! so is what a look at a position came to, since moves in other orders lead there again.
+//! so is what a look at one of the defender came to, since moves in other orders lead there again.
 //! Each of them that is won is compiled at once, so that a win of the root is a table.
 #![tactic(auto)]
 

@@ -1,7 +1,8 @@
-//! Looks at positions, and what is remembered of them.
+//! Looks at positions of the defender, and what is remembered of them.
 //!
-//! Moves in other orders lead to the same positions, and the tree has a node for each way there. What such a node tries, and what
-//! the replies come to, rests on its position alone, so it is looked for once.
+//! Moves in other orders lead to the same positions, and the tree has a node of the defender for each way there. What the replies come to
+//! rests on the position alone, so it is looked for once. A position of the attacker mostly has one node with children, so its moves are
+//! looked for once without being remembered.
 #![tactic(auto)]
 
 ghost use Rattle.std.specs.Prelude.{◌≡◌, ◌⊎◌, ◌≤◌, ◌<◌, ◌+◌, ◌-◌, ℕ, false, true, [], length, IfOk, IfSome, IfNone, IsTrue};
@@ -10,9 +11,8 @@ ghost use Rattle.game_rules.specs.Games.{has_five};
 ghost use Rattle.position_table.specs.Packing.{packed};
 ghost use Rattle.position_table.specs.Remembering.{looked_up, value_under, kept};
 ghost use Rattle.threat_game.specs.ThreatGame.{LosesToThreats};
-ghost use Rattle.threat_game.specs.Attacks.{AreAttacks, has_reply};
+ghost use Rattle.threat_game.specs.Attacks.{has_reply};
 ghost use Rattle.threat_game.specs.Replies.{AreReplies, AreChildren};
-ghost use Rattle.threat_game.specs.declared.attacks.Attacks.TheVariants.{Moves};
 ghost use Rattle.proof_number.specs.Denials.{WinsByFewFours};
 ghost use Rattle.proof_number.specs.Looks.{IsTrueLook, part_of, table_in};
 
@@ -23,23 +23,18 @@ use position_table::{PackedPosition, WholeTable};
 use row_shapes::Rule;
 use std::alloc::{AllocError, Global};
 use std::marker::{Model, PhantomData};
-use stone_board::{Board, Point, Points};
-use threat_game::{Attacks, Child, Children, find_attacks, judge_replies};
+use stone_board::Board;
+use threat_game::{Child, Children, judge_replies};
 
 /// So many looks are remembered at most.
-const LOOKS: u32 = 65_536;
+const LOOKS: u32 = 16_384;
 
 /// So many looks that could be kept pass before any is. A small search seldom comes to a position again.
 const LOOKS_BEFORE: u32 = 1_024;
 
-/// What the attacker's looks are remembered under: they are the same whatever moves are left.
-const ANY_MOVES: u32 = 0;
-
 /// What a look at a position came to.
 #[derive(Clone, Copy)]
 pub(crate) enum Look {
-    /// The attacker, which is to move, tries the moves that stand there.
-    Tried(Span),
     /// The side to move wins by its own fours.
     Denied,
     /// After a reply there is no win.
@@ -53,7 +48,6 @@ pub(crate) enum Look {
 pub(crate) struct Looks<R: Rule> {
     alloc: Global,
     table: Option<WholeTable<Look>>,
-    moves: Vec<Point>,
     children: Vec<Child>,
     to_pass: u32,
     rule: PhantomData<R>,
@@ -66,14 +60,12 @@ impl<R: Rule> Model for Looks<R> {
 
     ghost view = { λ m. record {
       table = table_in m.table;
-      moves = m.moves.items;
       children = m.children.items;
       to_pass = m.to_pass;
     } };
 
     ghost invariant = { λ m. IsTrueLookMemory R.KIND (record {
       table = table_in m.table;
-      moves = m.moves.items;
       children = m.children.items;
       to_pass = m.to_pass;
     }) };
@@ -84,7 +76,6 @@ impl<R: Rule> Looks<R> {
     pub(crate) fn new(alloc: Global) -> Looks<R>
         ensures empty { result ≡ record {
           table = record { entries = []; capacity = LOOKS };
-          moves = [];
           children = [];
           to_pass = LOOKS_BEFORE;
         } }
@@ -92,7 +83,6 @@ impl<R: Rule> Looks<R> {
         Looks {
             alloc,
             table: None,
-            moves: Vec::new(alloc),
             children: Vec::new(alloc),
             to_pass: LOOKS_BEFORE,
             rule: PhantomData,
@@ -102,7 +92,7 @@ impl<R: Rule> Looks<R> {
     /// What is remembered of the position, where the attacker has so many more moves.
     fn find(&mut self, board: &Board, moves: u32) -> Option<Look>
         requires lawful { IsPosition R.KIND board.now }
-        ensures look { IfSome result (IsTrueLook R.KIND self.old.moves self.old.children board.now moves) }
+        ensures look { IfSome result (IsTrueLook R.KIND self.old.children board.now moves) }
         ensures value { result ≡ value_under (packed board.now, moves) self.old.table }
         ensures table { self.new ≡ record self.old { table = looked_up (packed board.now, moves) self.old.table } }
     {
@@ -133,7 +123,7 @@ impl<R: Rule> Looks<R> {
     /// Keeps what a look at the position came to, if there is a table and memory.
     fn keep(&mut self, board: &Board, moves: u32, look: Look)
         requires lawful { IsPosition R.KIND board.now }
-        requires look { IsTrueLook R.KIND self.old.moves self.old.children board.now moves look }
+        requires look { IsTrueLook R.KIND self.old.children board.now moves look }
         ensures kept { (self.new ≡ record self.old { table = kept (packed board.now, moves) look self.old.table })
             ⊎ (self.new ≡ self.old) }
     {
@@ -143,7 +133,7 @@ impl<R: Rule> Looks<R> {
     /// Remembers a look that speaks of no list, unless it passes.
     fn remember(&mut self, board: &Board, moves: u32, look: Look)
         requires lawful { IsPosition R.KIND board.now }
-        requires look { IsTrueLook R.KIND self.old.moves self.old.children board.now moves look }
+        requires look { IsTrueLook R.KIND self.old.children board.now moves look }
     {
         if self.is_ready() {
             self.keep(board, moves, look);
@@ -154,67 +144,12 @@ impl<R: Rule> Looks<R> {
     fn clear(&mut self)
         ensures empty { self.new ≡ record {
           table = record { entries = []; capacity = LOOKS };
-          moves = [];
           children = [];
           to_pass = self.old.to_pass;
         } }
     {
         self.table = None;
-        self.moves.clear();
         self.children.clear();
-    }
-
-    /// The moves of the attacker, as `find_attacks` of the game of threats finds them; it isn't told here that a double point is found
-    /// wherever one stands. The view is as before, also where memory ran out, and so is the board, a copy of its own.
-    pub(crate) fn find_attacks<V: Seen<R>>(
-        &mut self,
-        view: &mut V,
-        board: &mut Board,
-    ) -> Result<Attacks, AllocError>
-        requires none { has_five R.KIND (V.position view.old) (mover (V.position view.old)) ≡ false }
-        requires copy { board.old ≡ V.position view.old }
-        ensures attacks { IfOk result (λ a. AreAttacks R.KIND (V.position view.old) a) }
-        ensures same { V.position view.new ≡ V.position view.old }
-        ensures same_board { board.new ≡ board.old }
-    {
-        // This tells that the position is lawful.
-        view.side();
-        if let Some(moves) = self.known_moves(board)? {
-            return Ok(Attacks::Moves(moves));
-        }
-        let attacks = find_attacks::<R, V>(self.alloc, view, board)?;
-        if let Attacks::Moves(moves) = &attacks {
-            self.keep_moves(board, moves.as_slice());
-        }
-        Ok(attacks)
-    }
-
-    /// The moves that are to be tried, if they are remembered.
-    fn known_moves(&mut self, board: &Board) -> Result<Option<Points>, AllocError>
-        requires lawful { IsPosition R.KIND board.now }
-        ensures moves { IfOk result (λ found. IfSome found (λ ps. AreAttacks R.KIND board.now (Moves ps))) }
-    {
-        match self.find(board, ANY_MOVES) {
-            Some(Look::Tried(span)) => {
-                let moves = copied(self.alloc, list_at(self.moves.as_slice(), span))?;
-                Ok(Some(moves))
-            }
-            _ => Ok(None),
-        }
-    }
-
-    /// Remembers the moves that are to be tried, unless they pass. Where there is no room for them, all is forgotten.
-    fn keep_moves(&mut self, board: &Board, moves: &[Point])
-        requires lawful { IsPosition R.KIND board.now }
-        requires moves { AreAttacks R.KIND board.now (Moves moves.now) }
-    {
-        if !self.is_ready() {
-            return;
-        }
-        match add_list(&mut self.moves, moves) {
-            Some(span) => self.keep(board, ANY_MOVES, Look::Tried(span)),
-            None => self.clear(),
-        }
     }
 
     /// Whether the side to move is seen to win by continuous fours, where the other side, which has so many more moves, has no five
@@ -340,15 +275,4 @@ fn keep_in(table: &mut Option<WholeTable<Look>>, board: &Board, moves: u32, look
     if let Some(table) = table {
         let _ = table.keep(PackedPosition::of(board), moves, look);
     }
-}
-
-/// A copy of the list.
-fn copied(alloc: Global, list: &[Point]) -> Result<Points, AllocError>
-    ensures same { IfOk result (λ points. points ≡ list.now) }
-{
-    let mut points = Points::new(alloc);
-    for p in list {
-        points.push(*p)?;
-    }
-    Ok(points)
 }

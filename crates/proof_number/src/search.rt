@@ -33,8 +33,8 @@ use std::alloc::{AllocError, Global};
 use stone_board::{Board, Point};
 use strategy_compiler::{Compiler, SearchError, WrittenWin};
 use threat_game::{
-    Attacks, Child, DoublePoint, answers_of, compile_double, compile_five, compile_last, last_move,
-    settle_child,
+    Attacks, Child, DoublePoint, answers_of, compile_double, compile_five, compile_last,
+    find_attacks, last_move, settle_child,
 };
 
 /// What a step of the search did.
@@ -189,7 +189,7 @@ impl Search {
         ensures same { V.position view.new ≡ V.position view.old }
     {
         match tree.link(leaf).kind {
-            Kind::Attack => self.attack::<R, V>(looks, view, tree, compiler, leaf),
+            Kind::Attack => self.attack::<R, V>(view, tree, compiler, leaf),
             Kind::Defend => self.defend::<R, V>(looks, view, tree, compiler, leaf),
         }
     }
@@ -211,7 +211,6 @@ impl Search {
     /// Settles a leaf of the attacker, who has no five point and two moves or more, or gives it its children.
     fn attack<R: Rule, V: Seen<R>>(
         &mut self,
-        looks: &mut Looks<R>,
         view: &mut V,
         tree: &mut ProofTree,
         compiler: &mut Compiler,
@@ -224,7 +223,7 @@ impl Search {
     {
         if leaf == 0 {
             // Nothing is remembered before the root is looked at.
-            return self.try_attacks::<R, V>(looks, view, tree, compiler, leaf);
+            return self.try_attacks::<R, V>(view, tree, compiler, leaf);
         }
         match self.recall::<R, V>(view, leaf) {
             Some(Settled::Won(win)) => {
@@ -235,7 +234,7 @@ impl Search {
                 tree.settle_at(leaf, false);
                 Ok(Step::Done)
             }
-            _ => self.try_attacks::<R, V>(looks, view, tree, compiler, leaf),
+            _ => self.try_attacks::<R, V>(view, tree, compiler, leaf),
         }
     }
 
@@ -253,7 +252,6 @@ impl Search {
     /// The same where nothing is remembered of the position.
     fn try_attacks<R: Rule, V: Seen<R>>(
         &mut self,
-        looks: &mut Looks<R>,
         view: &mut V,
         tree: &mut ProofTree,
         compiler: &mut Compiler,
@@ -264,7 +262,7 @@ impl Search {
         ensures tried { IsTried R.KIND self.old self.new tree.old tree.new compiler.old compiler.new leaf result }
         ensures same { V.position view.new ≡ V.position view.old }
     {
-        match looks.find_attacks::<V>(view, &mut self.board)? {
+        match find_attacks::<R, V>(self.alloc, view, &mut self.board)? {
             Attacks::DoublePoint(double) => {
                 self.win_double::<R, V>(view, tree, compiler, leaf, double)
             }

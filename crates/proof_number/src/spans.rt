@@ -7,7 +7,7 @@ ghost use Rattle.std.specs.Prelude.{◌≡◌, ◌≤◌, ◌+◌, length, IfSom
 ghost use Rattle.proof_number.specs.Looks.{IsAdded, part_of};
 
 /// So many elements are kept at most.
-const MOST_KEPT: usize = 1_000_000;
+const MOST_KEPT: usize = 250_000;
 
 /// Where a list stands among those that are kept.
 #[derive(Clone, Copy)]

@@ -4,4 +4,4 @@ use Rattle.proof_number.specs.Looks.{IsTrueLook}
 use Rattle.proof_number.proofs.looks.Looks.clear.Goals as goal
 
 pub invariant_of-self : goal.invariant_of-self
-invariant_of-self g c = true-none g.R.Rule.KIND (IsTrueLook g.R.Rule.KIND _ _) _ refl
+invariant_of-self g c = true-none g.R.Rule.KIND (IsTrueLook g.R.Rule.KIND _) _ refl

@@ -5,8 +5,8 @@ use Rattle.proof_number.proofs.looks.Looks.keep.Goals as goal
 
 pub invariant_of-self : goal.invariant_of-self
 invariant_of-self g c =
-    true-kept g.R.Rule.KIND (IsTrueLook g.R.Rule.KIND c.self.inside.moves.items c.self.inside.children.items) c.args.board.now
+    true-kept g.R.Rule.KIND (IsTrueLook g.R.Rule.KIND c.self.inside.children.items) c.args.board.now
     c.args.board.now c.args.moves c.args.look (table_in c.self.inside.table) c.requires.lawful refl c.self.invariant _
-    (subst (λ (m : LookMemory). IsTrueLook g.R.Rule.KIND m.moves m.children c.args.board.now c.args.moves c.args.look)
+    (subst (λ (m : LookMemory). IsTrueLook g.R.Rule.KIND m.children c.args.board.now c.args.moves c.args.look)
     (sym c.self.view_is) c.requires.look)
     c.keep_in.ensures.kept
