@@ -4,6 +4,7 @@ import re
 import signal
 import subprocess
 import tempfile
+from itertools import repeat
 from pathlib import Path
 
 # It names the program that is tried, and so comes before what asks it.
@@ -76,7 +77,7 @@ def openings():
 
 
 def liked(ask, held, by, table):
-    """The parts of a like opening's table are tried at replies, and their first moves where they are refused."""
+    """The parts of a like opening's table are tried at replies and mended, and else their first moves are tried."""
     folder = held("o/replies")["5,0"].parents[2]
     tried = lambda name: Path(folder, name, "tried.txt").read_text()
     # White's 7,2 stands in the corner 8,8 instead, and no reply there or at 7,2 is won by a table of its own.
@@ -86,9 +87,9 @@ def liked(ask, held, by, table):
     expect("openings.py: a like opening", (status, told.partition(":")[0]), (0, "corner/table.txt"))
     accepted = asked(["check", "1000000"], Path(folder, "corner/table.txt").read_text())
     expect("openings.py: its table from a like one", accepted, re.compile(r"accepted in \d+ moves, .*\n"))
-    expect("openings.py: the part of its stone's point", "7,2 like-1-8,8 0 " in tried("corner"), True)
+    expect("openings.py: the part of its stone's point", "7,2 like-1-8,8-20000 0 " in tried("corner"), True)
     expect("openings.py: nothing is searched", "quiet" in tried("corner"), False)
-    # White's 5,0 is answered by 3,4, which no reply may then be refused by another move than 3,3.
+    # White's 5,0 is answered by 3,4, and no reply to that is answered by another move than 3,3.
     from boards import Node, named, read, spelled
 
     like = read(table.encode())
@@ -99,7 +100,7 @@ def liked(ask, held, by, table):
     words = ["--jobs", "1", "--deeper", "1", "--most", "20000", "--like", "bare.txt"]
     status, _, errors = ask(*words, "bare", "2,3", "-", text=QUIET, env=by("late"))
     is_told = f"5,0 (f9) is taken apart by {spelled(node.attack)} ({named(node.attack, 9)})\n" in errors
-    expect("openings.py: a part that is refused", (status, "5,0 like-1-5,0 4 " in tried("bare"), is_told), (0, True, True))
+    expect("openings.py: a part that is mended", (status, "5,0 like-1-5,0-20000 0 " in tried("bare"), is_told), (0, True, False))
     # Black's 8,0 wins nowhere, and is given up once three replies are left.
     like.nodes[place] = Node((8, 0), False, node.rest, [])
     Path(folder, "bad.txt").write_text(like.text())
@@ -115,6 +116,45 @@ def liked(ask, held, by, table):
     ]:
         status, told, errors = ask("--like", *words, *([] if words[1:] else ["q", "2,3", "-"]), text=QUIET)
         expect(f"openings.py: {name} as a like table", (status, told, errors), (1, "", f"openings.py: {said}\n"))
+
+
+def mended():
+    """Faults of a table are mended by wins, for all that come to the same nodes, and else for the line of the fault alone."""
+    from boards import Node, answered, numbers, read, spelled
+    from mending import FEW, Mending
+
+    position, table = read(QUIET.encode()), read(asked(["quiet", "12", "100000"], QUIET).encode())
+
+    def mend(nodes, check, search):
+        mending = Mending()
+        text = mending.mended(position, mending.add(nodes), check, search, 100_000)
+        return text and read(text.encode())
+
+    check = lambda text: answered(["check", 1_000_000], text)
+    search = lambda text, nodes: None if text == QUIET else asked(["quiet", "12", str(nodes)], text)
+    for place, node in enumerate(table.nodes):
+        # Black has no second stone on 3,2, and of the first position no win is found anew.
+        spoilt = [*table.nodes[:place], Node((3, 2), node.wins, node.rest, node.replies), *table.nodes[place + 1 :]]
+        found = mend(spoilt, check, search)
+        expect(f"mending.py: a fault at node {place}", found and found.root().attack, None if node is table.root() else (2, 3))
+    # After 2,3 White's 5,0, 4,1 and 0,5 are answered by one node with 3,4. Each win that is found two moves on is a point.
+    empties, head = position.empties(), QUIET.replace("position", "table", 1)
+
+    def moves(lines, *replies, points=empties):
+        """With which moves a table answers pairs of replies, once lines were refused."""
+        left, points = iter(lines), iter(points)
+        check = lambda text: next(((f"refused no-answer 2,3 {line}\n", 4) for line in left), ("", 0))
+        search = lambda text, nodes: f"{head}moves 1\nnodes 1\n{spelled(next(points))} wins\n" if len(text) >= len(QUIET) + 16 else None
+        found = mend(table.nodes, check, search)
+        answer = lambda p, q: found.nodes[found.nodes[found.root().answer(p)].answer(q)].attack
+        return found and [empties.index(answer(*map(numbers, pair.split()))) for pair in replies]
+
+    told = moves(["5,0 3,4 8,8", "4,1 3,4 8,8"], "5,0 8,8", "4,1 8,8", "0,5 8,8")
+    expect("mending.py: a node that two lines come to", told, [0, 1, 0])
+    lines, replies = [f"5,0 3,4 {x},8" for x in range(FEW)], [f"5,0 {x},8" for x in range(FEW + 1)]
+    expect("mending.py: replies that a node doesn't list", moves(lines, *replies)[:FEW], [*range(FEW)])
+    expect("mending.py: the rest of a node", moves(lines, *replies, points=repeat(empties[0])), (FEW + 1) * [0])
+    expect("mending.py: many faults", moves(repeat("5,0 3,4 8,8")), None)
 
 
 def parts():
@@ -186,4 +226,4 @@ def unopened():
         expect("openings.py: what was there", (sorted(os.listdir(folder)), os.listdir(f"{folder}/mine")), (["mine", "o"], ["opening.txt"]))
 
 
-GROUPS = (openings, unopened, parts)
+GROUPS = (openings, unopened, parts, mended)

@@ -17,13 +17,15 @@ again with ten times as many each time, up to M. Of replies that a symmetry of t
 MB of memory, or all runs at once half of the machine's, and where it runs out the reply is left.
 
 Each --like FILE is a table of a like position, whose first move is the attack too: one with a stone elsewhere, which was won before.
-It is kept in FOLDER/like, and what it answers to a reply, its part, is tried there before all others; at a reply beside the stone that
-stands elsewhere also what it answers to the stone that stands here.
+It is kept in FOLDER/like, and what it answers to a reply, its part, is tried there before all others; then what it answers to the point
+that stands to its stone as the reply does to the stone here, and at a reply beside its stone what it answers to the stone here. Where
+`renju check` refuses a part it tells a line of moves that leads to the fault: `renju quiet D NODES` is asked at the positions of that
+line, and a win takes the place of what the part has there, until the part is accepted, or a line has no position that is won so.
 
-With --deeper L a reply that is left is taken apart in turn, in a folder of FOLDER/deeper, and of its own replies those that are left
-too, down to L levels: by the first moves of like tables' parts, one level down before any search, and by the first moves of tables found
-at other replies, or where the reply makes a four by what blocks that, some of them one level down before a search with more NODES. An
-attack is given up where many of the first replies to it are left, and the tables that begin with it are its like tables.
+With --deeper L a reply that is left, where there are like tables after a second round, is taken apart in turn, in a folder of
+FOLDER/deeper, and of its own replies those that are left too, down to L levels: by the first moves of like tables' parts, and by the
+first moves of tables found at other replies, or where the reply makes a four by what blocks that, some of them before a search with more
+NODES. An attack is given up where many of the first replies to it are left, and the tables that begin with it are its like tables.
 
 --lines prints a command line of the shell for each reply that is left, for GNU parallel. What such a line writes stands beside the
 position in FOLDER/replies, and when the script goes on its table is taken in, if `renju check` accepts it.
@@ -50,8 +52,8 @@ sys.dont_write_bytecode = True
 
 from boards import ENDING, PROGRAM, Table, Wrong, answered, asked, bytes_of, end_runs, numbers, other, read_file, saying, spelled, tell
 from foul import an
+from mending import Mending
 from outputs import replace
-from parts import part
 from position import EXCHANGING, IMAGES, image, points, rule_of, size_of, understood
 from solutions import all_of, both
 from solving import DEPTHS, NODES, SECONDS_OF_SILENCE, Clock, add_jobs, ranged
@@ -111,13 +113,14 @@ def apart(p, q):
 
 
 def meant(reply, here, there):
-    """The replies of a like position that answer to one here: the same point, and for a point beside a stone that stands elsewhere here
-    the point where it stands.
+    """The replies of a like position that answer to one here: the same point, that which stands to a stone there as the reply does to the
+    stone here, and for a point beside a stone that stands elsewhere here the point where it stands.
     """
     elsewhere = [it for it in there.stones() if it not in here.stones()]
     moved = [it for it in getattr(here, here.side()) if it not in there.stones()]
-    same = [reply] if reply not in there.stones() else []
-    return [*same, *(it for it in moved if any(apart(reply, stone) <= 1 for stone in elsewhere))]
+    shifted = [(reply[0] + p[0] - q[0], reply[1] + p[1] - q[1]) for p in elsewhere for q in moved]
+    beside = [it for it in moved if any(apart(reply, stone) <= 1 for stone in elsewhere)]
+    return [it for it in dict.fromkeys([reply, *shifted, *beside]) if there.has(it) and it not in there.stones()]
 
 
 class Opening:
@@ -136,7 +139,9 @@ class Opening:
                 replace(self.path("replies", reply), self.after.after(reply).text())
         self.found, self.served = ({it for it in self.replies if self.path(kind, it).exists()} for kind in ("tables", "served"))
         self.log = self.folder / "tried.txt"
-        self.tried, self.uses, self.answers, self.like, self.apart = {}, Counter(), {}, {}, set()
+        self.tried, self.uses, self.answers, self.apart = {}, Counter(), {}, set()
+        # Of each like table, by its number, the position and the root, which is a node of those that are mended.
+        self.like, self.mending = {}, Mending()
         # The first moves of the tables found, and the openings of attacks after replies, which take long to read.
         self.first_moves, self.inner = {}, {}
         self.begin()
@@ -152,25 +157,27 @@ class Opening:
             found = ANSWER.fullmatch(path.name)
             if found:
                 self.answers.setdefault(numbers(found.group(1)), []).append((path, f"quiet-{found.group(2)}-{found.group(3)}"))
-        like = sorted((self.folder / "like").glob("*.txt"), key=lambda path: int(path.stem))
-        self.like = {int(path.stem): read_file(path) for path in like}
+        for path in sorted((self.folder / "like").glob("*.txt"), key=lambda path: int(path.stem)):
+            table = read_file(path)
+            self.like[int(path.stem)] = table.position, self.mending.add(table.nodes)
 
     def add_like(self, tables):
         """Keeps like tables, those that it hasn't."""
+        texts = [path.read_text() for path in (self.folder / "like").glob("*.txt")]
         for table in tables:
-            if table not in self.like.values():
+            if table.text() not in texts:
                 number = len(self.like) + 1
-                self.like[number] = table
+                self.like[number] = table.position, self.mending.add(table.nodes)
                 (self.folder / "like").mkdir(exist_ok=True)
                 replace(self.folder / "like" / f"{number}.txt", table.text())
 
     def alike(self, reply):
-        """The parts of like tables for a reply: what is told of each in tried.txt, its table, and its root there."""
-        for number, table in self.like.items():
-            for it in meant(reply, self.after, table.position.after(self.attack)):
-                place = table.root().answer(it)
+        """The parts of like tables for a reply: what is told of each in tried.txt, and its root."""
+        for number, (position, root) in self.like.items():
+            for it in meant(reply, self.after, position.after(self.attack)):
+                place = self.mending.nodes[root].answer(it)
                 if place is not None:
-                    yield f"like-{number}-{spelled(it)}", table, place
+                    yield f"like-{number}-{spelled(it)}", place
 
     def path(self, kind, reply):
         return self.folder / kind / f"{spelled(reply)}.txt"
@@ -226,7 +233,7 @@ class Opening:
 
     def hints(self, reply):
         """The first moves of the parts of like tables for a reply."""
-        return self.fit(reply, [table.nodes[place].attack for _, table, place in self.alike(reply)])
+        return self.fit(reply, [self.mending.nodes[place].attack for _, place in self.alike(reply)])
 
     def attacks(self, reply):
         """By which attacks a reply may be taken apart: what keeps the other side from a five, or else the first moves of tables, those
@@ -239,8 +246,9 @@ class Opening:
         uses, likes = Counter(), Counter()
         for it in self.found:
             uses[self.first_move(it)] += 1 + self.uses[it]
-        for table in self.like.values():
-            likes.update(table.nodes[place].attack for place in table.root().named())
+        nodes = self.mending.nodes
+        for _, root in self.like.values():
+            likes.update(nodes[place].attack for place in nodes[root].named())
         ordered = [it for uses in (uses, likes) for it in sorted(uses, key=lambda it: (-uses[it], it))]
         return self.fit(reply, ordered)[:ATTACKS]
 
@@ -248,17 +256,17 @@ class Opening:
         """The opening of an attack after a reply. Its like tables are the parts for the reply, and the tables of others, that begin
         with the attack.
         """
-        folder = self.folder / "deeper" / f"{spelled(reply)}-{spelled(attack)}"
+        folder, parts = self.folder / "deeper" / f"{spelled(reply)}-{spelled(attack)}", []
         if (reply, attack) not in self.inner:
             folder.parent.mkdir(exist_ok=True)
             if not is_opening(folder):
                 begun(folder, attack, self.after.after(reply))
+                places = [place for _, place in self.alike(reply) if self.mending.nodes[place].attack == attack]
+                parts = [self.mending.table(self.after.after(reply), place)[0] for place in places]
             self.inner[reply, attack] = Opening(folder)
         found = self.inner[reply, attack]
         others = sorted(self.found, key=lambda it: (-self.uses[it], apart(it, reply), it))
         others = [self.path("tables", it) for it in others if self.first_move(it) == attack][:LIKES]
-        alike = [it for it in self.alike(reply) if it[1].nodes[it[2]].attack == attack]
-        parts = [part(table, place, self.after.after(reply)) for _, table, place in alike]
         found.add_like([*parts, *map(read_file, others)])
         return found
 
@@ -334,7 +342,7 @@ class Work:
             nodes = min(TIMES * nodes, most)
 
     def round(self, nodes):
-        """Asks each reply that is left, or with no nodes tries those tables alone that there are."""
+        """Asks each reply that is left."""
         left, self.lost = self.opening.left(), 0
         began, pool = time.monotonic(), ThreadPoolExecutor(self.jobs)
         runs = [pool.submit(self.settle, reply, nodes) for reply in left]
@@ -359,14 +367,13 @@ class Work:
         more = f", {seconds * going / ended:.0f} s more at this pace" if ended and going else ""
         known = len(opening.found) + len(opening.served)
         told = f"{known} of {len(opening.replies)} replies have a table, {len(opening.served)} of them another's"
-        how = f"asked with {nodes:,}" if nodes else "tried"
-        self.clock.say(f"{told}; {ended} of {all_of_round} {how}{more}")
+        self.clock.say(f"{told}; {ended} of {all_of_round} asked with {nodes:,}{more}")
 
     def settle(self, reply, nodes):
         """Looks for a table at a reply: in what stands beside its position, among those found so far, and by a search."""
         if self.is_given_up or self.given.effort.is_over():
             return
-        if self.take_in(reply) or self.serve(reply) or nodes and self.search(reply, nodes):
+        if self.take_in(reply) or self.mend(reply, nodes) or self.serve(reply) or self.search(reply, nodes):
             return
         self.lost += 1
         asked = len(self.opening.found) + len(self.opening.served) + self.lost
@@ -403,26 +410,45 @@ class Work:
             path.unlink()
         return reply in self.opening.found
 
-    def serve(self, reply):
-        """Tries the parts of like tables at a reply, and the tables found so far. It says whether one is accepted there."""
-        opening = self.opening
-        after = opening.after.after(reply)
-        for what, table, place in opening.alike(reply):
-            if not opening.is_lost(reply, what) and self.is_accepted(reply, what, "tables", part(table, place, after).text()):
-                return True
-        for source in opening.sources(reply):
-            text = opening.under(reply, opening.path("tables", source).read_text())
-            if self.is_accepted(reply, f"table-{spelled(source)}", "served", text):
-                return True
+    def mend(self, reply, nodes):
+        """Tries the parts of like tables at a reply, mended by searches. It says whether one is accepted there."""
+        opening, after = self.opening, self.opening.after.after(reply)
+        for what, place in opening.alike(reply):
+            if not opening.is_lost(reply, f"{what}-{nodes}"):
+                began = time.monotonic()
+                text = opening.mending.mended(after, place, self.check, self.found, nodes)
+                if text:
+                    opening.put("tables", reply, text)
+                opening.add(reply, f"{what}-{nodes}", DONE if text else REFUSED, time.monotonic() - began)
+                if text:
+                    return True
         return False
 
-    def is_accepted(self, reply, what, kind, text):
-        """Whether a table is accepted at a reply, which then keeps it."""
-        _, status, seconds = self.run(["check", FEW_ARRIVALS], text)
-        if status == DONE:
-            self.opening.put(kind, reply, text)
-        self.opening.add(reply, what, status, seconds)
-        return status == DONE
+    def check(self, text):
+        """What `check` says of a table's text, and the status."""
+        return self.run(["check", FEW_ARRIVALS], text)[:2]
+
+    def found(self, text, nodes):
+        """The text of a table that a search with so many nodes finds at a position, or None."""
+        if self.given.effort.is_over():
+            return None
+        told, status, _ = self.run(["quiet", self.depth, nodes], text)
+        if status != DONE:
+            self.given.effort.nodes += nodes
+        return told if status == DONE else None
+
+    def serve(self, reply):
+        """Tries the tables found so far at a reply. It says whether one is accepted there."""
+        opening = self.opening
+        for source in opening.sources(reply):
+            text = opening.under(reply, opening.path("tables", source).read_text())
+            _, status, seconds = self.run(["check", FEW_ARRIVALS], text)
+            if status == DONE:
+                opening.put("served", reply, text)
+            opening.add(reply, f"table-{spelled(source)}", status, seconds)
+            if status == DONE:
+                return True
+        return False
 
     def search(self, reply, nodes):
         """Searches a table at a reply, where it wasn't done before. It says whether there is one."""
@@ -443,11 +469,7 @@ def asked_deeper(opening, given, levels, whole=True):
     wanted it ends with a reply that stays left. It answers with how many nodes they were asked at last.
     """
     work, nodes = Work(opening, given), min(given.nodes, given.most)
-    if levels and opening.like:
-        work.round(0)
-        for reply in opening.left():
-            taken_apart(work, reply, opening.hints, 0)
-    work.round(nodes)
+    nodes = work.rounds(nodes, min(TIMES * nodes, given.most) if levels and opening.like else nodes)
     for reply in opening.left() if levels else []:
         taken_apart(work, reply, opening.hints, levels)
         taken_apart(work, reply, lambda it: opening.attacks(it)[:QUICK], levels, NEARLY)

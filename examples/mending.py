@@ -1,0 +1,125 @@
+"""Mends tables of like positions: `renju check` tells of a table that it refuses a line of moves that leads to a fault, and a win that a
+search finds at a position of that line takes the place of what the table has there.
+"""
+import threading
+from collections import Counter
+from dataclasses import dataclass
+
+from boards import Node, Position, Table, numbers, read
+
+# The statuses of a run that finds what it was asked for, and of `check` of a table that isn't accepted.
+DONE, REFUSED = 0, 4
+# The faults after which the game is over.
+ENDS = ("reply-wins", "reply-draws")
+# How many faults are mended in a table, and with which of the replies that a node doesn't list and one move answers this answers the rest.
+MANY, FEW = 32, 4
+
+
+@dataclass
+class Step:
+    """Where on a line of moves the side of the table moves: the reply that led there, the position, and the table's node, if any."""
+
+    reply: object
+    position: Position
+    place: object
+
+
+class Mending:
+    """The nodes of tables. What is mended at one position is mended in them, and so wherever the same nodes are come to."""
+
+    def __init__(self):
+        self.nodes, self.lock = [], threading.Lock()
+        # The replies that were given another answer, each with its node; of how many that a node doesn't list a move was the answer; and
+        # of each win that was looked for with how many nodes it was, and its nodes, or None.
+        self.changed, self.unlisted, self.wins = set(), Counter(), {}
+
+    def add(self, nodes):
+        """Adds the nodes of a table. It answers with the last, the root."""
+        with self.lock:
+            first = len(self.nodes)
+            self.nodes += [it.renumbered(range(first, first + len(nodes))) for it in nodes]
+            return len(self.nodes) - 1
+
+    def table(self, position, root):
+        """The table of a position whose root is a node, and the numbers that its nodes have here."""
+        depths, left = {}, [root]
+        with self.lock:
+            while left:
+                named = self.nodes[left[-1]].named()
+                deeper = [it for it in named if it not in depths]
+                left += deeper
+                if not deeper:
+                    depths[left.pop()] = 1 + max((depths[it] for it in named), default=0)
+            order = sorted(depths, key=lambda it: (depths[it], it))
+            new = {place: number for number, place in enumerate(order)}
+            return Table(position, depths[root], [self.nodes[it].renumbered(new) for it in order]), order
+
+    def mended(self, position, root, check, search, nodes):
+        """The text of the table of a position whose root is a node, mended until it is accepted, or None. `check` answers what is told of
+        a text, and the status; `search` answers the text of a position with that of a table, or None, and is asked with so many nodes.
+        """
+        for _ in range(MANY):
+            table, places = self.table(position, root)
+            text = table.text()
+            told, status = check(text)
+            if status == DONE:
+                return text
+            root = self.without_fault(line(told, table, places), search, nodes) if status == REFUSED else None
+            if root is None:
+                break
+        return None
+
+    def without_fault(self, steps, search, nodes):
+        """The root once the fault of a line is mended, or None: a win is looked for at its positions, in their order, but at the first in
+        the end, where it is the dearest.
+        """
+        for count in [*range(2, len(steps) + 1), 1]:
+            found = self.win(steps[count - 1].position.text(), search, nodes)
+            if found is not None:
+                with self.lock:
+                    return self.replaced(steps[:count], found)
+        return None
+
+    def win(self, text, search, nodes):
+        """The root of a win at a position, or None. It is looked for once with so many nodes, and has nodes of its own each time."""
+        most, found = self.wins.get(text, (0, None))
+        if found is None and most < nodes:
+            told = search(text, nodes)
+            found = told and read(told.encode()).nodes
+            self.wins[text] = nodes, found
+        return found and self.add(found)
+
+    def replaced(self, steps, found):
+        """The root once a node answers the reply of the last step, or the rest where some replies had an answer with the same move. The
+        node before is changed for all that come to it, or where that was done already it is copied, and its copy takes its place in turn.
+        """
+        *before, last = steps
+        if not before:
+            return found
+        place, reply = before[-1].place, last.reply
+        node, attack = self.nodes[place], self.nodes[found].attack
+        others = [(it, name) for it, name in node.replies if it != reply]
+        if len(others) == len(node.replies) and node.rest is not None:
+            self.unlisted[place, attack] += 1
+            if self.unlisted[place, attack] == FEW:
+                self.nodes[place] = Node(node.attack, node.wins, found, node.replies)
+                return before[0].place
+        node = Node(node.attack, node.wins, node.rest, sorted([*others, (reply, found)], key=lambda it: it[0][::-1]))
+        if (place, reply) not in self.changed:
+            self.changed.add((place, reply))
+            self.nodes[place] = node
+            return before[0].place
+        self.nodes.append(node)
+        return self.replaced(before, len(self.nodes) - 1)
+
+
+def line(told, table, places):
+    """The steps of the line that leads to a fault of a table: `refused WHY` and its moves are told."""
+    _, why, *moves = told.split()
+    points, number = [*map(numbers, moves)], len(table.nodes) - 1
+    steps = [Step(None, table.position, places[number])]
+    for attack, reply in zip(points[::2], points[1::2]):
+        number = table.nodes[number].answer(reply)
+        place = None if number is None else places[number]
+        steps.append(Step(reply, steps[-1].position.after(attack).after(reply), place))
+    return steps[:-1] if why in ENDS else steps
