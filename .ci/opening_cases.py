@@ -4,7 +4,6 @@ import re
 import signal
 import subprocess
 import tempfile
-from itertools import repeat
 from pathlib import Path
 
 # It names the program that is tried, and so comes before what asks it.
@@ -121,13 +120,13 @@ def liked(ask, held, by, table):
 def mended():
     """Faults of a table are mended by wins, for all that come to the same nodes, and else for the line of the fault alone."""
     from boards import Node, answered, numbers, read, spelled
-    from mending import FEW, Mending
+    from mending import MANY, Mending
 
     position, table = read(QUIET.encode()), read(asked(["quiet", "12", "100000"], QUIET).encode())
 
     def mend(nodes, check, search):
         mending = Mending()
-        text = mending.mended(position, mending.add(nodes), check, search, 100_000)
+        text = mending.mended(position, mending.add(nodes), check, search, (100_000, 100_000))
         return text and read(text.encode())
 
     check = lambda text: answered(["check", 1_000_000], text)
@@ -137,24 +136,24 @@ def mended():
         spoilt = [*table.nodes[:place], Node((3, 2), node.wins, node.rest, node.replies), *table.nodes[place + 1 :]]
         found = mend(spoilt, check, search)
         expect(f"mending.py: a fault at node {place}", found and found.root().attack, None if node is table.root() else (2, 3))
-    # After 2,3 White's 5,0, 4,1 and 0,5 are answered by one node with 3,4. Each win that is found two moves on is a point.
+    # After 2,3 White's 5,0, 4,1 and 0,5 are answered by one node with 3,4, and that lists 3,3. What is found at the end of a line is a point.
     empties, head = position.empties(), QUIET.replace("position", "table", 1)
 
-    def moves(lines, *replies, points=empties):
-        """With which moves a table answers pairs of replies, once lines were refused."""
-        left, points = iter(lines), iter(points)
-        check = lambda text: next(((f"refused no-answer 2,3 {line}\n", 4) for line in left), ("", 0))
-        search = lambda text, nodes: f"{head}moves 1\nnodes 1\n{spelled(next(points))} wins\n" if len(text) >= len(QUIET) + 16 else None
+    def moves(lines, *games):
+        """With which moves a table answers the replies of some games, once lines were refused."""
+        left, points, stones = iter(lines), iter(empties), len(QUIET.split()) + len(lines[0].split())
+        check = lambda text: next(((f"refused no-answer {line}\n", 4) for line in left), ("", 0))
+        search = lambda text, nodes: f"{head}moves 1\nnodes 1\n{spelled(next(points))} wins\n" if len(text.split()) == stones else None
         found = mend(table.nodes, check, search)
-        answer = lambda p, q: found.nodes[found.nodes[found.root().answer(p)].answer(q)].attack
-        return found and [empties.index(answer(*map(numbers, pair.split()))) for pair in replies]
+        answer = lambda node, replies: answer(found.nodes[node.answer(replies[0])], replies[1:]) if replies else node.attack
+        return found and [empties.index(answer(found.root(), [*map(numbers, game.split())])) for game in games]
 
-    told = moves(["5,0 3,4 8,8", "4,1 3,4 8,8"], "5,0 8,8", "4,1 8,8", "0,5 8,8")
+    told = moves(["2,3 5,0 3,4 3,3", "2,3 4,1 3,4 3,3"], "5,0 3,3", "4,1 3,3", "0,5 3,3")
     expect("mending.py: a node that two lines come to", told, [0, 1, 0])
-    lines, replies = [f"5,0 3,4 {x},8" for x in range(FEW)], [f"5,0 {x},8" for x in range(FEW + 1)]
-    expect("mending.py: replies that a node doesn't list", moves(lines, *replies)[:FEW], [*range(FEW)])
-    expect("mending.py: the rest of a node", moves(lines, *replies, points=repeat(empties[0])), (FEW + 1) * [0])
-    expect("mending.py: many faults", moves(repeat("5,0 3,4 8,8")), None)
+    # 8,7 is answered as what else isn't listed, by 4,1 with a move more.
+    told = moves(["2,3 8,7", "2,3 8,8"], "8,7", "8,8", "8,6", "5,0")
+    expect("mending.py: a shorter answer to the rest", told, [0, 1, 0, empties.index((3, 4))])
+    expect("mending.py: many faults", moves(MANY * ["2,3 5,0 3,4 3,3"]), None)
 
 
 def parts():

@@ -11,13 +11,13 @@ from boards import Node, Position, Table, numbers, read
 DONE, REFUSED = 0, 4
 # The faults after which the game is over.
 ENDS = ("reply-wins", "reply-draws")
-# How many faults are mended in a table, and with which of the replies that a node doesn't list and one move answers this answers the rest.
-MANY, FEW = 32, 4
+# How many faults are mended in a table.
+MANY = 32
 
 
 @dataclass
 class Step:
-    """Where on a line of moves the side of the table moves: the reply that led there, the position, and the table's node, if any."""
+    """Where on a line of moves the side of the table moves: the reply that led there, the position, and the number of the node, if any."""
 
     reply: object
     position: Position
@@ -29,9 +29,9 @@ class Mending:
 
     def __init__(self):
         self.nodes, self.lock = [], threading.Lock()
-        # The replies that were given another answer, each with its node; of how many that a node doesn't list a move was the answer; and
-        # of each win that was looked for with how many nodes it was, and its nodes, or None.
-        self.changed, self.unlisted, self.wins = set(), Counter(), {}
+        # The replies that were given another answer, each with its node; and of each win that was looked for with how many nodes it was,
+        # and its nodes, or None.
+        self.changed, self.wins = set(), {}
 
     def add(self, nodes):
         """Adds the nodes of a table. It answers with the last, the root."""
@@ -40,23 +40,28 @@ class Mending:
             self.nodes += [it.renumbered(range(first, first + len(nodes))) for it in nodes]
             return len(self.nodes) - 1
 
+    def depths(self, root):
+        """The most moves from each node on that a node reaches, by its number, lower ones first."""
+        found, left = {}, [root]
+        while left:
+            named = self.nodes[left[-1]].named()
+            deeper = [it for it in named if it not in found]
+            left += deeper
+            if not deeper:
+                found[left.pop()] = 1 + max((found[it] for it in named), default=0)
+        return found
+
     def table(self, position, root):
         """The table of a position whose root is a node, and the numbers that its nodes have here."""
-        depths, left = {}, [root]
         with self.lock:
-            while left:
-                named = self.nodes[left[-1]].named()
-                deeper = [it for it in named if it not in depths]
-                left += deeper
-                if not deeper:
-                    depths[left.pop()] = 1 + max((depths[it] for it in named), default=0)
-            order = sorted(depths, key=lambda it: (depths[it], it))
-            new = {place: number for number, place in enumerate(order)}
-            return Table(position, depths[root], [self.nodes[it].renumbered(new) for it in order]), order
+            depths = self.depths(root)
+            new = {place: number for number, place in enumerate(depths)}
+            return Table(position, depths[root], [self.nodes[it].renumbered(new) for it in depths]), [*depths]
 
-    def mended(self, position, root, check, search, nodes):
+    def mended(self, position, root, check, search, limits):
         """The text of the table of a position whose root is a node, mended until it is accepted, or None. `check` answers what is told of
-        a text, and the status; `search` answers the text of a position with that of a table, or None, and is asked with so many nodes.
+        a text, and the status; `search` answers the text of a position with that of a table, or None, and is asked with so many nodes at
+        first, and in the end.
         """
         for _ in range(MANY):
             table, places = self.table(position, root)
@@ -64,17 +69,18 @@ class Mending:
             told, status = check(text)
             if status == DONE:
                 return text
-            root = self.without_fault(line(told, table, places), search, nodes) if status == REFUSED else None
+            root = self.without_fault(line(told, table, places), search, *limits) if status == REFUSED else None
             if root is None:
                 break
         return None
 
-    def without_fault(self, steps, search, nodes):
-        """The root once the fault of a line is mended, or None: a win is looked for at its positions, in their order, but at the first in
-        the end, where it is the dearest.
+    def without_fault(self, steps, search, nodes, most):
+        """The root once the fault of a line is mended, or None: a win is looked for at its positions in their order, but at the first in
+        the end, where it is the dearest; and else from the last one on with more nodes.
         """
-        for count in [*range(2, len(steps) + 1), 1]:
-            found = self.win(steps[count - 1].position.text(), search, nodes)
+        inner = range(2, len(steps) + 1)
+        for count, limit in [*((it, nodes) for it in [*inner, 1]), *((it, most) for it in reversed(inner))]:
+            found = self.win(steps[count - 1].position.text(), search, limit)
             if found is not None:
                 with self.lock:
                     return self.replaced(steps[:count], found)
@@ -90,20 +96,20 @@ class Mending:
         return found and self.add(found)
 
     def replaced(self, steps, found):
-        """The root once a node answers the reply of the last step, or the rest where some replies had an answer with the same move. The
-        node before is changed for all that come to it, or where that was done already it is copied, and its copy takes its place in turn.
+        """The root once a node answers the reply of the last step, or all of the rest where what answers that has no fewer moves. The node
+        before is changed for all that come to it, or where that was done already it is copied, and its copy takes its place in turn.
         """
         *before, last = steps
         if not before:
             return found
         place, reply = before[-1].place, last.reply
-        node, attack = self.nodes[place], self.nodes[found].attack
+        node = self.nodes[place]
         others = [(it, name) for it, name in node.replies if it != reply]
-        if len(others) == len(node.replies) and node.rest is not None:
-            self.unlisted[place, attack] += 1
-            if self.unlisted[place, attack] == FEW:
-                self.nodes[place] = Node(node.attack, node.wins, found, node.replies)
-                return before[0].place
+        is_rest, moves = len(others) == len(node.replies) and node.rest is not None, self.depths(found)[found]
+        if is_rest and moves <= self.depths(node.rest)[node.rest] and (place, moves) not in self.changed:
+            self.changed.add((place, moves))
+            self.nodes[place] = Node(node.attack, node.wins, found, node.replies)
+            return before[0].place
         node = Node(node.attack, node.wins, node.rest, sorted([*others, (reply, found)], key=lambda it: it[0][::-1]))
         if (place, reply) not in self.changed:
             self.changed.add((place, reply))

@@ -20,12 +20,13 @@ Each --like FILE is a table of a like position, whose first move is the attack t
 It is kept in FOLDER/like, and what it answers to a reply, its part, is tried there before all others; then what it answers to the point
 that stands to its stone as the reply does to the stone here, and at a reply beside its stone what it answers to the stone here. Where
 `renju check` refuses a part it tells a line of moves that leads to the fault: `renju quiet D NODES` is asked at the positions of that
-line, and a win takes the place of what the part has there, until the part is accepted, or a line has no position that is won so.
+line, and then with ten times as many NODES from the end of the line on. A win takes the place of what the part has there, until the part
+is accepted, or a line has no position that is won so. At each reply one part is tried, and then the others at those that are left.
 
-With --deeper L a reply that is left, where there are like tables after a second round, is taken apart in turn, in a folder of
-FOLDER/deeper, and of its own replies those that are left too, down to L levels: by the first moves of like tables' parts, and by the
-first moves of tables found at other replies, or where the reply makes a four by what blocks that, some of them before a search with more
-NODES. An attack is given up where many of the first replies to it are left, and the tables that begin with it are its like tables.
+With --deeper L a reply that is left is taken apart in turn, in a folder of FOLDER/deeper, and of its own replies those that are left
+too, down to L levels: by the first moves of like tables' parts, and by the first moves of tables found at other replies, or where the
+reply makes a four by what blocks that, some of them before a search with more NODES. An attack is given up where many of the first
+replies to it are left, and the tables that begin with it are its like tables.
 
 --lines prints a command line of the shell for each reply that is left, for GNU parallel. What such a line writes stands beside the
 position in FOLDER/replies, and when the script goes on its table is taken in, if `renju check` accepts it.
@@ -411,17 +412,20 @@ class Work:
         return reply in self.opening.found
 
     def mend(self, reply, nodes):
-        """Tries the parts of like tables at a reply, mended by searches. It says whether one is accepted there."""
-        opening, after = self.opening, self.opening.after.after(reply)
-        for what, place in opening.alike(reply):
-            if not opening.is_lost(reply, f"{what}-{nodes}"):
-                began = time.monotonic()
-                text = opening.mending.mended(after, place, self.check, self.found, nodes)
-                if text:
-                    opening.put("tables", reply, text)
-                opening.add(reply, f"{what}-{nodes}", DONE if text else REFUSED, time.monotonic() - began)
-                if text:
-                    return True
+        """Tries the first part of a like table at a reply, mended by searches, or once that is lost all others. It says whether one is
+        accepted there.
+        """
+        opening, after, limits = self.opening, self.opening.after.after(reply), (nodes, min(TIMES * nodes, self.given.most))
+        parts = [(f"{what}-{nodes}", place) for what, place in opening.alike(reply)]
+        left = [it for it in parts if not opening.is_lost(reply, it[0])]
+        for what, place in left[:1] if left == parts else left:
+            began = time.monotonic()
+            text = opening.mending.mended(after, place, self.check, self.found, limits)
+            if text:
+                opening.put("tables", reply, text)
+            opening.add(reply, what, DONE if text else REFUSED, time.monotonic() - began)
+            if text:
+                return True
         return False
 
     def check(self, text):
@@ -469,7 +473,9 @@ def asked_deeper(opening, given, levels, whole=True):
     wanted it ends with a reply that stays left. It answers with how many nodes they were asked at last.
     """
     work, nodes = Work(opening, given), min(given.nodes, given.most)
-    nodes = work.rounds(nodes, min(TIMES * nodes, given.most) if levels and opening.like else nodes)
+    work.round(nodes)
+    if opening.like:
+        work.round(nodes)
     for reply in opening.left() if levels else []:
         taken_apart(work, reply, opening.hints, levels)
         taken_apart(work, reply, lambda it: opening.attacks(it)[:QUICK], levels, NEARLY)
