@@ -172,10 +172,9 @@ class Replies:
 def page(openings):
     yield "# Openings\n"
     yield (
-        "After which replies to a first move, of those that a symmetry of the board exchanges one, the side that made it wins by a table "
-        "of `examples/openings/won`: by which answer, within how many moves, and what `renju check` said of the table, when, and in how "
-        "many seconds of the processor; and from the tables after which like replies `examples/openings.py` found it. Of an open reply "
-        "nothing is said. `docs/openings.py --write` writes this page.\n"
+        "Replies to a first move, of those that a symmetry exchanges one, after which a table of `examples/openings/won` wins: its answer, "
+        "its moves, what `renju check` said of it, when, in how many seconds of the processor, and from the tables after which like "
+        "replies `examples/openings.py` found it. Of an open reply nothing is said. `docs/openings.py --write` writes this page.\n"
     )
     for it in openings:
         yield from it.section()
