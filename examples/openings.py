@@ -303,6 +303,10 @@ def begun(folder, attack, position):
     replace(folder / "opening.txt", f"renju-opening 1\nattack {spelled(attack)}\n")
 
 
+class GivenUp(Exception):
+    """Ends what is asked at a reply below an attack that is given up."""
+
+
 class Effort:
     """How many nodes were searched in vain, and with how many of them the attack that is gone on with is given up."""
 
@@ -420,7 +424,10 @@ class Work:
         left = [it for it in parts if not opening.is_lost(reply, it[0])]
         for what, place in left[:1] if left == parts else left:
             began = time.monotonic()
-            text = opening.mending.mended(after, place, self.check, self.found, limits)
+            try:
+                text = opening.mending.mended(after, place, self.check, self.found, limits)
+            except GivenUp:
+                return False
             if text:
                 opening.put("tables", reply, text)
             opening.add(reply, what, DONE if text else REFUSED, time.monotonic() - began)
@@ -435,7 +442,7 @@ class Work:
     def found(self, text, nodes):
         """The text of a table that a search with so many nodes finds at a position, or None."""
         if self.given.effort.is_over():
-            return None
+            raise GivenUp
         told, status, _ = self.run(["quiet", self.depth, nodes], text)
         if status != DONE:
             self.given.effort.nodes += nodes
