@@ -19,6 +19,8 @@ EVEN = position("freestyle", 8, "0,0 7,0 0,7 7,7", "2,4 3,4 5,4")
 FOULING = position("renju", 11, "6,1 5,2 7,2 6,3 10,10", "0,0 2,9 3,9 4,9")
 WON = position("freestyle", 15, "4,7 5,7 6,7 7,7", CORNERS)
 FOUL = position("renju", 15, "7,6 6,7 8,7 7,8", CORNERS)
+# How many faults are mended in a table.
+FAULTS = 32
 # Programs that neither search nor check, don't search, search only with more than twelve stones of Black, tell the memory that they have,
 # and don't end.
 PROGRAMS = {
@@ -120,13 +122,13 @@ def liked(ask, held, by, table):
 def mended():
     """Faults of a table are mended by wins, for all that come to the same nodes, and else for the line of the fault alone."""
     from boards import Node, answered, numbers, read, spelled
-    from mending import MANY, Mending
+    from mending import Mending
 
     position, table = read(QUIET.encode()), read(asked(["quiet", "12", "100000"], QUIET).encode())
 
     def mend(nodes, check, search):
         mending = Mending()
-        text = mending.mended(position, mending.add(nodes), check, search, (100_000, 100_000))
+        text = mending.mended(position, mending.add(nodes), check, search, (100_000, 100_000), FAULTS)
         return text and read(text.encode())
 
     check = lambda text: answered(["check", 1_000_000], text)
@@ -153,7 +155,7 @@ def mended():
     # 8,7 is answered as what else isn't listed, by 4,1 with a move more.
     told = moves(["2,3 8,7", "2,3 8,8"], "8,7", "8,8", "8,6", "5,0")
     expect("mending.py: a shorter answer to the rest", told, [0, 1, 0, empties.index((3, 4))])
-    expect("mending.py: many faults", moves(MANY * ["2,3 5,0 3,4 3,3"]), None)
+    expect("mending.py: many faults", moves(FAULTS * ["2,3 5,0 3,4 3,3"]), None)
 
 
 def parts():

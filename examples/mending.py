@@ -11,8 +11,6 @@ from boards import Node, Position, Table, numbers, read
 DONE, REFUSED = 0, 4
 # The faults after which the game is over.
 ENDS = ("reply-wins", "reply-draws")
-# How many faults are mended in a table.
-MANY = 32
 
 
 @dataclass
@@ -58,12 +56,12 @@ class Mending:
             new = {place: number for number, place in enumerate(depths)}
             return Table(position, depths[root], [self.nodes[it].renumbered(new) for it in depths]), [*depths]
 
-    def mended(self, position, root, check, search, limits):
-        """The text of the table of a position whose root is a node, mended until it is accepted, or None. `check` answers what is told of
-        a text, and the status; `search` answers the text of a position with that of a table, or None, and is asked with so many nodes at
-        first, and in the end.
+    def mended(self, position, root, check, search, limits, faults):
+        """The text of the table of a position whose root is a node, mended until it is accepted, or None where it has more faults. `check`
+        answers what is told of a text, and the status; `search` answers the text of a position with that of a table, or None, and is asked
+        with so many nodes at first, and in the end.
         """
-        for _ in range(MANY):
+        for _ in range(faults):
             table, places = self.table(position, root)
             text = table.text()
             told, status = check(text)

@@ -72,6 +72,8 @@ QUICK, ATTACKS, DEEPER = 3, 8, 2
 NEARLY = 3
 # An attack is given up once more replies are left than these few and one of so many that were asked.
 FEW, ONE_OF = 2, 16
+# How many faults are mended in the first part of a like table at a reply, and in each other.
+FAULTS, OTHER_FAULTS = 256, 32
 # How many nodes may be searched in vain below an attack on a reply of the whole opening, before another is tried.
 PATIENCE = 3_000_000
 # How many like tables an attack has of the tables that begin with it.
@@ -425,7 +427,8 @@ class Work:
         for what, place in left[:1] if left == parts else left:
             began = time.monotonic()
             try:
-                text = opening.mending.mended(after, place, self.check, self.found, limits)
+                faults = FAULTS if what == parts[0][0] else OTHER_FAULTS
+                text = opening.mending.mended(after, place, self.check, self.found, limits, faults)
             except GivenUp:
                 return False
             if text:
