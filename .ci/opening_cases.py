@@ -122,7 +122,7 @@ def liked(ask, held, by, table):
 def mended():
     """Faults of a table are mended by wins, for all that come to the same nodes, and else for the line of the fault alone."""
     from boards import Node, answered, numbers, read, spelled
-    from mending import Mending
+    from mending import OFTEN, Mending
 
     position, table = read(QUIET.encode()), read(asked(["quiet", "12", "100000"], QUIET).encode())
 
@@ -141,11 +141,11 @@ def mended():
     # After 2,3 White's 5,0, 4,1 and 0,5 are answered by one node with 3,4, and that lists 3,3. What is found at the end of a line is a point.
     empties, head = position.empties(), QUIET.replace("position", "table", 1)
 
-    def moves(lines, *games):
+    def moves(lines, *games, found=lambda point: f"moves 1\nnodes 1\n{point} wins\n"):
         """With which moves a table answers the replies of some games, once lines were refused."""
         left, points, stones = iter(lines), iter(empties), len(QUIET.split()) + len(lines[0].split())
         check = lambda text: next(((f"refused no-answer {line}\n", 4) for line in left), ("", 0))
-        search = lambda text, nodes: f"{head}moves 1\nnodes 1\n{spelled(next(points))} wins\n" if len(text.split()) == stones else None
+        search = lambda text, nodes: head + found(spelled(next(points))) if len(text.split()) == stones else None
         found = mend(table.nodes, check, search)
         answer = lambda node, replies: answer(found.nodes[node.answer(replies[0])], replies[1:]) if replies else node.attack
         return found and [empties.index(answer(found.root(), [*map(numbers, game.split())])) for game in games]
@@ -155,6 +155,11 @@ def mended():
     # 8,7 is answered as what else isn't listed, by 4,1 with a move more.
     told = moves(["2,3 8,7", "2,3 8,8"], "8,7", "8,8", "8,6", "5,0")
     expect("mending.py: a shorter answer to the rest", told, [0, 1, 0, empties.index((3, 4))])
+    # A longer answer with one attack is that to the rest once it was wanted often.
+    long = lambda point: "moves 9\nnodes 9\n1,1 wins\n" + "".join(f"1,1 rest {it}\n" for it in range(8))
+    wanted = [f"2,3 {it},8" for it in range(OFTEN)]
+    told = [moves(wanted[:it], "8,7", found=long) for it in (OFTEN - 1, OFTEN)]
+    expect("mending.py: an answer that is wanted often", told, [[empties.index((4, 1))], [empties.index((1, 1))]])
     expect("mending.py: many faults", moves(FAULTS * ["2,3 5,0 3,4 3,3"]), None)
 
 

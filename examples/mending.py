@@ -11,6 +11,8 @@ from boards import Node, Position, Table, numbers, read
 DONE, REFUSED = 0, 4
 # The faults after which the game is over.
 ENDS = ("reply-wins", "reply-draws")
+# How often an attack is wanted against replies of the rest until it answers them all.
+OFTEN = 3
 
 
 @dataclass
@@ -27,6 +29,8 @@ class Mending:
 
     def __init__(self):
         self.nodes, self.lock = [], threading.Lock()
+        # How often a reply of the rest was given an answer that begins with an attack, by the number of the node and the attack.
+        self.rests = Counter()
         # The replies that were given another answer, each with its node; and of each win that was looked for with how many nodes it was,
         # and its nodes, or None.
         self.changed, self.wins = set(), {}
@@ -94,8 +98,9 @@ class Mending:
         return found and self.add(found)
 
     def replaced(self, steps, found):
-        """The root once a node answers the reply of the last step, or all of the rest where what answers that has no fewer moves. The node
-        before is changed for all that come to it, or where that was done already it is copied, and its copy takes its place in turn.
+        """The root once a node answers the reply of the last step, or all of the rest where what answers that has no fewer moves, or where
+        an answer with the same attack was wanted often. The node before is changed for all that come to it, or where that was done already
+        it is copied, and its copy takes its place in turn.
         """
         *before, last = steps
         if not before:
@@ -104,7 +109,10 @@ class Mending:
         node = self.nodes[place]
         others = [(it, name) for it, name in node.replies if it != reply]
         is_rest, moves = len(others) == len(node.replies) and node.rest is not None, self.depths(found)[found]
-        if is_rest and moves <= self.depths(node.rest)[node.rest] and (place, moves) not in self.changed:
+        attack = self.nodes[found].attack
+        self.rests[place, attack] += is_rest
+        is_shorter = is_rest and moves <= self.depths(node.rest)[node.rest] and (place, moves) not in self.changed
+        if is_shorter or is_rest and self.rests[place, attack] == OFTEN:
             self.changed.add((place, moves))
             self.nodes[place] = Node(node.attack, node.wins, found, node.replies)
             return before[0].place
