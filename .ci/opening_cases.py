@@ -122,13 +122,13 @@ def liked(ask, held, by, table):
 def mended():
     """Faults of a table are mended by wins, for all that come to the same nodes, and else for the line of the fault alone."""
     from boards import Node, answered, numbers, read, spelled
-    from mending import OFTEN, Mending
+    from mending import EACH, OFTEN, Mending, tries
 
     position, table = read(QUIET.encode()), read(asked(["quiet", "12", "100000"], QUIET).encode())
 
     def mend(nodes, check, search):
         mending = Mending()
-        text = mending.mended(position, mending.add(nodes), check, search, (100_000, 100_000), FAULTS)
+        text = mending.mended(position, mending.add(nodes), check, search, 3 * (100_000,), FAULTS)
         return text and read(text.encode())
 
     check = lambda text: answered(["check", 1_000_000], text)
@@ -161,6 +161,9 @@ def mended():
     told = [moves(wanted[:it], "8,7", found=long) for it in (OFTEN - 1, OFTEN)]
     expect("mending.py: an answer that is wanted often", told, [[empties.index((4, 1))], [empties.index((1, 1))]])
     expect("mending.py: many faults", moves(FAULTS * ["2,3 5,0 3,4 3,3"]), None)
+    limits, plain = (1, 2, 3), [(2, 1), (3, 1), (4, 1), (1, 1), (4, 2), (3, 2), (2, 2), (2, 3), (3, 3)]
+    told = [tries(4, limits, it) for it in (0, 1, EACH // 2, EACH, EACH + 1)]
+    expect("mending.py: dear searches", told, [plain, plain, [(2, 2), (3, 2), *plain], [(2, 3), (3, 3), *plain], plain])
 
 
 def parts():

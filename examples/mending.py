@@ -13,6 +13,8 @@ DONE, REFUSED = 0, 4
 ENDS = ("reply-wins", "reply-draws")
 # How often an attack is wanted against replies of the rest until it answers them all.
 OFTEN = 3
+# Of so many faults one is mended by the dearest searches, at so many positions of its line.
+EACH, EARLY = 16, 2
 
 
 @dataclass
@@ -62,27 +64,24 @@ class Mending:
 
     def mended(self, position, root, check, search, limits, faults):
         """The text of the table of a position whose root is a node, mended until it is accepted, or None where it has more faults. `check`
-        answers what is told of a text, and the status; `search` answers the text of a position with that of a table, or None, and is asked
-        with so many nodes at first, and in the end.
+        answers what is told of a text, and the status; `search` answers the text of a position with that of a table, or None. A search has
+        so many nodes at first, more, and at most.
         """
-        for _ in range(faults):
+        for fault in range(faults):
             table, places = self.table(position, root)
             text = table.text()
             told, status = check(text)
             if status == DONE:
                 return text
-            root = self.without_fault(line(told, table, places), search, *limits) if status == REFUSED else None
+            root = self.without_fault(line(told, table, places), search, limits, fault) if status == REFUSED else None
             if root is None:
                 break
         return None
 
-    def without_fault(self, steps, search, nodes, most):
-        """The root once the fault of a line is mended, or None: a win is looked for at its positions in their order, but at the first in
-        the end, where it is the dearest; and else from the last one on with more nodes.
-        """
-        inner = range(2, len(steps) + 1)
-        for count, limit in [*((it, nodes) for it in [*inner, 1]), *((it, most) for it in reversed(inner))]:
-            found = self.win(steps[count - 1].position.text(), search, limit)
+    def without_fault(self, steps, search, limits, fault):
+        """The root once a fault of so many before it is mended, or None: a win is looked for at the positions of its line."""
+        for count, nodes in tries(len(steps), limits, fault):
+            found = self.win(steps[count - 1].position.text(), search, nodes)
             if found is not None:
                 with self.lock:
                     return self.replaced(steps[:count], found)
@@ -123,6 +122,19 @@ class Mending:
             return before[0].place
         self.nodes.append(node)
         return self.replaced(before, len(self.nodes) - 1)
+
+
+def tries(length, limits, fault):
+    """At which positions of a line a win is looked for, and with how many nodes: in their order, but at the first in the end, where it is
+    the dearest; and else from the last one on with more, and at the first after a reply with most. Where faults are many these come before
+    all others now and then.
+    """
+    few, more, most = limits
+    inner = range(2, length + 1)
+    dear = {EACH // 2: more, 0: most}.get(fault % EACH) if fault else None
+    first = [(it, dear) for it in inner[:EARLY]] if dear else []
+    last = [(it, most) for it in inner[:EARLY]]
+    return [*first, *((it, few) for it in [*inner, 1]), *((it, more) for it in reversed(inner)), *last]
 
 
 def line(told, table, places):

@@ -20,8 +20,9 @@ Each --like FILE is a table of a like position, whose first move is the attack t
 It is kept in FOLDER/like, and what it answers to a reply, its part, is tried there before all others; then what it answers to the point
 that stands to its stone as the reply does to the stone here, and at a reply beside its stone what it answers to the stone here. Where
 `renju check` refuses a part it tells a line of moves that leads to the fault: `renju quiet D NODES` is asked at the positions of that
-line, and then with ten times as many NODES from the end of the line on. A win takes the place of what the part has there, until the part
-is accepted, or a line has no position that is won so. At each reply one part is tried, and then the others at those that are left.
+line, then with ten times as many NODES from the end of the line on, and with M at its beginning, which comes first where faults are
+many. A win takes the place of what the part has there, until the part is accepted, or a line has no position that is won so. At each
+reply one part is tried, and then the others at those that are left.
 
 With --deeper L a reply that is left is taken apart in turn, in a folder of FOLDER/deeper, and of its own replies those that are left
 too, down to L levels: by the first moves of like tables' parts, and by the first moves of tables found at other replies, or where the
@@ -74,6 +75,8 @@ NEARLY = 3
 FEW, ONE_OF = 2, 16
 # How many faults are mended in the first part of a like table at a reply, and in each other.
 FAULTS, OTHER_FAULTS = 256, 32
+# With how many arrivals a part that is mended is checked.
+MENDED_ARRIVALS = 3_000_000_000
 # How many nodes may be searched in vain below an attack on a reply of the whole opening, before another is tried.
 PATIENCE = 3_000_000
 # How many like tables an attack has of the tables that begin with it.
@@ -421,7 +424,8 @@ class Work:
         """Tries the first part of a like table at a reply, mended by searches, or once that is lost all others. It says whether one is
         accepted there.
         """
-        opening, after, limits = self.opening, self.opening.after.after(reply), (nodes, min(TIMES * nodes, self.given.most))
+        opening, after, most = self.opening, self.opening.after.after(reply), self.given.most
+        limits = nodes, min(TIMES * nodes, most), most
         parts = [(f"{what}-{nodes}", place) for what, place in opening.alike(reply)]
         left = [it for it in parts if not opening.is_lost(reply, it[0])]
         for what, place in left[:1] if left == parts else left:
@@ -440,7 +444,7 @@ class Work:
 
     def check(self, text):
         """What `check` says of a table's text, and the status."""
-        return self.run(["check", FEW_ARRIVALS], text)[:2]
+        return self.run(["check", MENDED_ARRIVALS], text)[:2]
 
     def found(self, text, nodes):
         """The text of a table that a search with so many nodes finds at a position, or None."""
