@@ -512,7 +512,7 @@ def taken_apart(work, reply, attacks, levels, most=MOST_FILES):
             asked_deeper(inner, given, levels - 1, False)
         return is_joined(opening, reply, inner)
 
-    if given.effort.is_over() or work.serve(reply):
+    if reply not in opening.left() or given.effort.is_over() or work.serve(reply):
         return reply not in opening.left()
     for attack in [it for it in attacks(reply) if (reply, it) not in opening.apart]:
         if given.effort.is_over():
