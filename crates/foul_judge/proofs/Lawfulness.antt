@@ -56,7 +56,7 @@ module _ (rule : RuleKind) (b : Grid) where
       let no : false ≡ true = sym (unwon.no_winning_run s d.0 p mine) ∙ d.1 in
       cc
 
-  none_from_unwon : IsUnwon rule b → find (is_on_winning_run rule b) (points_of b) ≡ None
+  pub none_from_unwon : IsUnwon rule b → find (is_on_winning_run rule b) (points_of b) ≡ None
   none_from_unwon unwon = none-unfound _ (points_of b) (none_of _ (points_of b) (λ p h. elim (or_cases (wins_through rule b Black p) _ h) [
     | inl black ↦ not_through unwon Black p black
     | inr white ↦ not_through unwon White p white

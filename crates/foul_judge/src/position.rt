@@ -13,7 +13,7 @@ ghost use Rattle.foul_judge.specs.Lawful.{refusal as refusal_lem, names_mover as
 use crate::Seen;
 use crate::outcome::{mover, outcome_at};
 use game_rules::{Outcome, RuleKind};
-use row_shapes::{FivePoints, Rule, five_at, under_rule};
+use row_shapes::{FivePoints, Rule, five_at, may_be_won, under_rule};
 use std::alloc::AllocError;
 use std::marker::{Model, PhantomData};
 use stone_board::{Axis, Board, Point, Side};
@@ -197,10 +197,14 @@ fn names_mover(black: u32, white: u32) -> bool
     black == white || white < black && black - white == 1
 }
 
-/// The least point on a winning run.
+/// The least point on a winning run. Most boards have no five stones in a row, and are not looked at point by point.
+#[tactic(auto, using(crate::proofs::Lawfulness::none_from_unwon))]
 fn first_won<R: Rule>(board: &Board) -> Option<Point>
     ensures first { result ≡ find (is_on_winning_run_lem R.KIND board.now) (points_of board.now) }
 {
+    if !may_be_won(board) {
+        return None;
+    }
     for p in board.points() {
         if is_on_winning_run::<R>(board, p) {
             return Some(p);

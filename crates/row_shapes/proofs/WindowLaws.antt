@@ -7,7 +7,7 @@ use Rattle.std.specs.List.{list_any}
 use Rattle.std.proofs.lemmas.Bool.{cases_eq, cases_lt, false_from_ne_true, both_ways}
 use Rattle.std.proofs.lemmas.Nat.Bits.{bit_at_and, bit_at_or, bit_at_not, bit_at-lt, bit_at-zero, bit_at-pow_same, shr_and_one}
 use Rattle.std.proofs.lemmas.Nat.{and_mask}
-use Rattle.game_rules.proofs.Common.{Grid, IsBoard, is_on, is_empty, points_of, row_wins, stones_ahead, stones_behind, wins_on, five, other}
+use Rattle.game_rules.proofs.Common.{Grid, IsBoard, is_on, is_empty, holds, run_of, points_of, row_wins, stones_ahead, stones_behind, wins_on, five, other}
 use Rattle.game_rules.proofs.Common.{has_five, put, towards, run_end, along, wins_at, fours_of, place_stone, place_wins}
 use Rattle.game_rules.specs.declared.RuleKind.{RuleKind}
 use Rattle.game_rules.specs.declared.Side.{Side}
@@ -22,7 +22,7 @@ use Rattle.std.proofs.lemmas.Bool.Decides.{nat_tests}
 use Rattle.game_rules.proofs.Wins.{wins_on-stones, row_wins-five}
 use Rattle.stone_board.specs.Lines.{line_of, place_on, TellsLine}
 use Rattle.stone_board.proofs.LineBits.{IsNear, board-near}
-use Rattle.stone_board.proofs.LineStones.{along-places, TellsLine-put, place_low, empty_bit, ahead_bit, behind_low, behind_bit}
+use Rattle.stone_board.proofs.LineStones.{along-places, TellsLine-put, place_low, stone_bit, empty_bit, ahead_bit, behind_low, behind_bit}
 use Rattle.stone_board.proofs.Ones.{bit_shr}
 use Rattle.row_shapes.proofs.Common.{HasRow, IsWindow, IsPassed, AreWindowLines, kept_five, end_five}
 use Rattle.row_shapes.specs.declared.windows.WindowLines.{WindowLines}
@@ -119,10 +119,7 @@ module _ (own free : ℕ) where
 -- ---- the window that a winning stone fills
 
 module _ (b : Grid) (s : Side) (d : Axis) (n own : ℕ) (ok : IsBoard b) (mine : TellsLine b s d n own) (q : Point)
-    (empty : is_empty b q ≡ true) (line : line_of d q ≡ n) where
-  on : is_on b q ≡ true
-  on = is_empty-on b q empty
-
+    (on : is_on b q ≡ true) (line : line_of d q ≡ n) where
   abbrev place : ℕ
   place = place_on d q
 
@@ -155,22 +152,22 @@ module _ (b : Grid) (s : Side) (d : Axis) (n own : ℕ) (ok : IsBoard b) (mine :
   ]
 
   -- with a stone on the point they are five in a row
-  row_of : 4 ≤ fore + back → HasRow (bit_or own (2 ^ place))
-  row_of enough =
+  row_of : (bits : ℕ) → ((i : ℕ) → bit_at own i ≡ 1 → bit_at bits i ≡ 1) → bit_at bits place ≡ 1 → 4 ≤ fore + back → HasRow bits
+  row_of bits kept there enough =
       let some = some_behind enough in
       let here = place_here some.0 some.1 in
       record {
         first = place - some.0;
         set = λ k low. elim (cases_eq k some.0) [
-          | inl same ↦ ap (bit_at (bit_or own (2 ^ place))) (ap (λ m. place - some.0 + m) same ∙ here)
-              ∙ right own (2 ^ place) place (bit_at-pow_same place)
-          | inr differ ↦ left own (2 ^ place) (place - some.0 + k) (row_stone some.0 some.1 some.2 k low differ)
+          | inl same ↦ ap (bit_at bits) (ap (λ m. place - some.0 + m) same ∙ here) ∙ there
+          | inr differ ↦ kept (place - some.0 + k) (row_stone some.0 some.1 some.2 k low differ)
         ];
       }
 
   -- and without it a window
-  window_of : (theirs : ℕ) → bit_at theirs place ≡ 0 → 4 ≤ fore + back → (i : ℕ) × (j : ℕ) × IsWindow own theirs i j
-  window_of theirs clear enough =
+  window_of : is_empty b q ≡ true → (theirs : ℕ) → bit_at theirs place ≡ 0 → 4 ≤ fore + back
+      → (i : ℕ) × (j : ℕ) × IsWindow own theirs i j
+  window_of empty theirs clear enough =
       let some = some_behind enough in
       let fits = place_low d q (board-near b q ok on) in
       let here = place_here some.0 some.1 in (
@@ -198,7 +195,17 @@ four_more rule b s d q ok h =
 pub no_row : (rule : RuleKind) (b : Grid) (s : Side) (d : Axis) (q : Point) (own : ℕ) → IsBoard b → TellsLine b s d (line_of d q) own
     → (HasRow (bit_or own (2 ^ place_on d q)) → ⊥) → wins_on rule b s d q ≡ false
 no_row rule b s d q own ok mine none = false_from_ne_true _ (λ h.
-    none (row_of b s d (line_of d q) own ok mine q (and_left (is_empty b q) _ h) refl (four_more rule b s d q ok h)))
+    none (row_of b s d (line_of d q) own ok mine q (is_empty-on b q (and_left (is_empty b q) _ h)) refl _
+    (left own (2 ^ place_on d q)) (right own (2 ^ place_on d q) (place_on d q) (bit_at-pow_same (place_on d q))) (four_more rule b s d q ok h)))
+
+-- a stone whose line has no five in a row has no run that wins
+pub no_run : (rule : RuleKind) (b : Grid) (s : Side) (d : Axis) (q : Point) (own : ℕ) → IsBoard b → TellsLine b s d (line_of d q) own
+    → (HasRow own → ⊥) → holds b s q ≡ true → row_wins rule s (run_of b s d q) ≡ false
+no_run rule b s d q own ok mine none stone = false_from_ne_true _ (λ h.
+    let five = row_wins-five rule s _ h in
+    let run : run_of b s d q ≡ 1 + stones_ahead b s d q + stones_behind b s d q = rw stone refl in
+    none (row_of b s d (line_of d q) own ok mine q (and_left (is_on b q) _ stone) refl own (λ i set. set)
+    (stone_bit b s d (line_of d q) own ok mine q refl stone) (omega (arith, five, run))))
 
 -- the empty points of the line are clear in the bits
 abbrev pub AreClear : Grid → Axis → ℕ → ℕ → Type 0
@@ -217,7 +224,8 @@ module _ (b : Grid) (s : Side) (d : Axis) (n own theirs : ℕ) (ok : IsBoard b) 
       → line_of d q ≡ n → wins_on rule b s d q ≡ false
   no_window w told none rule q line = false_from_ne_true _ (λ h.
       let empty : is_empty b q ≡ true = and_left (is_empty b q) _ h in
-      let window = window_of b s d n own ok mine q empty line theirs (rival q empty line) (four_more rule b s d q ok h) in
+      let window = window_of b s d n own ok mine q (is_empty-on b q empty) line empty theirs (rival q empty line)
+      (four_more rule b s d q ok h) in
       let bit : 0 ≡ 1 = sym (bit_at-zero window.0) ∙ ap (λ m. bit_at m window.0) (sym none) ∙ told window.0 window.1 window.2 in
       absurd (omega (arith, bit)))
 

@@ -82,7 +82,7 @@ pub(crate) fn may_win(board: &Board, side: Side, axis: Axis, p: Point) -> bool
 
 /// Whether five places in a row are set.
 #[inline(always)]
-fn has_row(bits: u32) -> bool
+pub(crate) fn has_row(bits: u32) -> bool
     ensures row { IsTrue result ↔ HasRow bits }
 {
     let two = bits & (bits >> 1);
