@@ -1,7 +1,7 @@
 //! Boards on which threats were played, or a stone was taken off.
 //!
-//! The defender answers each threat with all of its costs at once. Each board is a copy: the sequences are short, and the boards
-//! before stay at hand to ask which gains are needed.
+//! The defender answers each threat with all of its costs at once. The walk plays each threat on a copy, so the boards before stay at
+//! hand; whether a list needs its gains is asked on one copy, on which its threats are played in turn.
 #![tactic(auto)]
 
 ghost use Rattle.std.specs.Prelude.{◌≡◌, IfOk};
@@ -13,16 +13,22 @@ use std::alloc::AllocError;
 use stone_board::{Board, Point, Side};
 use threat_moves::Threat;
 
-/// A copy of the board on which the threat of the side is played: with a stone of the side on its gain, and stones of the
-/// other side on all its costs. `Err` says that memory ran out.
-#[tactic(auto, unfolding(crate::specs::Sequences::played))]
+/// A copy of the board on which the threat of the side is played. `Err` says that memory ran out.
 pub(crate) fn played(board: &Board, side: Side, threat: &Threat) -> Result<Board, AllocError>
     ensures played { IfOk result (λ b. b ≡ played_lem board.now side threat.now) }
 {
     let mut next = board.copy()?;
-    next.put_if_empty(threat.gain, side);
-    put_all(&mut next, side.other(), threat.costs.as_slice());
+    play(&mut next, side, threat);
     Ok(next)
+}
+
+/// Plays the threat of the side: a stone of the side on its gain, and stones of the other side on all its costs.
+#[tactic(auto, unfolding(crate::specs::Sequences::played))]
+pub(crate) fn play(board: &mut Board, side: Side, threat: &Threat)
+    ensures played { board.new ≡ played_lem board.old side threat.now }
+{
+    board.put_if_empty(threat.gain, side);
+    put_all(board, side.other(), threat.costs.as_slice());
 }
 
 /// Puts stones of the side on all of the points that are empty.

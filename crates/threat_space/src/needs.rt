@@ -10,7 +10,7 @@ ghost use Rattle.threat_space.specs.Sequences.{played_all, is_final_point as is_
 ghost use Rattle.threat_space.specs.Lines.{HasPairsAfter};
 ghost use Rattle.threat_space.specs.Barren.{HasLastGain, IsNearAfter, CannotEnd, HasNoFinal};
 
-use crate::boards::{played, without};
+use crate::boards::{play, without};
 use crate::pairs::{has_point, pair_points};
 use row_shapes::{Rule, is_five_point};
 use std::alloc::AllocError;
@@ -150,9 +150,21 @@ fn all_needed<R: Rule>(
     ensures needed { IfOk result (λ needed. needed ≡ all_needed_lem R.KIND side last board.now threats.now) }
 {
     let mut here = board.copy()?;
+    gains_needed::<R>(&mut here, side, threats, last)
+}
+
+/// The same on a board on which the threats are played.
+fn gains_needed<R: Rule>(
+    here: &mut Board,
+    side: Side,
+    threats: &[Threat],
+    last: Point,
+) -> Result<bool, AllocError>
+    ensures needed { IfOk result (λ needed. needed ≡ all_needed_lem R.KIND side last here.old threats.now) }
+{
     for (i, threat) in threats.iter().enumerate() {
-        here = played(&here, side, threat)?;
-        if !is_needed::<R>(&here, side, threat.gain, &threats[i + 1..], last)? {
+        play(here, side, threat);
+        if !is_needed::<R>(here, side, threat.gain, &threats[i + 1..], last)? {
             return Ok(false);
         }
     }
@@ -170,13 +182,26 @@ fn is_needed<R: Rule>(
     ensures needed { IfOk result (λ needed. needed ≡ is_needed_lem R.KIND side last board.now gain threats.now) }
 {
     let mut here = board.copy()?;
+    some_depends::<R>(&mut here, side, gain, threats, last)
+}
+
+/// The same on a board on which the threats are played.
+fn some_depends<R: Rule>(
+    here: &mut Board,
+    side: Side,
+    gain: Point,
+    threats: &[Threat],
+    last: Point,
+) -> Result<bool, AllocError>
+    ensures needed { IfOk result (λ needed. needed ≡ is_needed_lem R.KIND side last here.old gain threats.now) }
+{
     for threat in threats {
-        if threat_depends::<R>(&here, side, gain, threat)? {
+        if threat_depends::<R>(here, side, gain, threat)? {
             return Ok(true);
         }
-        here = played(&here, side, threat)?;
+        play(here, side, threat);
     }
-    final_depends::<R>(&here, side, gain, last)
+    final_depends::<R>(here, side, gain, last)
 }
 
 /// Whether the threat is none without the stone on the gain.
