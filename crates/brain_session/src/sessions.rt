@@ -4,15 +4,16 @@
 
 ghost use Rattle.brain_session.specs.Memory.{takes_none};
 ghost use Rattle.renju_io.specs.LineReads.{ReadsNoFurther};
-ghost use Rattle.renju_io.specs.Lines.{KeepsLine, KnowsEnd, TakesTooMany, reads_for};
+ghost use Rattle.renju_io.specs.Lines.{KeepsLine, KnowsEnd, TakesTooMany, reads_for, told_lines};
 ghost use Rattle.renju_io.specs.declared.TheConstants.{MAX_SESSION_BYTES};
 ghost use Rattle.std.specs.Io.KnownBytes.{IsAtEnd};
 ghost use Rattle.std.specs.Option.{option_to_list};
 ghost use Rattle.std.specs.Prelude.{◌≡◌, ◌≢◌, ◌+◌, ◌<◌, ◌≤◌, ◌⊎◌, IfErr, IfSome, IsErrOf, IsSome, OnOk, [], false, true, length, Ok, Err, None, IfOk};
+ghost use Rattle.std.specs.Prelude.{◌↔◌, map};
 ghost use Rattle.renju_io.specs.Asked.{GivesByEach, IsAskedAtMost, IsAskedWithin, IsNotAsked};
 ghost use Rattle.renju_io.specs.Faults.{HasRisen, HasStayed, HasNotFallen};
 ghost use Rattle.renju_io.specs.Told.{CutAfter, FailsAfter, GivesSome};
-ghost use Rattle.gomocup_text.specs.Commands.{commands};
+ghost use Rattle.gomocup_text.specs.Commands.{command_told, commands};
 ghost use Rattle.brain_session.specs.Serving.{HasAnswered, IsReadToEnd, StopsAtRead, StopsAtStep, StopsAtWrite, StopsInTurn, IsTooLong, within_limit, IsAnswered, IsHalfAnswered, TakesCommands, output_of, served};
 
 use crate::{Brain, Reaction};
@@ -119,11 +120,32 @@ fn next_command<S: Source>(
     ensures few_failed { IsErrOf result ServeError.ReadFailed → IsAskedWithin (reads_for lines.old) (lines.new.taken + 1) (S.asked source.old) (S.asked source.new) }
 {
     match lines.next(source) {
-        Ok(Line::Text) => Ok(Some(read_command(lines.text()))),
-        Ok(Line::TooLong) => Ok(Some(Command::Malformed)),
-        Ok(Line::End) => Ok(None),
-        Err(ReadError::Failed) => Err(ServeError::ReadFailed),
-        Err(ReadError::Exhausted) => Err(ServeError::Exhausted),
+        Ok(line) => Ok(command_of_line(line, lines.text())),
+        Err(error) => Err(unread(error)),
+    }
+}
+
+/// The command of the line that was told, whose bytes these are, or none at the end of input.
+fn command_of_line(line: Line, text: &[u8]) -> Option<Command>
+    ensures told { option_to_list result ≡ map command_told (told_lines (Ok line) text.now) }
+    ensures end { result ≡ None ↔ line ≡ Line.End }
+{
+    match line {
+        Line::Text => Some(read_command(text)),
+        Line::TooLong => Some(Command::Malformed),
+        Line::End => None,
+    }
+}
+
+/// Why a session ends where no line was read.
+fn unread(error: ReadError) -> ServeError
+    ensures failed { result ≡ ServeError.ReadFailed ↔ error ≡ ReadError.Failed }
+    ensures exhausted { result ≡ ServeError.Exhausted ↔ error ≡ ReadError.Exhausted }
+    ensures no_other { (result ≡ ServeError.ReadFailed) ⊎ (result ≡ ServeError.Exhausted) }
+{
+    match error {
+        ReadError::Failed => ServeError::ReadFailed,
+        ReadError::Exhausted => ServeError::Exhausted,
     }
 }
 
