@@ -39,14 +39,6 @@ waits-next stones i start board next side d fit waits less put_here = rw put_her
       is_empty-put board side here there on (is_same_point-apart here there apart) ∙ waits.empty k e (omega arith) more;
 })
 
--- the side of a stone, by whether it is the brain's own
-pub side-own : (brain side : Side) (own : Bool) → own ≡ true → side ≡ brain → side ≡ cond own brain (other brain)
-side-own brain side own holds e = rw holds e
-
-pub side-other : (brain side opponent : Side) (own : Bool) → own ≡ false → side ≡ opponent → opponent ≡ other brain
-    → side ≡ cond own brain (other brain)
-side-other brain side opponent own fails e f = rw fails (e ∙ f)
-
 pub put-more : (brain side : Side) (start board next : Grid) (stones : List BatchStone) (i : ℕ) (d : BatchStone) → i < length stones
     → side ≡ side_of brain (get_or stones i d) → next ≡ put board side (get_or stones i d).at
     → board ≡ with_batch_stones brain start (take i stones) → next ≡ with_batch_stones brain start (take (i + 1) stones)

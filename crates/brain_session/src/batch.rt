@@ -8,7 +8,8 @@ ghost use Rattle.std.specs.Prelude.{◌≡◌, ◌≤◌, ◌<◌, [], Some, Non
 ghost use Rattle.std.specs.Option.{option_map};
 ghost use Rattle.game_rules.specs.declared.TheConstants.{MIN_SIDE, MAX_SIDE};
 ghost use Rattle.brain_session.specs.Running.{StonesFit};
-ghost use Rattle.brain_session.specs.Batches.{colour_in as colour_in_lem, has_stone_at as has_stone_at_lem, new_batch, spoiled, with_stone_at, with_batch_stones};
+ghost use Rattle.brain_session.specs.Batches.{colour_in as colour_in_lem, new_batch, spoiled, with_stone_at};
+ghost use Rattle.brain_session.specs.Batches.{has_stone_at as has_stone_at_lem, side_of as side_of_lem, with_batch_stones};
 ghost use Rattle.brain_session.specs.States.{empty_board};
 
 use crate::MAX_POINTS;
@@ -146,11 +147,17 @@ impl BatchReader {
     {
         let mut board = Board::empty(alloc, width, height)?;
         for stone in self.stones() {
-            let side = if stone.own { brain } else { brain.other() };
-            board.put(stone.at, side);
+            board.put(stone.at, side_of(brain, stone));
         }
         Ok(board)
     }
+}
+
+/// The side of the stone, where this side is the brain's.
+fn side_of(brain: Side, stone: &BatchStone) -> Side
+    ensures side { result ≡ side_of_lem brain stone.now }
+{
+    if stone.own { brain } else { brain.other() }
 }
 
 /// Whether one of the stones is on the point.
