@@ -50,35 +50,28 @@ impl Told for Image {
 
     fn say(&self, alloc: Global, bytes: &[u8]) -> Result<Answer, AllocError> {
         match read_table(alloc, bytes) {
-            Ok(file) => image_of(alloc, self.symmetry, file),
+            Ok(file) => image_of(alloc, self.symmetry, &file),
             Err(error) => refused_text(alloc, error),
         }
     }
 }
 
 /// What is said of a text that was read.
-fn image_of(alloc: Global, s: Symmetry, file: TableFile) -> Result<Answer, AllocError>
-    requires text { (bytes : List ℕ) × IsTextOfTable file bytes }
-    requires lawful { IsPosition file.kind file.board }
-    requires moves { file.moves ≡ root_depth file.table file.root }
-    ensures says { IfOk result (λ answer. ImagedFileSays s file answer.status answer.text) }
-    ensures no_memory { fits s file.board.width file.board.height ≡ false → IsOk result }
+fn image_of(alloc: Global, s: Symmetry, file: &TableFile) -> Result<Answer, AllocError>
+    requires text { (bytes : List ℕ) × IsTextOfTable file.now bytes }
+    requires lawful { IsPosition file.now.kind file.now.board }
+    requires moves { file.now.moves ≡ root_depth file.now.table file.now.root }
+    ensures says { IfOk result (λ answer. ImagedFileSays s file.now answer.status answer.text) }
+    ensures no_memory { fits s file.now.board.width file.now.board.height ≡ false → IsOk result }
 {
-    let TableFile {
-        kind,
-        board,
-        table,
-        root,
-        moves,
-    } = file;
-    let (width, height) = (board.width(), board.height());
+    let (width, height) = (file.board.width(), file.board.height());
     if !s.fits(width, height) {
         return Ok(unfit());
     }
-    let image = image_board(alloc, s, &board)?;
-    let nodes = image_table(alloc, s, width, height, &table)?;
-    let root = image_root(alloc, s, width, height, &root)?;
-    let bytes = write_table(alloc, kind, &image, &nodes, &root, moves)?;
+    let image = image_board(alloc, s, &file.board)?;
+    let nodes = image_table(alloc, s, width, height, &file.table)?;
+    let root = image_root(alloc, s, width, height, &file.root)?;
+    let bytes = write_table(alloc, file.kind, &image, &nodes, &root, file.moves)?;
     Ok(Answer::written(Status::Done, bytes))
 }
 
