@@ -5,7 +5,7 @@
 //! names a point off the board counts as none.
 #![tactic(auto)]
 
-ghost use Rattle.std.specs.Prelude.{◌≡◌, ◌<◌, length, IfOk, IfSome, IsTrue};
+ghost use Rattle.std.specs.Prelude.{◌≡◌, ◌<◌, ◌⊎◌, length, None, Ok, IfOk, IfSome, IsTrue};
 ghost use Rattle.strategy_graph.specs.Tables.{RepliesOn, TableOnBoard};
 ghost use Rattle.command_base.specs.Positions.{file_at};
 ghost use Rattle.position_commands.specs.Fours.{AreLimits};
@@ -47,34 +47,44 @@ impl AtPosition for Quiet {
     ghost says = { λ c. QuietSays c.depth c.nodes };
 
     fn say_at<R: Rule>(&self, alloc: Global, position: Position<R>) -> Result<Answer, AllocError> {
-        let solve = Solve {
-            depth: self.depth,
-            nodes: self.nodes,
-        };
-        let solution = solve.say_at(alloc, position.copy()?)?;
-        match solution.status {
-            Status::Done | Status::Full => Ok(solution),
-            _ => by_quiet_moves(alloc, position, self.depth, self.nodes),
-        }
+        let mut view = position;
+        said_of(alloc, &mut view, self.depth, self.nodes)
+    }
+}
+
+/// What is said of a position: what `solve` says, and where that is no win, what the search for quiet moves comes to.
+fn said_of<R: Rule>(
+    alloc: Global,
+    view: &mut Position<R>,
+    depth: u32,
+    nodes: u64,
+) -> Result<Answer, AllocError>
+    requires limits { AreLimits depth nodes }
+    ensures says { IfOk result (λ answer. QuietSays depth nodes (file_at R.KIND view.old) answer.status answer.text) }
+{
+    let solve = Solve { depth, nodes };
+    let solution = solve.say_at(alloc, view.copy()?)?;
+    match solution.status {
+        Status::Done | Status::Full => Ok(solution),
+        _ => by_quiet_moves(alloc, view, depth, nodes),
     }
 }
 
 /// What is said of a position at which `solve` has no win.
 fn by_quiet_moves<R: Rule>(
     alloc: Global,
-    position: Position<R>,
+    view: &mut Position<R>,
     depth: u32,
     nodes: u64,
 ) -> Result<Answer, AllocError>
     requires limits { AreLimits depth nodes }
-    requires unsolved { IsUnsolved depth nodes (file_at R.KIND position) }
-    ensures says { IfOk result (λ answer. QuietSays depth nodes (file_at R.KIND position) answer.status answer.text) }
+    requires unsolved { IsUnsolved depth nodes (file_at R.KIND view.old) }
+    ensures says { IfOk result (λ answer. QuietSays depth nodes (file_at R.KIND view.old) answer.status answer.text) }
 {
-    let mut view = position;
-    let Some(table) = found_table::<R>(alloc, &view, depth, nodes)? else {
+    let Some(table) = found_table::<R>(alloc, view, depth, nodes)? else {
         return Ok(spent());
     };
-    match checked_moves::<R>(alloc, &mut view, &table, depth)? {
+    match checked_moves::<R>(alloc, view, &table, depth)? {
         Some(moves) => table_text::<R>(alloc, view.board(), &table, moves),
         None => Ok(spent()),
     }
@@ -92,11 +102,34 @@ fn found_table<R: Rule>(
     ensures finished { IfOk result (λ found. IfSome found IsFinished) }
 {
     let mut compiler = Compiler::new(alloc);
+    match found_node::<R>(alloc, position, depth, nodes, &mut compiler)? {
+        Some(node) => Ok(Some(compiler.finish(node)?)),
+        None => Ok(None),
+    }
+}
+
+/// The node of the compiler that the search finds, if it finds one and the compiler has room.
+fn found_node<R: Rule>(
+    alloc: Global,
+    position: &Position<R>,
+    depth: u32,
+    nodes: u64,
+    compiler: &mut Compiler,
+) -> Result<Option<u32>, AllocError>
+    requires limits { AreLimits depth nodes }
+    ensures node { IfOk result (λ found. IfSome found (λ node. node < length compiler.new)) }
+{
     let mut tree = ProofTree::new(alloc)?;
     let most = nodes.min(u64::from(MAX_LISTED)) as u32;
-    match quiet_search::<R>(alloc, position, depth, most, &mut tree, &mut compiler) {
-        Ok(Some(node)) => Ok(Some(compiler.finish(node)?)),
-        Ok(None) => Ok(None),
+    unless_full(quiet_search::<R>(alloc, position, depth, most, &mut tree, compiler))
+}
+
+/// What a search found, which is nothing where the compiler has no room.
+fn unless_full(found: Result<Option<u32>, SearchError>) -> Result<Option<u32>, AllocError>
+    ensures found { IfOk result (λ node. found ≡ Ok node ⊎ node ≡ None) }
+{
+    match found {
+        Ok(node) => Ok(node),
         Err(SearchError::Full) => Ok(None),
         Err(SearchError::Memory) => Err(AllocError),
     }

@@ -12,7 +12,7 @@ pub table_text-requires-clause-some_moves : goal.table_text-requires-clause-some
 table_text-requires-clause-some_moves g c =
     let t = c.in-Some.table in
     let checked = rw c.in-Some-2.is at c.in_ok-moves.ensures.checked in
-    let some = accepted-deep g.R.Rule.KIND t (last t) c.args.position checked.accepted in
+    let some = accepted-deep g.R.Rule.KIND t (last t) c.args.view.now checked.accepted in
     let deep = checked.deep in
     omega (arith, some, deep)
 
@@ -22,7 +22,7 @@ returns-in-Some-2 g c =
     let t = c.in-Some.table in
     let moves = c.in-Some-2.moves in
     record {
-      says = checked-says c.table_text.result c.args.depth c.args.nodes rule c.args.position t moves c.requires.unsolved
+      says = checked-says c.table_text.result c.args.depth c.args.nodes rule c.args.view.now t moves c.requires.unsolved
           (rw c.in-Some.is at c.in_ok-table.ensures.finished) (rw c.in-Some-2.is at c.in_ok-moves.ensures.checked)
           c.table_text.ensures.status
           (subst (λ (w : Grid). IfOk c.table_text.result (λ a. IsTextOfTable (table_at (file_at rule w) moves t) a.text))
