@@ -1,5 +1,6 @@
-use Rattle.std.proofs.Common.{sym, ap, ◌∙◌}
+use Rattle.std.proofs.Common.{◌≡◌, ℕ, arith, sym, ap, subst, ◌∙◌}
 use Rattle.game_rules.specs.Grid.{Grid}
+use Rattle.strength_drill.specs.Draws.{number_after, board_drawn}
 use Rattle.strength_drill.proofs.DrillMaking.{board-none, number-none, board-more, number-more, board-wide, board-high}
 use Rattle.strength_drill.proofs.positions.drawn_position.Goals as goal
 
@@ -26,3 +27,13 @@ returns-clause-wide g c = ap (λ (b : Grid). b.width) c.loop.invariant.position
 pub returns-clause-high : goal.returns-clause-high
 returns-clause-high g c = ap (λ (b : Grid). b.height) c.loop.invariant.position
     ∙ board-high g.R.Rule.KIND c.args.draws.now.number c.loop.counter
+
+pub returns-clause-position : goal.returns-clause-position
+returns-clause-position g c =
+    let all : c.loop.counter ≡ 120 = omega arith in
+    subst (λ (n : ℕ). c.loop.position ≡ board_drawn g.R.Rule.KIND c.args.draws.now.number n) all c.loop.invariant.position
+
+pub returns-clause-draws : goal.returns-clause-draws
+returns-clause-draws g c =
+    let all : c.loop.counter ≡ 120 = omega arith in
+    subst (λ (n : ℕ). c.loop.draws.number ≡ number_after c.args.draws.now.number n) all c.loop.invariant.number
