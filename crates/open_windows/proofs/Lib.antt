@@ -13,7 +13,7 @@ pub mod SetOrder
 mod WindowBits
 pub mod Points
 -- a run with two empty points
-mod OpenRuns
+pub mod OpenRuns
 -- a stone that makes a five point lies in a window with three stones, and one that makes a three in one with two
 pub mod NewFives
 pub mod NewThrees

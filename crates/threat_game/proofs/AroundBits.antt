@@ -1,11 +1,11 @@
 -- How many stones stand around a point, by the bits of its line: each of them sets one of the nine bits around the point's place.
-use Rattle.std.proofs.Common.{◌≡◌, ℕ, zero, suc, ◌+◌, ◌-◌, ◌*◌, ◌/◌, ◌%◌, ◌^◌, ◌≤◌, Bool, true}
+use Rattle.std.proofs.Common.{◌≡◌, ℕ, zero, suc, ◌+◌, ◌-◌, ◌*◌, ◌/◌, ◌%◌, ◌^◌, ◌≤◌, ◌<◌, Bool, true}
 use Rattle.std.proofs.Common.{cond, length, refl, sym, ap, subst, ◌∙◌, arith, Option, Some, None, bit_and, count_ones, filter, rules}
 use Rattle.std.specs.Int.{bit_at}
 use Rattle.std.specs.List.{range_with_len}
 use Rattle.std.proofs.Math.Nat.{div-div-eq-div-mul}
 use Rattle.std.proofs.lemmas.Nat.{pow-add, pow_pos}
-use Rattle.std.proofs.lemmas.Nat.Bits.{bit_at_and, bit_at_cat_high, bit_at-lt}
+use Rattle.std.proofs.lemmas.Nat.Bits.{bit_at_and, bit_at_cat_high, bit_at_ones, bit_at-lt, bit_at-zero}
 use Rattle.std.proofs.lemmas.List.Sums.{length-filter}
 use lib.Count.{ones_step}
 use Rattle.game_rules.proofs.Common.{Grid, IsBoard, is_on, along, stone_at, towards}
@@ -65,6 +65,17 @@ module _ (bits place : ℕ) where
       let k0 = kept 0 refl in let k1 = kept 1 refl in let k2 = kept 2 refl in let k3 = kept 3 refl in
       let k5 = kept 5 refl in let k6 = kept 6 refl in let k7 = kept 7 refl in let k8 = kept 8 refl in
       omega (arith, all, k0, k1, k2, k3, k5, k6, k7, k8)
+
+  -- where the first five of them are clear, so are the place and the four before it
+  pub none_before : bit_and nine 31 ≡ 0 → (i back : ℕ) → back < 5 → i + back ≡ place → bit_at bits i ≡ 0
+  none_before none i back near at =
+      let j : ℕ = 4 - back in
+      let here : j + place - 4 ≡ i = omega (arith, near, at) in
+      let whole : bit_at (bit_and nine 31) j ≡ 0 = ap (λ m. bit_at m j) none ∙ bit_at-zero j in
+      let both = bit_at_and nine 31 j in
+      let one : bit_at 31 j ≡ 1 = bit_at_ones 5 j (omega arith) in
+      let zero : bit_at nine j ≡ 0 = omega (arith, whole, both, one) in
+      ap (bit_at bits) (sym here) ∙ sym (nine_bit j (omega (arith, near, at))) ∙ zero
 
 -- ---- the stones around a point
 

@@ -18,8 +18,9 @@ mod StandingLaws
 mod TwoMoves
 -- moves where each goes on; where an escape meets each of them there is no win
 mod FreeMoves
--- where new double points can be, and the stones around a point as bits
+-- where new double points can be; open windows with three stones, and the stones around a point, as bits
 mod NearDoubles
+mod OpenThrees
 mod AroundBits
 -- stones outside open windows
 mod WindowLaws

@@ -6,3 +6,4 @@ pub mod QuietPoints
 pub mod Replies
 pub mod Wins
 pub mod TwoMoves
+pub mod OpenThrees

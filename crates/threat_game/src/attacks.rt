@@ -84,14 +84,15 @@ pub fn find_attacks<R: Rule, V: Seen<R>>(
 {
     let attacker = view.side();
     let threat = view.fives_in_short(attacker.other());
-    let twos = all_twos::<R, V>(alloc, view)?;
+    let windows = window_points(view.board(), attacker, 3);
+    let twos = all_twos::<R, V>(alloc, view, &windows)?;
     if let FivePoints::None = threat {
         match find_double::<R, V>(alloc, view, board, twos.as_slice())? {
             Some(double) => Ok(Attacks::DoublePoint(double)),
-            None => find_moves::<R, V>(alloc, view, board, threat, twos.as_slice()),
+            None => find_moves::<R, V>(alloc, view, board, threat, twos.as_slice(), &windows),
         }
     } else {
-        find_moves::<R, V>(alloc, view, board, threat, twos.as_slice())
+        find_moves::<R, V>(alloc, view, board, threat, twos.as_slice(), &windows)
     }
 }
 
@@ -121,12 +122,17 @@ fn find_double<R: Rule, V: Seen<R>>(
     Ok(None)
 }
 
-/// The points where a stone of the side to move leaves it two five points or more, in reading order. It has none.
-pub(crate) fn all_twos<R: Rule, V: Seen<R>>(alloc: Global, view: &V) -> Result<Points, AllocError>
+/// The points where a stone of the side to move leaves it two five points or more, in reading order. It has none, and these are its
+/// windows with three stones.
+pub(crate) fn all_twos<R: Rule, V: Seen<R>>(
+    alloc: Global,
+    view: &V,
+    windows: &PointSet,
+) -> Result<Points, AllocError>
+    requires windows { TellsWindows (V.position view.now) (mover (V.position view.now)) 3 windows.now }
     requires none { has_five_lem R.KIND (V.position view.now) (mover (V.position view.now)) ≡ false }
     ensures twos { IfOk result (λ twos. twos ≡ points_of_two R.KIND (V.position view.now) (mover (V.position view.now))) }
 {
-    let windows = window_points(view.board(), view.side(), 3);
     let mut twos = Points::new(alloc);
     for p in windows.points(view.board()) {
         if makes_two::<R, V>(view, p) {
@@ -179,14 +185,16 @@ pub(crate) fn the_point(p: Point) -> PointSet
     points
 }
 
-/// The moves to be tried, or one to which each reply fouls. The other side has these five points.
+/// The moves to be tried, or one to which each reply fouls. The other side has these five points, and the side to move these windows.
 fn find_moves<R: Rule, V: Seen<R>>(
     alloc: Global,
     view: &mut V,
     board: &mut Board,
     threat: FivePoints,
     twos: &[Point],
+    windows: &PointSet,
 ) -> Result<Attacks, AllocError>
+    requires windows { TellsWindows (V.position view.old) (mover (V.position view.old)) 3 windows.now }
     requires twos { twos.now ≡ points_of_two R.KIND (V.position view.old) (mover (V.position view.old)) }
     requires none { has_five_lem R.KIND (V.position view.old) (mover (V.position view.old)) ≡ false }
     requires lawful { IsPosition R.KIND (V.position view.old) }
@@ -196,11 +204,10 @@ fn find_moves<R: Rule, V: Seen<R>>(
     ensures same { V.position view.new ≡ V.position view.old }
     ensures same_board { board.new ≡ board.old }
 {
-    let windows = window_points(view.board(), view.side(), 3);
     let candidates = candidate_points::<R, V>(view, threat, twos);
     let mut moves = Points::new(alloc);
     for p in candidates.points(view.board()) {
-        match judge_move::<R, V>(view, board, threat, twos, &windows, p) {
+        match judge_move::<R, V>(view, board, threat, twos, windows, p) {
             Attempt::Tried => moves.push(p)?,
             Attempt::EachReplyFouls => return Ok(Attacks::NoReply(p)),
             Attempt::Passed => {}

@@ -15,7 +15,7 @@ ghost use Rattle.threat_game.specs.Replies.{EscapesBy, HasEscape};
 use crate::attacks::{Attacks, all_twos, find_attacks, goes_on};
 use crate::replies::{five_beside, last_after};
 use foul_judge::Seen;
-use open_windows::five_points;
+use open_windows::{five_points, window_points};
 use row_shapes::{FivePoints, Rule, takes};
 use std::alloc::{AllocError, Global};
 use stone_board::{Board, Point, Points, Side};
@@ -81,7 +81,8 @@ fn has_no_double<R: Rule, V: Seen<R>>(
     ensures same { V.position view.new ≡ V.position view.old }
 {
     let threat = view.fives_in_short(defender);
-    let twos = all_twos::<R, V>(alloc, view)?;
+    let windows = window_points(view.board(), view.side(), 3);
+    let twos = all_twos::<R, V>(alloc, view, &windows)?;
     Ok(none_counters::<R, V>(view, threat, twos.as_slice()))
 }
 

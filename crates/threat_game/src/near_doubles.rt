@@ -2,23 +2,34 @@
 //!
 //! A double point after a new stone made two five points before it, or is near the stone: within four steps on a line on which two
 //! others of its side stand so near, or somewhere on one on which three do; and its own stone makes a five point on this line. No
-//! other point is looked at.
+//! other point is looked at. A stone makes a five point on a line only within an open window with three stones of its side: the bits of
+//! the line tell where these begin, and points outside them are passed over.
 #![tactic(auto)]
 
-ghost use Rattle.std.specs.Prelude.{◌≡◌, ◌≤◌, ◌&&◌, ℕ, false, true, IsTrue};
+ghost use Rattle.std.specs.Prelude.{◌≡◌, ◌≤◌, ◌<◌, ◌*◌, ◌&&◌, ℕ, false, true, IsTrue};
 ghost use Rattle.std.specs.List.{list_any};
+ghost use Rattle.std.specs.Int.{bit_at};
 ghost use Rattle.game_rules.specs.Grid.{is_empty, is_on, put};
 ghost use Rattle.game_rules.specs.Ways.{towards as towards_lem};
+ghost use Rattle.stone_board.specs.Lines.{line_of, place_towards, places_left};
 ghost use Rattle.game_rules.specs.Games.{has_five as has_five_lem, is_double_point};
 ghost use Rattle.threat_moves.specs.ThreeMoves.{has_double_point};
 ghost use Rattle.threat_game.specs.NearDoubles.{AreNearStones, DoublesAreNear, is_double_on, makes_on as makes_on_lem};
 ghost use Rattle.threat_game.specs.NearDoubles.{reach as reach_lem, points_of_two};
+ghost use Rattle.threat_game.specs.OpenThrees.{AreStarts, IsOpenThree, NoneNear};
 
 use crate::attacks::is_some_point;
 use crate::near_stones::NearStones;
 use row_shapes::{FivePoints, Rule, with_axis};
-use stone_board::{Axis, Board, MAX_SIDE, Point, Side, Way};
+use stone_board::{Axis, Board, MAX_SIDE, Point, Side, Way, place_on};
 use threat_moves::is_new_double_point;
+
+/// A line of an axis: the places on it from which an open window with three stones of a side begins, as bits.
+#[derive(Clone, Copy)]
+struct Line {
+    axis: Axis,
+    starts: u32,
+}
 
 /// Whether the side's stone on an empty point, which leaves it no five point, leaves it a double point. Before it these points make
 /// two five points, and at most so many stones of the side are around the point. The board is as before.
@@ -97,15 +108,73 @@ fn double_on<R: Rule>(board: &mut Board, side: Side, axis: Axis, p: Point, near:
         → is_double_on R.KIND board.old side axis (towards_lem w axis p k) ≡ false }
     ensures same { board.new ≡ board.old }
 {
-    for k in 1..1 + reach(near) {
-        if double_towards::<R>(board, side, Way::Ahead, axis, p, k) {
+    let far = reach(near);
+    if far == 0 {
+        return false;
+    }
+    let starts = line_starts(board, side, axis, p);
+    if starts == 0 {
+        return false;
+    }
+    let line = Line { axis, starts };
+    for k in 1..1 + far {
+        if double_towards::<R>(board, side, Way::Ahead, line, p, k) {
             return true;
         }
-        if double_towards::<R>(board, side, Way::Behind, axis, p, k) {
+        if double_towards::<R>(board, side, Way::Behind, line, p, k) {
             return true;
         }
     }
     false
+}
+
+/// The places of the line on the axis through the point from which an open window with three stones of the side begins: a stone makes a
+/// five point on the line only in such a window.
+#[inline(always)]
+fn line_starts(board: &Board, side: Side, axis: Axis, p: Point) -> u32
+    requires on { IsTrue (is_on board.now p) }
+    ensures starts { AreStarts board.now side axis (line_of axis p) result }
+{
+    let own = board.line_through(side, axis, p);
+    three_starts(own, board.line_through(side.other(), axis, p))
+}
+
+/// The places from which five in a row hold three stones of a side or more and none of the other, by the bits of both.
+#[inline(always)]
+fn three_starts(own: u32, theirs: u32) -> u32
+    ensures starts { (i : ℕ) → IsOpenThree own theirs i → bit_at result i ≡ 1 }
+{
+    let second = own >> 1;
+    let third = own >> 2;
+    let fourth = own >> 3;
+    let fifth = own >> 4;
+    let three = (own & second & (third | fourth | fifth))
+        | (third & fourth & (own | second | fifth))
+        | ((own | second) & (third | fourth) & fifth);
+    let taken = theirs | (theirs >> 1) | (theirs >> 2) | (theirs >> 3) | (theirs >> 4);
+    (three | taken) ^ taken
+}
+
+/// Whether one of these places is the one so many steps on from this, or at most four before it.
+#[inline(always)]
+fn is_near(starts: u32, way: Way, place: u8, k: u8) -> bool
+    requires place { place < MAX_SIDE }
+    requires near { k < MAX_SIDE }
+    ensures none { result ≡ false → k ≤ places_left way place → NoneNear starts (place_towards way place k) }
+{
+    match way {
+        Way::Ahead => begins_near(starts, place + k),
+        Way::Behind => k <= place && begins_near(starts, place - k),
+    }
+}
+
+/// Whether one of these places is this one, or at most four before it.
+#[inline(always)]
+fn begins_near(starts: u32, place: u8) -> bool
+    requires place { place < 2 * MAX_SIDE }
+    ensures none { result ≡ false → NoneNear starts place }
+{
+    u64::from(starts) << 4 >> place & 0x1f != 0
 }
 
 /// So many steps away a new double point may be at most on an axis on which so many stones are around the new one.
@@ -129,19 +198,23 @@ fn double_towards<R: Rule>(
     board: &mut Board,
     side: Side,
     way: Way,
-    axis: Axis,
+    line: Line,
     p: Point,
     k: u8,
 ) -> bool
     requires on { IsTrue (is_on board.old p) }
-    requires near { k ≤ 64 }
+    requires near { k < MAX_SIDE }
     requires none { has_five_lem R.KIND board.old side ≡ false }
-    ensures double { result ≡ is_double_on R.KIND board.old side axis (towards_lem way axis p k) }
+    requires starts { AreStarts board.old side line.axis (line_of line.axis p) line.starts }
+    ensures double { result ≡ is_double_on R.KIND board.old side line.axis (towards_lem way line.axis p k) }
     ensures same { board.new ≡ board.old }
 {
-    match board.step_towards(way, axis, p, k) {
+    if !is_near(line.starts, way, place_on(line.axis, p), k) {
+        return false;
+    }
+    match board.step_towards(way, line.axis, p, k) {
         None => false,
-        Some(q) => double_from::<R>(board, side, axis, q),
+        Some(q) => double_from::<R>(board, side, line.axis, q),
     }
 }
 

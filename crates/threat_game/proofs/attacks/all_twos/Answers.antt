@@ -5,7 +5,6 @@ use Rattle.game_rules.specs.Play.{mover}
 use Rattle.game_rules.specs.declared.Point.{Point}
 use Rattle.open_windows.specs.PointSets.{has_point}
 use Rattle.threat_game.specs.NearDoubles.{makes_two}
-use Rattle.open_windows.proofs.Points.{windows-of}
 use Rattle.threat_game.proofs.WindowLaws.{two-in}
 use Rattle.open_windows.proofs.SetOrder.{filter-windows}
 use Rattle.threat_game.proofs.attacks.all_twos.Goals as goal
@@ -13,9 +12,8 @@ use Rattle.threat_game.proofs.attacks.all_twos.Goals as goal
 pub loop-p-init : goal.loop-p-init
 loop-p-init g c =
     let b : Grid = g.V.Seen.position c.args.view.now in
-    let tells = windows-of _ b _ (mover b) 3 _ c.board.ensures.board c.side.ensures.side c.window_points-windows.ensures.points in
     ap (λ (ps : List Point). ps ++ filter (makes_two g.R.Rule.KIND b (mover b)) c.into_iter-p-iterator.result) c.new-twos.ensures.empty
     ∙ ap (filter (makes_two g.R.Rule.KIND b (mover b))) (c.into_iter-p-iterator.ensures.into_iter_gives ∙ c.points-p-items.ensures.points
-    ∙ ap (λ (w : Grid). filter (has_point c.window_points-windows.result) (points_of w)) c.board-2.ensures.board)
-    ∙ filter-windows b (mover b) 3 c.window_points-windows.result tells (makes_two g.R.Rule.KIND b (mover b))
-    (λ p h. two-in g.R.Rule.KIND b (mover b) p tells.board c.requires.none h)
+    ∙ ap (λ (w : Grid). filter (has_point c.args.windows.now) (points_of w)) c.board.ensures.board)
+    ∙ filter-windows b (mover b) 3 c.args.windows.now c.requires.windows (makes_two g.R.Rule.KIND b (mover b))
+    (λ p h. two-in g.R.Rule.KIND b (mover b) p c.requires.windows.board c.requires.none h)

@@ -6,9 +6,15 @@ use Rattle.game_rules.proofs.Common.{Grid, points_of, mover, other, five_points,
 use Rattle.game_rules.specs.declared.Side.{Side}
 use Rattle.row_shapes.specs.FivePoints.{in_short}
 use Rattle.row_shapes.proofs.FiveLaws.{has_five-none, none-short}
+use Rattle.open_windows.proofs.Points.{windows-of}
 use Rattle.threat_game.specs.declared.doubles.DoublePoint.{DoublePoint}
 use Rattle.threat_game.proofs.Common.{makes_two, points_of_two}
 use Rattle.threat_game.proofs.attacks.find_attacks.Goals as goal
+
+pub all_twos-requires-clause-windows : goal.all_twos-requires-clause-windows
+all_twos-requires-clause-windows g c =
+    let b : Grid = g.V.Seen.position c.args.view.now in
+    windows-of _ b _ (mover b) 3 _ c.board.ensures.board c.side-attacker.ensures.side c.window_points-windows.ensures.points
 
 pub find_double-requires-clause-safe : goal.find_double-requires-clause-safe
 find_double-requires-clause-safe g c =

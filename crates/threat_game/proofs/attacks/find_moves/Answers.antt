@@ -8,7 +8,6 @@ use Rattle.open_windows.specs.PointSets.{has_point, TellsWindows}
 use Rattle.threat_game.specs.Attacks.{tried_moves, is_settled_move, is_tried}
 use Rattle.threat_game.proofs.AttackLaws.{others-fail}
 use Rattle.threat_game.proofs.CandidateLaws.{filter-in, all-in}
-use Rattle.open_windows.proofs.Points.{windows-of}
 use Rattle.threat_game.proofs.attacks.find_moves.Goals as goal
 
 pub loop-p-init : goal.loop-p-init
@@ -17,7 +16,7 @@ loop-p-init g c =
     let set : List Point = c.into_iter-p-iterator.result in
     let points : set ≡ filter (has_point c.candidate_points-candidates.result) (points_of b) =
     c.into_iter-p-iterator.ensures.into_iter_gives ∙ c.points-p-items.ensures.points
-    ∙ ap (λ (w : Grid). filter (has_point c.candidate_points-candidates.result) (points_of w)) c.board-2.ensures.board in
+    ∙ ap (λ (w : Grid). filter (has_point c.candidate_points-candidates.result) (points_of w)) c.board.ensures.board in
     let passed = c.candidate_points-candidates.ensures.others.passed in (
       refl,
       refl,
@@ -38,6 +37,4 @@ returns-clause-attacks g c =
 
 pub judge_move-requires-clause-windows : goal.judge_move-requires-clause-windows
 judge_move-requires-clause-windows g c =
-    let b : Grid = g.V.Seen.position c.args.view.now in
-    subst (λ (w : Grid). TellsWindows w (mover w) 3 c.window_points-windows.result) (sym c.loop-p.invariant.0)
-    (windows-of _ b _ (mover b) 3 _ c.board.ensures.board c.side.ensures.side c.window_points-windows.ensures.points)
+    subst (λ (w : Grid). TellsWindows w (mover w) 3 c.args.windows.now) (sym c.loop-p.invariant.0) c.requires.windows

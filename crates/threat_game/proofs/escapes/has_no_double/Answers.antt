@@ -1,9 +1,15 @@
 use Rattle.std.proofs.Common.{ap, sym, ◌∙◌}
-use Rattle.game_rules.proofs.Common.{Grid, five_points, has_fouls}
+use Rattle.game_rules.proofs.Common.{Grid, five_points, has_fouls, mover}
 use Rattle.game_rules.specs.declared.Side.{Side}
 use Rattle.row_shapes.specs.FivePoints.{in_short}
+use Rattle.open_windows.proofs.Points.{windows-of}
 use Rattle.threat_game.proofs.TwoMoves.{no_double-no_win}
 use Rattle.threat_game.proofs.escapes.has_no_double.Goals as goal
+
+pub all_twos-requires-clause-windows : goal.all_twos-requires-clause-windows
+all_twos-requires-clause-windows g c =
+    windows-of _ _ _ (mover (g.V.Seen.position c.args.view.now)) 3 _ c.board.ensures.board c.side.ensures.side
+    c.window_points-windows.ensures.points
 
 pub returns-clause-no_win : goal.returns-clause-no_win
 returns-clause-no_win g c = λ yes.
