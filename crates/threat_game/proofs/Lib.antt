@@ -21,6 +21,7 @@ mod FreeMoves
 -- where new double points can be; open windows with three stones, and the stones around a point, as bits
 mod NearDoubles
 mod OpenThrees
+mod CrossDoubles
 mod AroundBits
 -- stones outside open windows
 mod WindowLaws

@@ -204,7 +204,8 @@ starts-of b s d n own theirs starts ok mine rival told = record {
       absurd (omega (arith, bit)));
 }
 
-kept-is : (b : Grid) (o : Option Point) (q : Point) → kept_on b o ≡ Some q → (o ≡ Some q) × (is_on b q ≡ true)
+-- a point that is kept is the point, and on the board
+pub kept-is : (b : Grid) (o : Option Point) (q : Point) → kept_on b o ≡ Some q → (o ≡ Some q) × (is_on b q ≡ true)
 kept-is b None q h = cc
 kept-is b (Some p) q h =
     let kept = kept_by b p q (is_on b p) refl h in

@@ -4,6 +4,7 @@ use Rattle.std.specs.List.{list_any, filter, range_with_len}
 use Rattle.game_rules.specs.Grid.{Grid, is_empty, put, points_of}
 use Rattle.game_rules.specs.Games.{five_points, is_double_point}
 use Rattle.game_rules.specs.Shapes.{stone_at}
+use Rattle.game_rules.specs.Lines.{same_line}
 use Rattle.game_rules.specs.Ways.{towards}
 use Rattle.game_rules.specs.declared.RuleKind.{RuleKind}
 use Rattle.game_rules.specs.declared.Side.{Side}
@@ -17,6 +18,7 @@ use Rattle.row_shapes.specs.FiveEnds.{with_axis}
 use Rattle.row_shapes.specs.declared.fives.FivePoints.{FivePoints}
 use Rattle.row_shapes.specs.declared.fives.FivePoints.TheVariants.{None as NoPoint, One, Several}
 use Rattle.row_shapes.specs.FivePoints.{is_several}
+use Rattle.open_windows.specs.PointSets.{has_point}
 use Rattle.threat_game.specs.declared.near_stones.NearStones.{NearStones}
 
 -- whether there is a five point
@@ -70,6 +72,12 @@ pub record IsInReach (rule : RuleKind) (b : Grid) (s : Side) (p q : Point) : Typ
 -- each double point of the side is as near to p as that, where none of the points is one
 pub record DoublesAreNear (rule : RuleKind) (b : Grid) (s : Side) (p : Point) (points : List Point) : Type 0 where
   pub near : list_any (is_double_point rule b s) points ≡ false → (q : Point) → is_double_point rule b s q ≡ true → IsInReach rule b s p q
+
+-- a point on a line with p that the set doesn't have is no double point of the side where its stone makes fewer than two five points on
+-- the line
+pub record AreCrossings (rule : RuleKind) (b : Grid) (s : Side) (p : Point) (rows : List ℕ) : Type 0 where
+  pub alone : (d : Axis) (q : Point) → same_line d p q ≡ true → has_point rows q ≡ false
+      → is_several (with_axis rule b s q NoPoint d) ≡ false → is_double_point rule b s q ≡ false
 
 -- whether there is such a point, a stone of the side on it makes a five point on the axis, and it is a double point of the side
 abbrev pub is_double_on : RuleKind → Grid → Side → Axis → Option Point → Bool

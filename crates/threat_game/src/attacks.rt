@@ -375,7 +375,7 @@ fn leaves_threat<R: Rule, V: Seen<R>>(
     }
     let side = view.side();
     let near = near_stones(board, side, p);
-    leaves_double::<R>(board, side, twos, near, p)
+    leaves_double::<R>(board, side, twos, windows, near, p)
 }
 
 /// What the replies to a move that goes on come to.

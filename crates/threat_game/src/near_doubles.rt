@@ -3,7 +3,8 @@
 //! A double point after a new stone made two five points before it, or is near the stone: within four steps on a line on which two
 //! others of its side stand so near, or somewhere on one on which three do; and its own stone makes a five point on this line. No
 //! other point is looked at. A stone makes a five point on a line only within an open window with three stones of its side: the bits of
-//! the line tell where these begin, and points outside them are passed over.
+//! the line tell where these begin, and points outside them are passed over. So is one that makes one five point there and lay in no such
+//! window before the new stone, which has no part in what is made on other lines.
 #![tactic(auto)]
 
 ghost use Rattle.std.specs.Prelude.{◌≡◌, ◌≤◌, ◌<◌, ◌*◌, ◌&&◌, ℕ, false, true, IsTrue};
@@ -14,51 +15,60 @@ ghost use Rattle.game_rules.specs.Ways.{towards as towards_lem};
 ghost use Rattle.stone_board.specs.Lines.{line_of, place_towards, places_left};
 ghost use Rattle.game_rules.specs.Games.{has_five as has_five_lem, is_double_point};
 ghost use Rattle.threat_moves.specs.ThreeMoves.{has_double_point};
-ghost use Rattle.threat_game.specs.NearDoubles.{AreNearStones, DoublesAreNear, is_double_on, makes_on as makes_on_lem};
+ghost use Rattle.row_shapes.specs.FivePoints.{is_several};
+ghost use Rattle.row_shapes.specs.FiveEnds.{with_axis as with_axis_lem};
+ghost use Rattle.open_windows.specs.PointSets.{TellsWindows, has_point};
+ghost use Rattle.threat_game.specs.NearDoubles.{AreCrossings, AreNearStones, DoublesAreNear, is_double_on, makes_on};
 ghost use Rattle.threat_game.specs.NearDoubles.{reach as reach_lem, points_of_two};
 ghost use Rattle.threat_game.specs.OpenThrees.{AreStarts, IsOpenThree, NoneNear};
 
-use crate::attacks::is_some_point;
 use crate::near_stones::NearStones;
+use open_windows::PointSet;
 use row_shapes::{FivePoints, Rule, with_axis};
 use stone_board::{Axis, Board, MAX_SIDE, Point, Side, Way, place_on};
 use threat_moves::is_new_double_point;
 
-/// A line of an axis: the places on it from which an open window with three stones of a side begins, as bits.
+/// The line of an axis through a point: the places on it from which an open window with three stones of a side begins, as bits.
 #[derive(Clone, Copy)]
 struct Line {
     axis: Axis,
+    point: Point,
     starts: u32,
 }
 
-/// Whether the side's stone on an empty point, which leaves it no five point, leaves it a double point. Before it these points make
-/// two five points, and at most so many stones of the side are around the point. The board is as before.
+/// Whether the side's stone on an empty point, which leaves it no five point, leaves it a double point. Before it the side has none
+/// either, these points make two five points, these are its windows with three stones, and at most so many of its stones are around the
+/// point. The board is as before.
 pub(crate) fn leaves_double<R: Rule>(
     board: &mut Board,
     side: Side,
     twos: &[Point],
+    windows: &PointSet,
     near: NearStones,
     p: Point,
 ) -> bool
     requires empty { IsTrue (is_empty board.old p) }
+    requires before { has_five_lem R.KIND board.old side ≡ false }
     requires twos { twos.now ≡ points_of_two R.KIND board.old side }
+    requires windows { TellsWindows board.old side 3 windows.now }
     requires none { has_five_lem R.KIND (put board.old side p) side ≡ false }
     requires near { AreNearStones board.old side p near }
     ensures double { result ≡ has_double_point R.KIND (put board.old side p) side }
     ensures same { board.new ≡ board.old }
 {
     board.put(p, side);
-    let double = has_double::<R>(board, side, twos, near, p);
+    let double = has_double::<R>(board, side, twos, windows, near, p);
     board.lift(p);
     double
 }
 
 /// Whether the side, which has no five point, has a double point. It has none but among these points and near `p`, around which so
-/// many of its stones are at most. The board is as before.
+/// many of its stones are at most; and none that makes one five point on a line with `p` but in these windows. The board is as before.
 fn has_double<R: Rule>(
     board: &mut Board,
     side: Side,
     twos: &[Point],
+    windows: &PointSet,
     near: NearStones,
     p: Point,
 ) -> bool
@@ -66,22 +76,23 @@ fn has_double<R: Rule>(
     requires none { has_five_lem R.KIND board.old side ≡ false }
     requires near { AreNearStones board.old side p near }
     requires far { DoublesAreNear R.KIND board.old side p twos.now }
+    requires crossings { AreCrossings R.KIND board.old side p windows.now }
     ensures double { result ≡ has_double_point R.KIND board.old side }
     ensures same { board.new ≡ board.old }
 {
     if some_double::<R>(board, side, twos) {
         return true;
     }
-    if double_on::<R>(board, side, Axis::Row, p, near.row) {
+    if double_on::<R>(board, side, Axis::Row, windows, p, near.row) {
         return true;
     }
-    if double_on::<R>(board, side, Axis::Column, p, near.column) {
+    if double_on::<R>(board, side, Axis::Column, windows, p, near.column) {
         return true;
     }
-    if double_on::<R>(board, side, Axis::Down, p, near.down) {
+    if double_on::<R>(board, side, Axis::Down, windows, p, near.down) {
         return true;
     }
-    double_on::<R>(board, side, Axis::Up, p, near.up)
+    double_on::<R>(board, side, Axis::Up, windows, p, near.up)
 }
 
 /// Whether some of the points is a double point of the side, which has no five point. The board is as before.
@@ -99,10 +110,18 @@ fn some_double<R: Rule>(board: &mut Board, side: Side, points: &[Point]) -> bool
 }
 
 /// Whether a double point of the side, which has no five point, is on the axis as near to `p` as may be where at most so many stones
-/// are around it, and its stone makes a five point on the axis. The board is as before.
-fn double_on<R: Rule>(board: &mut Board, side: Side, axis: Axis, p: Point, near: u32) -> bool
+/// are around it, and its stone makes a five point on the axis: one alone only in these windows. The board is as before.
+fn double_on<R: Rule>(
+    board: &mut Board,
+    side: Side,
+    axis: Axis,
+    windows: &PointSet,
+    p: Point,
+    near: u32,
+) -> bool
     requires on { IsTrue (is_on board.old p) }
     requires none { has_five_lem R.KIND board.old side ≡ false }
+    requires crossings { AreCrossings R.KIND board.old side p windows.now }
     ensures some { IsTrue result → has_double_point R.KIND board.old side ≡ true }
     ensures none { result ≡ false → (w : Way) (k : ℕ) → 1 ≤ k → k ≤ reach_lem near
         → is_double_on R.KIND board.old side axis (towards_lem w axis p k) ≡ false }
@@ -116,12 +135,16 @@ fn double_on<R: Rule>(board: &mut Board, side: Side, axis: Axis, p: Point, near:
     if starts == 0 {
         return false;
     }
-    let line = Line { axis, starts };
+    let line = Line {
+        axis,
+        point: p,
+        starts,
+    };
     for k in 1..1 + far {
-        if double_towards::<R>(board, side, Way::Ahead, line, p, k) {
+        if double_towards::<R>(board, side, line, windows, Way::Ahead, k) {
             return true;
         }
-        if double_towards::<R>(board, side, Way::Behind, line, p, k) {
+        if double_towards::<R>(board, side, line, windows, Way::Behind, k) {
             return true;
         }
     }
@@ -191,55 +214,72 @@ fn reach(near: u32) -> u8
     }
 }
 
-/// Whether there is a point so many steps away, its stone makes a five point on the axis, and it is a double point of the side, which
-/// has no five point. The board is as before.
+/// Whether there is a point so many steps away on the line, its stone makes a five point there, one alone only in these windows, and it
+/// is a double point of the side, which has no five point. The board is as before.
 #[inline(always)]
 fn double_towards<R: Rule>(
     board: &mut Board,
     side: Side,
-    way: Way,
     line: Line,
-    p: Point,
+    windows: &PointSet,
+    way: Way,
     k: u8,
 ) -> bool
-    requires on { IsTrue (is_on board.old p) }
+    requires on { IsTrue (is_on board.old line.point) }
     requires near { k < MAX_SIDE }
     requires none { has_five_lem R.KIND board.old side ≡ false }
-    requires starts { AreStarts board.old side line.axis (line_of line.axis p) line.starts }
-    ensures double { result ≡ is_double_on R.KIND board.old side line.axis (towards_lem way line.axis p k) }
+    requires starts { AreStarts board.old side line.axis (line_of line.axis line.point) line.starts }
+    requires crossings { AreCrossings R.KIND board.old side line.point windows.now }
+    ensures double { result ≡ is_double_on R.KIND board.old side line.axis (towards_lem way line.axis line.point k) }
     ensures same { board.new ≡ board.old }
 {
-    if !is_near(line.starts, way, place_on(line.axis, p), k) {
+    if !is_near(line.starts, way, place_on(line.axis, line.point), k) {
         return false;
     }
-    match board.step_towards(way, line.axis, p, k) {
+    match board.step_towards(way, line.axis, line.point, k) {
         None => false,
-        Some(q) => double_from::<R>(board, side, line.axis, q),
+        Some(q) => double_from::<R>(board, side, line.axis, windows, q),
     }
 }
 
 /// Whether a stone of the side on the point makes a five point on the axis, and the point is a double point of the side, which has no
-/// five point. The board is as before.
-fn double_from<R: Rule>(board: &mut Board, side: Side, axis: Axis, q: Point) -> bool
+/// five point: one that makes no second on the axis only in these windows. The board is as before.
+fn double_from<R: Rule>(
+    board: &mut Board,
+    side: Side,
+    axis: Axis,
+    windows: &PointSet,
+    q: Point,
+) -> bool
     requires none { has_five_lem R.KIND board.old side ≡ false }
-    ensures double { result ≡ (makes_on_lem R.KIND board.old side axis q && is_double_point R.KIND board.old side q) }
+    requires alone { has_point windows.now q ≡ false → is_several (with_axis_lem R.KIND board.old side q FivePoints.None axis) ≡ false
+        → is_double_point R.KIND board.old side q ≡ false }
+    ensures double { result ≡ (makes_on R.KIND board.old side axis q && is_double_point R.KIND board.old side q) }
     ensures same { board.new ≡ board.old }
 {
     if !board.is_empty(q) {
         return false;
     }
-    if !makes_on::<R>(board, side, axis, q) {
+    if !may_double::<R>(board, side, axis, windows, q) {
         return false;
     }
     is_new_double_point::<R>(board, side, q)
 }
 
-/// Whether a stone of the side on an empty point makes a five point on the axis.
+/// Whether a stone of the side on an empty point makes a five point on the axis, and the point may be a double point: it makes two there,
+/// or is in these windows.
 #[tactic(auto, unfolding(crate::specs::NearDoubles::makes_on))]
 #[inline(always)]
-fn makes_on<R: Rule>(board: &Board, side: Side, axis: Axis, q: Point) -> bool
+fn may_double<R: Rule>(board: &Board, side: Side, axis: Axis, windows: &PointSet, q: Point) -> bool
     requires empty { IsTrue (is_empty board.now q) }
-    ensures made { result ≡ makes_on_lem R.KIND board.now side axis q }
+    requires alone { has_point windows.now q ≡ false → is_several (with_axis_lem R.KIND board.now side q FivePoints.None axis) ≡ false
+        → is_double_point R.KIND board.now side q ≡ false }
+    ensures made { IsTrue result → makes_on R.KIND board.now side axis q ≡ true }
+    ensures none { result ≡ false → (makes_on R.KIND board.now side axis q && is_double_point R.KIND board.now side q) ≡ false }
 {
-    is_some_point(with_axis::<R>(board, side, q, FivePoints::None, axis))
+    match with_axis::<R>(board, side, q, FivePoints::None, axis) {
+        FivePoints::None => false,
+        FivePoints::One(_) => windows.has(q),
+        FivePoints::Several => true,
+    }
 }

@@ -1,6 +1,7 @@
 use Rattle.std.proofs.Common.{◌≡◌, false, ap, sym, ◌∙◌}
 use Rattle.game_rules.proofs.Common.{Grid, is_empty, put, mover, after, has_five}
 use Rattle.game_rules.specs.declared.Side.{Side}
+use Rattle.open_windows.proofs.Points.{windows-of}
 use Rattle.threat_moves.specs.ThreeMoves.{has_double_point}
 use Rattle.threat_moves.proofs.GainLaws.{threat-by_five, threat-by_double}
 use Rattle.threat_game.specs.NearDoubles.{is_some_point, points_of_two}
@@ -23,6 +24,16 @@ leaves_double-requires-clause-twos g c =
     c.requires.twos
     ∙ ap (points_of_two g.R.Rule.KIND b) (sym c.side-side.ensures.side)
     ∙ ap (λ (w : Grid). points_of_two g.R.Rule.KIND w c.side-side.result) (sym c.requires.copy)
+
+pub leaves_double-requires-clause-before : goal.leaves_double-requires-clause-before
+leaves_double-requires-clause-before g c =
+    let b : Grid = g.V.Seen.position c.args.view.now in
+    ap (λ (w : Grid). has_five g.R.Rule.KIND w c.side-side.result) c.requires.copy
+    ∙ ap (has_five g.R.Rule.KIND b) c.side-side.ensures.side ∙ c.requires.none
+
+pub leaves_double-requires-clause-windows : goal.leaves_double-requires-clause-windows
+leaves_double-requires-clause-windows g c =
+    windows-of _ _ _ _ 3 _ (sym c.requires.copy) (sym c.side-side.ensures.side) c.requires.windows
 
 pub leaves_double-requires-clause-none : goal.leaves_double-requires-clause-none
 leaves_double-requires-clause-none g c =

@@ -8,13 +8,11 @@ returns-then-not-is_empty-clause-double g c =
     taken-no_double g.R.Rule.KIND c.args.board.now c.args.side c.args.axis c.args.q
     (sym c.is_empty.ensures.empty ∙ c.if-not-is_empty.true)
 
-pub returns-then-not-makes_on-clause-double : goal.returns-then-not-makes_on-clause-double
-returns-then-not-makes_on-clause-double g c =
-    sym (ap (λ r. r && is_double_point g.R.Rule.KIND c.args.board.now c.args.side c.args.q)
-    (sym c.makes_on.ensures.made ∙ c.if-not-makes_on.true))
+pub returns-then-not-may_double-clause-double : goal.returns-then-not-may_double-clause-double
+returns-then-not-may_double-clause-double g c = sym (c.may_double.ensures.none c.if-not-may_double.true)
 
 pub returns-clause-double : goal.returns-clause-double
 returns-clause-double g c =
     c.is_new_double_point.ensures.double
     ∙ sym (ap (λ r. r && is_double_point g.R.Rule.KIND c.args.board.now c.args.side c.args.q)
-    (sym c.makes_on.ensures.made ∙ c.if-not-makes_on.false))
+    (c.may_double.ensures.made c.if-not-may_double.false))

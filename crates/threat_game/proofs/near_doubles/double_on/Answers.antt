@@ -2,6 +2,7 @@ use Rattle.std.proofs.Common.{◌≡◌, true, sym, ◌∙◌, subst, arith}
 use Rattle.game_rules.specs.Grid.{Grid}
 use Rattle.stone_board.specs.Lines.{line_of}
 use Rattle.threat_moves.specs.ThreeMoves.{has_double_point}
+use Rattle.threat_game.specs.NearDoubles.{AreCrossings}
 use Rattle.threat_game.specs.OpenThrees.{AreStarts}
 use Rattle.threat_game.proofs.NearDoubles.{at-found}
 use Rattle.threat_game.proofs.OpenThrees.{none-away}
@@ -25,6 +26,16 @@ pub double_towards-requires-in-loop-k-clause-starts : goal.double_towards-requir
 double_towards-requires-in-loop-k-clause-starts g c =
     subst (λ (b : Grid). AreStarts b c.args.side c.args.axis (line_of c.args.axis c.args.p) c.line_starts-starts.result)
     (sym (c.double_towards.ensures.same ∙ c.loop-k.invariant.0)) c.line_starts-starts.ensures.starts
+
+pub double_towards-requires-clause-crossings : goal.double_towards-requires-clause-crossings
+double_towards-requires-clause-crossings g c =
+    subst (λ (b : Grid). AreCrossings g.R.Rule.KIND b c.args.side c.args.p c.args.windows.now) (sym c.loop-k.invariant.0)
+    c.requires.crossings
+
+pub double_towards-requires-in-loop-k-clause-crossings : goal.double_towards-requires-in-loop-k-clause-crossings
+double_towards-requires-in-loop-k-clause-crossings g c =
+    subst (λ (b : Grid). AreCrossings g.R.Rule.KIND b c.args.side c.args.p c.args.windows.now)
+    (sym (c.double_towards.ensures.same ∙ c.loop-k.invariant.0)) c.requires.crossings
 
 pub returns-then-double_towards-clause-some : goal.returns-then-double_towards-clause-some
 returns-then-double_towards-clause-some g c = λ h.

@@ -2,6 +2,7 @@ use Rattle.std.proofs.Common.{◌≡◌, true, sym, ◌∙◌, subst}
 use Rattle.game_rules.specs.Grid.{Grid}
 use Rattle.game_rules.specs.declared.Axis.TheVariants.{Row, Column, Down, Up}
 use Rattle.threat_moves.specs.ThreeMoves.{has_double_point}
+use Rattle.threat_game.specs.NearDoubles.{AreCrossings}
 use Rattle.threat_game.proofs.NearDoubles.{NoneOn, last-told, some-found}
 use Rattle.threat_game.proofs.near_doubles.has_double.Goals as goal
 
@@ -9,6 +10,27 @@ pub returns-then-some_double-clause-double : goal.returns-then-some_double-claus
 returns-then-some_double-clause-double g c =
     some-found g.R.Rule.KIND c.args.board.now c.args.side c.args.twos.now
     (sym c.some_double.ensures.double ∙ c.if-some_double.true)
+
+pub double_on-requires-clause-crossings : goal.double_on-requires-clause-crossings
+double_on-requires-clause-crossings g c =
+    subst (λ (b : Grid). AreCrossings g.R.Rule.KIND b c.args.side c.args.p c.args.windows.now) (sym (c.some_double.ensures.same))
+    c.requires.crossings
+
+pub double_on-requires-2-clause-crossings : goal.double_on-requires-2-clause-crossings
+double_on-requires-2-clause-crossings g c =
+    subst (λ (b : Grid). AreCrossings g.R.Rule.KIND b c.args.side c.args.p c.args.windows.now)
+    (sym (c.double_on.ensures.same ∙ c.some_double.ensures.same)) c.requires.crossings
+
+pub double_on-requires-3-clause-crossings : goal.double_on-requires-3-clause-crossings
+double_on-requires-3-clause-crossings g c =
+    subst (λ (b : Grid). AreCrossings g.R.Rule.KIND b c.args.side c.args.p c.args.windows.now)
+    (sym (c.double_on-2.ensures.same ∙ c.double_on.ensures.same ∙ c.some_double.ensures.same)) c.requires.crossings
+
+pub double_on-requires-4-clause-crossings : goal.double_on-requires-4-clause-crossings
+double_on-requires-4-clause-crossings g c =
+    subst (λ (b : Grid). AreCrossings g.R.Rule.KIND b c.args.side c.args.p c.args.windows.now)
+    (sym (c.double_on-3.ensures.same ∙ c.double_on-2.ensures.same ∙ c.double_on.ensures.same ∙ c.some_double.ensures.same))
+    c.requires.crossings
 
 pub returns-clause-double : goal.returns-clause-double
 returns-clause-double g c =

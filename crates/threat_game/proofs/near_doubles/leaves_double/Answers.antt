@@ -4,8 +4,9 @@ use Rattle.game_rules.specs.declared.Point.{Point}
 use Rattle.game_rules.proofs.Boards.{is_empty-on, lift-put}
 use Rattle.stone_board.specs.Steps.{holds_stone}
 use Rattle.stone_board.proofs.Stones.{put-holds_stone}
-use Rattle.threat_game.specs.NearDoubles.{AreNearStones, DoublesAreNear}
+use Rattle.threat_game.specs.NearDoubles.{AreCrossings, AreNearStones, DoublesAreNear}
 use Rattle.threat_game.proofs.NearDoubles.{doubles-near, near-put}
+use Rattle.threat_game.proofs.CrossDoubles.{crossings-of}
 use Rattle.threat_game.proofs.near_doubles.leaves_double.Goals as goal
 
 pub has_double-double-requires-clause-near : goal.has_double-double-requires-clause-near
@@ -19,6 +20,13 @@ has_double-double-requires-clause-far g c =
     (subst (λ (ps : List Point). DoublesAreNear g.R.Rule.KIND (put c.args.board.now c.args.side c.args.p) c.args.side c.args.p ps)
     (sym c.requires.twos)
     (doubles-near g.R.Rule.KIND c.args.board.now c.args.side c.args.p c.put.ensures.board c.requires.empty c.requires.none))
+
+pub has_double-double-requires-clause-crossings : goal.has_double-double-requires-clause-crossings
+has_double-double-requires-clause-crossings g c =
+    subst (λ (b : Grid). AreCrossings g.R.Rule.KIND b c.args.side c.args.p c.args.windows.now) (sym c.put.ensures.put)
+    (crossings-of g.R.Rule.KIND c.args.board.now c.args.side c.args.p c.args.windows.now c.put.ensures.board c.requires.empty
+    c.requires.before
+    c.requires.none c.requires.windows)
 
 pub lift-requires : goal.lift-requires
 lift-requires g c =
