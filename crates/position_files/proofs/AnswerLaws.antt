@@ -6,18 +6,15 @@ use Rattle.std.specs.Fmt.{decimal}
 use Rattle.std.proofs.lemmas.Fmt.{decimal_injective}
 use Rattle.std.proofs.lemmas.Option.{same_Some}
 use Rattle.std.proofs.lemmas.List.{append_cancel_left}
-use Rattle.game_rules.specs.declared.Point.{Point}
-use Rattle.strategy_graph.specs.Tables.{Answers, answers_of}
-use Rattle.strategy_graph.specs.declared.Reply.{Reply}
-use Rattle.strategy_graph.specs.declared.Rest.{Rest}
-use Rattle.strategy_graph.specs.declared.Rest.TheVariants.{Wins, To, Nothing}
-use Rattle.strategy_graph.specs.declared.Node.{Node}
-use Rattle.text_lines.specs.declared.fault.Fault.{Fault}
-use Rattle.text_lines.specs.declared.fault.Fault.TheVariants.{Bad, Memory}
-use Rattle.text_lines.proofs.Common.{line_feed, space, point_text, Reads, Gives, ReadsLine, GivesLine, IsWithin, is_free, tail_text}
+use Rattle.position_files.proofs.Common.{Point, Answers, Reply, Rest, To, Nothing, Node, Fault, Bad, line_feed, space, point_text, Gives}
+use Rattle.position_files.proofs.Common.{ReadsLine, GivesLine, IsWithin, is_free, tail_text, arrow, reply_text, replies_text, rest_text}
+use Rattle.position_files.proofs.Common.{answers_text, node_line, start_line, IsSide, ReplyFits, RestFits, OpenRestFits, AnswersFit}
+use Rattle.position_files.proofs.Common.{NodeFits, StartFits, answers_with}
+use Rattle.strategy_graph.specs.Tables.{answers_of}
+use Rattle.strategy_graph.specs.declared.Rest.TheVariants.{Wins}
+use Rattle.text_lines.specs.declared.fault.Fault.TheVariants.{Memory}
+use Rattle.text_lines.proofs.Common.{Reads}
 use Rattle.position_files.proofs.Spellings.{side_fits}
-use Rattle.position_files.proofs.Common.{arrow, reply_text, replies_text, rest_text, answers_text, node_line, start_line, IsSide, ReplyFits}
-use Rattle.position_files.proofs.Common.{RestFits, OpenRestFits, AnswersFit, NodeFits, StartFits, answers_with}
 use Rattle.text_lines.proofs.Cuts.{same_word, is_free-append}
 use Rattle.text_lines.proofs.Decimals.{decimal-free}
 use Rattle.text_lines.proofs.Items.{AreItems, items_tail, items_text-injective}
@@ -28,8 +25,7 @@ module _ (width height : ℕ) (wide : IsSide width) (high : IsSide height) where
 
   reply_words : (word a : List ℕ) (t : Option (List ℕ)) (r : Reply) → ReplyFits width height r → word ≡ a ++ tail_text arrow t
       → is_free arrow a ≡ true → word ≡ reply_text r → (a ≡ point_text r.at) × (t ≡ Some (decimal r.next))
-  reply_words word a t r fits parts free e =
-      same_word arrow a t (point_text r.at) (Some (decimal r.next)) free
+  reply_words word a t r fits parts free e = same_word arrow a t (point_text r.at) (Some (decimal r.next)) free
       (point-free arrow width height (inr (omega arith)) (λ same. absurd (omega arith)) (side_fits width wide) (side_fits height high)
       r.at fits.at) (sym parts ∙ e)
 
@@ -162,8 +158,7 @@ module _ (width height : ℕ) (wide : IsSide width) (high : IsSide height) where
 
   pub node_words : (line a : List ℕ) (t : Option (List ℕ)) (n : Node) → NodeFits width height n → line ≡ a ++ tail_text space t
       → is_free space a ≡ true → line ≡ node_line n → (a ≡ point_text n.attack) × (t ≡ Some (answers_text (answers_of n)))
-  node_words line a t n fits parts free e =
-      same_word space a t (point_text n.attack) (Some (answers_text (answers_of n))) free
+  node_words line a t n fits parts free e = same_word space a t (point_text n.attack) (Some (answers_text (answers_of n))) free
       ((point_items width height (side_fits width wide) (side_fits height high)).free n.attack fits.attack) (sym parts ∙ e)
 
   pub bad_attack : (line a : List ℕ) (t : Option (List ℕ)) → line ≡ a ++ tail_text space t → is_free space a ≡ true
@@ -192,8 +187,7 @@ module _ (width height : ℕ) (wide : IsSide width) (high : IsSide height) where
   answers-free a fits = search (rules, is_free-append, rest-free, replies-free)
 
   pub node_line-free : (n : Node) → NodeFits width height n → is_free line_feed (node_line n) ≡ true
-  node_line-free n fits =
-      is_free-append line_feed (point_text n.attack) (space ∷ answers_text (answers_of n))
+  node_line-free n fits = is_free-append line_feed (point_text n.attack) (space ∷ answers_text (answers_of n))
       (point-free line_feed width height (inl (omega arith)) (λ e. absurd (omega (arith, e))) (side_fits width wide)
       (side_fits height high) n.attack fits.attack) (answers-free (answers_of n) fits.answers)
 

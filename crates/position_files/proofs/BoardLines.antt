@@ -3,26 +3,18 @@ use Rattle.std.proofs.Common.{◌≡◌, ℕ, true, sym, ap, subst, ◌∙◌, L
 use Rattle.std.proofs.Common.{None, rules}
 use Rattle.std.specs.List.{AllByRecursion}
 use Rattle.std.proofs.lemmas.List.{append_cancel_left, ext_get_or}
-use Rattle.game_rules.specs.declared.RuleKind.{RuleKind}
-use Rattle.game_rules.specs.declared.Side.{Side}
-use Rattle.game_rules.specs.declared.Side.TheVariants.{Black, White}
-use Rattle.game_rules.specs.declared.Point.{Point}
-use Rattle.game_rules.specs.declared.Cell.TheVariants.{Empty}
-use Rattle.game_rules.specs.declared.TheConstants.{MIN_SIDE}
-use Rattle.game_rules.specs.declared.RuleKind.TheVariants.{Freestyle}
+use Rattle.position_files.proofs.Common.{RuleKind, Side, Black, Point, Empty, MIN_SIDE, Freestyle, Grid, IsBoard, is_stone_of, Fault, Bad}
+use Rattle.position_files.proofs.Common.{line_feed, text_of, point_text, points_text, IsWithin, is_free, LeavesAt, ReadsLine, stones}
+use Rattle.position_files.proofs.Common.{rule_line, size_line, black_line, white_line, board_lines, AreSides, IsSide, SameBut, at_line}
+use Rattle.position_files.proofs.Common.{rule_word, size_text, IsBoardLines, IsSectionFault}
+use Rattle.game_rules.specs.declared.Side.TheVariants.{White}
 use Rattle.game_rules.proofs.Marks.{empty_board, point_at, marked, same_tests, marked-map, marked-none}
-use Rattle.game_rules.proofs.Common.{Grid, IsBoard, is_stone_of}
 use Rattle.game_rules.proofs.Cells.{without_white, blacks_of, IsBoard-blacks, black_kept, white_gone, cell-by_stones}
-use Rattle.text_lines.specs.declared.fault.Fault.{Fault}
-use Rattle.text_lines.specs.declared.fault.Fault.TheVariants.{Bad}
-use Rattle.text_lines.proofs.Common.{line_feed, text_of, point_text, points_text, IsWithin, is_free, LeavesAt, ReadsLine}
 use Rattle.text_lines.proofs.Cuts.{is_free-append}
 use Rattle.text_lines.proofs.Items.{items_text-injective}
 use Rattle.text_lines.proofs.LineLaws.{point_items, points-free, same_line}
 use Rattle.text_lines.proofs.TextLaws.{text_of-cons, text_of-push, AreFree, same_lines}
 use Rattle.position_files.proofs.Spellings.{side_fits, size_text-injective, rule_word-free, size-free}
-use Rattle.position_files.proofs.Common.{stones, rule_line, size_line, black_line, white_line, board_lines, AreSides, IsSide, SameBut}
-use Rattle.position_files.proofs.Common.{at_line, rule_word, size_text, IsBoardLines, IsSectionFault}
 use Rattle.position_files.proofs.Stones.{stones-within, stones-empty, stones-marked, IsBoard-empty}
 
 pub width_side : (b : Grid) → IsBoard b → IsSide b.width
@@ -121,10 +113,8 @@ blacks_black : (b : Grid) → IsBoard b → stones (blacks_of b) Black ≡ stone
 blacks_black b ok = search (rules, stones-marked, blacks_of, IsBoard-blacks, marked-map, point_at, without_white, black_kept)
 
 blacks_white : (b : Grid) → IsBoard b → stones (blacks_of b) White ≡ []
-blacks_white b ok =
-    stones-marked (blacks_of b) White (IsBoard-blacks b ok)
-    ∙ marked-map (point_at b.width) (is_stone_of White) (λ _. false) without_white white_gone 0 b.cells
-    ∙ marked-none (point_at b.width) 0 b.cells
+blacks_white b ok = stones-marked (blacks_of b) White (IsBoard-blacks b ok) ∙ marked-map
+    (point_at b.width) (is_stone_of White) (λ _. false) without_white white_gone 0 b.cells ∙ marked-none (point_at b.width) 0 b.cells
 
 -- ---- one board has these stones
 
@@ -146,13 +136,11 @@ same_sizes w h v k fa fb e = size_text-injective (w, h) (v, k) fa fb (append_can
 pub same_stones : (word : List ℕ) (a b : Grid) (s : Side) → IsBoard a → a.width ≡ b.width → a.height ≡ b.height
     → word ++ points_text (stones a s) ≡ word ++ points_text (stones b s) → stones a s ≡ stones b s
 same_stones word a b s ok w h e =
-    let fits : AllByRecursion (IsWithin a.width a.height) (stones b s) =
-    subst (λ n. AllByRecursion (IsWithin n a.height) (stones b s)) (sym w)
-    (subst (λ n. AllByRecursion (IsWithin b.width n) (stones b s)) (sym h) (stones-within b s)) in
+    let fits : AllByRecursion (IsWithin a.width a.height) (stones b s) = subst (λ n. AllByRecursion (IsWithin n a.height) (stones b s))
+    (sym w) (subst (λ n. AllByRecursion (IsWithin b.width n) (stones b s)) (sym h) (stones-within b s)) in
     items_text-injective (IsWithin a.width a.height) point_text
-    (point_items a.width a.height (side_fits a.width (width_side a ok)) (side_fits a.height (height_side a ok))) (stones a s)
-    (stones b s) (stones-within a s) fits
-    (append_cancel_left word (points_text (stones a s)) (points_text (stones b s)) e)
+    (point_items a.width a.height (side_fits a.width (width_side a ok)) (side_fits a.height (height_side a ok)))
+    (stones a s) (stones b s) (stones-within a s) fits (append_cancel_left word (points_text (stones a s)) (points_text (stones b s)) e)
 
 rule_known : (kind other : RuleKind) → rule_line kind ≡ rule_line other → kind ≡ other
 rule_known kind other e = search rules
@@ -238,19 +226,17 @@ module _ (bytes : List ℕ) where
             let front : List (List ℕ) = rule_line is.0 ∷ size_line b.width b.height ∷ [] in
             let whole : bytes ≡ text_of (front ++ black_line b ∷ []) ++ others =
             subst (λ (l : List (List ℕ)). bytes ≡ text_of (take 3 l) ++ others) is.3 e in
-            let same = same_lines (rule_line kind ∷ size_line width height ∷ []) front r2 (black_line b ++ line_feed ∷ others)
-            (rule-free kind, (size_line-free width height sides, tt))
+            let same = same_lines (rule_line kind ∷ size_line width height ∷ []) front r2
+            (black_line b ++ line_feed ∷ others) (rule-free kind, (size_line-free width height sides, tt))
             (rule-free is.0, (size_line-free b.width b.height (sides_of b is.2), tt)) refl
             (sym two_lines ∙ whole ∙ sym (text_of-push front (black_line b) others)) in
             let size : size_line width height ≡ size_line b.width b.height = let f = same.0 in cc in
             let now = same_sizes width height b.width b.height sides (sides_of b is.2) size in
-            none (blacks_of b) others (IsBoard-blacks b is.2)
-            (record {
+            none (blacks_of b) others (IsBoard-blacks b is.2) (record {
               width = sym now.0 ∙ sym (ap (λ (g : Grid). g.width) empty);
               height = sym now.1 ∙ sym (ap (λ (g : Grid). g.height) empty);
               others = blacks_white b is.2 ∙ sym (none_at_first width height b0 White sides empty);
-            })
-            (same.1 ∙ ap (λ (ps : List Point). (codes "black" ++ points_text ps) ++ line_feed ∷ others) (sym (blacks_black b is.2)));
+            }) (same.1 ∙ ap (λ (ps : List Point). (codes "black" ++ points_text ps) ++ line_feed ∷ others) (sym (blacks_black b is.2)));
       }
 
       pub no_white_line : (b1 : Grid) (r3 : List ℕ) → IsBoard b1 → SameBut Black b0 b1
@@ -262,8 +248,7 @@ module _ (bytes : List ℕ) where
           let w : b1.width ≡ width = put.width ∙ ap (λ (g : Grid). g.width) empty in
           let h : b1.height ≡ height = put.height ∙ ap (λ (g : Grid). g.height) empty in
           let known : List (List ℕ) = rule_line kind ∷ size_line b1.width b1.height ∷ black_line b1 ∷ [] in
-          let lines : bytes ≡ text_of known ++ r3 =
-          two_lines ∙ ap (λ n. text_of (rule_line kind ∷ size_line n height ∷ []) ++ r2) (sym w)
+          let lines : bytes ≡ text_of known ++ r3 = two_lines ∙ ap (λ n. text_of (rule_line kind ∷ size_line n height ∷ []) ++ r2) (sym w)
           ∙ ap (λ n. text_of (rule_line kind ∷ size_line b1.width n ∷ []) ++ r2) (sym h)
           ∙ ap (λ (l : List ℕ). text_of (rule_line kind ∷ size_line b1.width b1.height ∷ []) ++ l) e3
           ∙ text_of-push (rule_line kind ∷ size_line b1.width b1.height ∷ []) (black_line b1) r3 in
@@ -278,13 +263,8 @@ module _ (bytes : List ℕ) where
                 let front : List (List ℕ) = rule_line is.0 ∷ size_line b.width b.height ∷ black_line b ∷ [] in
                 let whole : bytes ≡ text_of (front ++ white_line b ∷ []) ++ others =
                 subst (λ (l : List (List ℕ)). bytes ≡ text_of (take 4 l) ++ others) is.3 e in
-                let same = same_lines known front r3 (white_line b ++ line_feed ∷ others) (
-                  rule-free kind,
-                  (
-                    size_line-free b1.width b1.height (sides_of b1 ok),
-                    (stones-free (codes "black") b1 Black ok refl, tt),
-                  ),
-                )
+                let same = same_lines known front r3 (white_line b ++ line_feed ∷ others)
+                (rule-free kind, (size_line-free b1.width b1.height (sides_of b1 ok), (stones-free (codes "black") b1 Black ok refl, tt)))
                 (rule-free is.0, (size_line-free b.width b.height (sides_of b is.2), (stones-free (codes "black") b Black is.2 refl, tt)))
                 refl (sym lines ∙ whole ∙ sym (text_of-push front (white_line b) others)) in
                 let size : size_line b1.width b1.height ≡ size_line b.width b.height = let f = same.0 in cc in

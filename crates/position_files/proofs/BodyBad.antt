@@ -1,24 +1,16 @@
 -- Where bytes leave the lines of a table up to its last node.
-use Rattle.std.proofs.Common.{rules}
-use Rattle.std.proofs.Common.{◌≡◌, ℕ, ◌^◌, ◌≤◌, ◌<◌, refl, sym, ap, subst, ◌∙◌, arith, List, [], ◌∷◌, ◌++◌, length, take, map, None, codes}
+use Rattle.std.proofs.Common.{rules, ◌≡◌, ℕ, ◌^◌, ◌≤◌, ◌<◌, refl, sym, ap, subst, ◌∙◌, arith, List, [], ◌∷◌, ◌++◌, length, take, map, None}
+use Rattle.std.proofs.Common.{codes}
 use Rattle.std.specs.List.{AllByRecursion}
 use Rattle.std.specs.Fmt.{decimal}
 use Rattle.std.proofs.lemmas.Fmt.{decimal_injective}
 use Rattle.std.proofs.lemmas.List.{append-nil, append_cancel_left}
-use Rattle.game_rules.specs.Grid.{Grid, IsBoard}
-use Rattle.game_rules.specs.declared.RuleKind.{RuleKind}
-use Rattle.strategy_graph.specs.Tables.{IsTable}
-use Rattle.strategy_graph.specs.declared.Node.{Node}
-use Rattle.strategy_graph.specs.declared.TheConstants.{MAX_NODES}
+use Rattle.position_files.proofs.Common.{Grid, IsBoard, RuleKind, IsTable, Node, MAX_NODES, line_feed, text_of, LeavesAt, ReadsLine}
+use Rattle.position_files.proofs.Common.{IsBetween, MAX_MOVES, Body, HeadError, board_lines, node_line, nodes_lines, NodeFits, BodyFits}
+use Rattle.position_files.proofs.Common.{body_lines, IsBodyLines, after_lines, IsBoardLines, AreNodes, AreNodeLines, IsSectionFault}
 use Rattle.strategy_graph.proofs.Filling.{corner, filled_table}
-use Rattle.text_lines.proofs.Common.{line_feed, text_of, LeavesAt, ReadsLine, IsBetween}
 use Rattle.text_lines.proofs.TextLaws.{AreFree, free_append, same_lines, text_of-push}
 use Rattle.text_lines.proofs.Leaving.{HasParts}
-use Rattle.position_files.specs.declared.TheConstants.{MAX_MOVES}
-use Rattle.position_files.specs.declared.tables.Body.{Body}
-use Rattle.position_files.specs.declared.error.HeadError.{HeadError}
-use Rattle.position_files.proofs.Common.{board_lines, node_line, nodes_lines, NodeFits, BodyFits, body_lines, IsBodyLines}
-use Rattle.position_files.proofs.Common.{after_lines, IsBoardLines, AreNodes, AreNodeLines, IsSectionFault}
 use Rattle.position_files.proofs.SectionLaws.{number-free, fault_after, nodes_on}
 use Rattle.position_files.proofs.BoardLines.{sides_of, board-free, same_sizes}
 use Rattle.position_files.proofs.Completions.{corner_on, nodes_fit}
@@ -46,10 +38,9 @@ unfolding board_lines
 six_same kind rule b c moves made count other ok_b ok_c fits_count fits_other lines =
     search (rules, same_sizes, sides_of, decimal_injective, append_cancel_left)
 
-pub six_tell : (kind rule : RuleKind) (b c : Grid) (moves made count other : ℕ) (rest others bytes : List ℕ) → IsBoard b → IsBoard c
-    → moves < 2 ^ 64 → made < 2 ^ 64 → count < 2 ^ 64 → other < 2 ^ 64
-    → bytes ≡ text_of (six kind b moves count) ++ rest → bytes ≡ text_of (six rule c made other) ++ others
-    → SixTell b c count other rest others
+pub six_tell : (kind rule : RuleKind) (b c : Grid) (moves made count other : ℕ) (rest others bytes : List ℕ) → IsBoard b
+    → IsBoard c → moves < 2 ^ 64 → made < 2 ^ 64 → count < 2 ^ 64 → other < 2 ^ 64 → bytes ≡ text_of (six kind b moves count) ++ rest
+    → bytes ≡ text_of (six rule c made other) ++ others → SixTell b c count other rest others
 unfolding board_lines
 six_tell kind rule b c moves made count other rest others bytes ok_b ok_c few_moves few_made few_count few_other e f =
     let same = same_lines (six kind b moves count) (six rule c made other) rest others

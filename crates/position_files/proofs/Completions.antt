@@ -1,21 +1,12 @@
 -- What a text that has begun can go on with, and that what a table's text names fits.
-use Rattle.std.proofs.Common.{rules}
-use Rattle.std.proofs.Common.{◌≡◌, ℕ, zero, suc, ◌≤◌, ◌<◌, true, refl, arith, List, [], ◌∷◌, ◌++◌, length, replicate, get_or, Some}
+use Rattle.std.proofs.Common.{rules, ◌≡◌, ℕ, zero, suc, ◌≤◌, ◌<◌, true, refl, arith, List, [], ◌∷◌, ◌++◌, length, replicate, get_or, Some}
 use Rattle.std.specs.List.{AllByRecursion}
-use Rattle.game_rules.specs.Grid.{Grid, IsBoard, is_on}
-use Rattle.game_rules.specs.declared.Point.{Point}
+use Rattle.position_files.proofs.Common.{Grid, IsBoard, is_on, Point, Answers, names_below, IsNode, IsTable, TableOnBoard, RepliesOn, Reply}
+use Rattle.position_files.proofs.Common.{Rest, To, Node, MAX_NODES, IsWithin, IsSide, AnswersFit, NodeFits, ReplyFits, RestFits}
 use Rattle.game_rules.proofs.Boards.{on_x, on_y}
-use Rattle.strategy_graph.specs.Tables.{Answers, is_winning, rest_node, names_below, IsNode, IsTable, TableOnBoard}
-use Rattle.strategy_graph.specs.Tables.{NamesOnBoard, RepliesOn}
-use Rattle.strategy_graph.specs.declared.Reply.{Reply}
-use Rattle.strategy_graph.specs.declared.Rest.{Rest}
-use Rattle.strategy_graph.specs.declared.Rest.TheVariants.{To}
-use Rattle.strategy_graph.specs.declared.Node.{Node}
-use Rattle.strategy_graph.specs.declared.TheConstants.{MAX_NODES}
+use Rattle.strategy_graph.proofs.Common.{is_winning, rest_node, NamesOnBoard}
 use Rattle.strategy_graph.proofs.Naming.{reply-below, rest-below}
 use Rattle.strategy_graph.proofs.Filling.{corner, node_at}
-use Rattle.text_lines.specs.Reading.{IsWithin}
-use Rattle.position_files.proofs.Common.{IsSide, AnswersFit, NodeFits, ReplyFits, RestFits}
 use Rattle.position_files.proofs.Stones.{is_on_within}
 
 pub corner_on : (b : Grid) → IsBoard b → NamesOnBoard b corner

@@ -1,24 +1,14 @@
 -- Where bytes leave the texts of games, and that a text is that of one game.
-use Rattle.std.proofs.Common.{rules, ◌≡◌, ℕ, ◌+◌, true, refl, sym, ap, subst, ◌∙◌, arith, List, [], ◌∷◌, ◌++◌}
-use Rattle.std.proofs.Common.{length, take, None, Some, Err, codes}
+use Rattle.std.proofs.Common.{rules, ◌≡◌, ℕ, ◌+◌, true, refl, sym, ap, subst, ◌∙◌, arith, List, [], ◌∷◌, ◌++◌, length, take, None, Some}
+use Rattle.std.proofs.Common.{Err, codes}
 use Rattle.std.specs.List.{AllByRecursion}
 use Rattle.std.proofs.lemmas.List.{append_cancel_left}
-use Rattle.game_rules.proofs.Common.{Grid, IsBoard}
-use Rattle.game_rules.specs.declared.Point.{Point}
-use Rattle.game_rules.specs.declared.RuleKind.{RuleKind}
-use Rattle.game_rules.specs.declared.RuleKind.TheVariants.{Freestyle}
-use Rattle.game_rules.specs.declared.TheConstants.{MIN_SIDE}
-use Rattle.foul_judge.specs.Lawful.{refusal}
-use Rattle.foul_judge.specs.declared.position.PositionError.{PositionError}
-use Rattle.position_files.specs.declared.GameFile.{GameFile}
-use Rattle.position_files.specs.declared.error.HeadError.{HeadError}
+use Rattle.position_files.proofs.Common.{Grid, IsBoard, Point, RuleKind, Freestyle, MIN_SIDE, refusal, PositionError, GameFile, HeadError}
+use Rattle.position_files.proofs.Common.{Fault, Bad, line_feed, text_of, FirstBad, LeavesAt, point_text, points_text, Gives, GivesLine}
+use Rattle.position_files.proofs.Common.{ReadsLine, IsWithin, is_free, board_lines, IsSide, IsBoardLines, IsSectionFault, after_lines}
+use Rattle.position_files.proofs.Common.{at_line, AreOn, IsGameText, IsTextOfGame, game_text, moves_line, IsGameFault, in_game}
 use Rattle.position_files.specs.declared.error.HeadError.TheVariants.{BadLine as BadHead, Memory as NoRoom}
-use Rattle.text_lines.specs.declared.fault.Fault.{Fault}
-use Rattle.text_lines.specs.declared.fault.Fault.TheVariants.{Bad, Memory}
-use Rattle.text_lines.proofs.Common.{line_feed, text_of, FirstBad, LeavesAt, point_text, points_text, Gives, GivesLine, ReadsLine, IsWithin}
-use Rattle.text_lines.proofs.Common.{is_free}
-use Rattle.position_files.proofs.Common.{board_lines, IsSide, IsBoardLines, IsSectionFault, after_lines, at_line, AreOn, IsGameText}
-use Rattle.position_files.proofs.Common.{IsTextOfGame, game_text, moves_line, IsGameFault, in_game}
+use Rattle.text_lines.specs.declared.fault.Fault.TheVariants.{Memory}
 use Rattle.text_lines.proofs.Cuts.{is_free-append}
 use Rattle.text_lines.proofs.Items.{items_text-injective}
 use Rattle.text_lines.proofs.LineLaws.{bad_line, point_items, points-free}
@@ -40,8 +30,7 @@ module _ (width height : ℕ) (wide : IsSide width) (high : IsSide height) where
       → moves_line ms ≡ moves_line ns → ms ≡ ns
   moves-injective ms ns fits_ms fits_ns e =
       items_text-injective (IsWithin width height) point_text (point_items width height (side_fits width wide) (side_fits height high)) ms
-      ns fits_ms fits_ns
-      (append_cancel_left (codes "moves") (points_text ms) (points_text ns) e)
+      ns fits_ms fits_ns (append_cancel_left (codes "moves") (points_text ms) (points_text ns) e)
 
   -- a first line that is not that of moves
   pub no_moves : (bytes text rest : List ℕ) → is_free line_feed text ≡ true → bytes ≡ text ++ line_feed ∷ rest → (fault : Fault)
@@ -72,11 +61,8 @@ lines-free ls is = subst AreFree (sym is.5) (game-free is.0 is.1 is.2 is.3 is.4)
 
 lines_of : (t : List ℕ) → IsGameText t → (ls : List (List ℕ)) × IsGameLines ls × (t ≡ text_of ls)
 unfolding IsGameLines game_text
-lines_of t is = (
-  game_lines is.0.kind is.0.board is.0.moves,
-  (is.0.kind, is.0.board, is.0.moves, is.1.board, is.1.on_board, refl),
-  is.1.spelled,
-)
+lines_of t is =
+    (game_lines is.0.kind is.0.board is.0.moves, (is.0.kind, is.0.board, is.0.moves, is.1.board, is.1.on_board, refl), is.1.spelled)
 
 text_from : (ls : List (List ℕ)) → IsGameLines ls → IsGameText (text_of ls)
 unfolding IsGameLines game_text
@@ -87,10 +73,8 @@ head_part : HasParts (codes "renju-game 1" ∷ []) IsBoardLines IsGameLines
 unfolding IsGameLines
 head_part = record {
   free = (refl, tt);
-  whole = λ l is. (
-    moves_line [] ∷ [],
-    (is.0, is.1, [], is.2, tt, ap (λ (k : List (List ℕ)). codes "renju-game 1" ∷ k ++ moves_line [] ∷ []) is.3),
-  );
+  whole = λ l is.
+      (moves_line [] ∷ [], (is.0, is.1, [], is.2, tt, ap (λ (k : List (List ℕ)). codes "renju-game 1" ∷ k ++ moves_line [] ∷ []) is.3));
   parts = λ ls is. record {
     first = codes "renju-game 1" ∷ [];
     part = board_lines is.0 is.1;
@@ -124,14 +108,12 @@ pub game_found : (kind : RuleKind) (b found : Grid) (ms : List Point) (bytes res
     bytes
 unfolding game_text
 game_found kind b found ms bytes rest tail more ok on e1 e2 e3 e4 same =
-    let lines : rest ≡ text_of (board_lines kind b ++ moves_line ms ∷ []) ++ more = e2
-    ∙ ap (λ (t : List ℕ). text_of (board_lines kind b) ++ t) e3 ∙ text_of-push (board_lines kind b) (moves_line ms) more in
-    let made : IsTextOfGame (record { kind = kind; board = b; moves = ms }) bytes =
-    record {
+    let lines : rest ≡ text_of (board_lines kind b ++ moves_line ms ∷ []) ++ more =
+    e2 ∙ ap (λ (t : List ℕ). text_of (board_lines kind b) ++ t) e3 ∙ text_of-push (board_lines kind b) (moves_line ms) more in
+    let made : IsTextOfGame (record { kind = kind; board = b; moves = ms }) bytes = record {
       board = ok;
       on_board = on;
-      spelled = whole_text (codes "renju-game 1") (board_lines kind b ++ moves_line ms ∷ []) bytes
-          rest more e1 lines e4;
+      spelled = whole_text (codes "renju-game 1") (board_lines kind b ++ moves_line ms ∷ []) bytes rest more e1 lines e4;
     } in
     subst (λ (g : Grid). IsTextOfGame (record { kind = kind; board = g; moves = ms }) bytes) (sym same) made
 
@@ -167,8 +149,7 @@ module _ (bytes : List ℕ) where
 
       -- other lines of a game that the bytes begin with have the same board, and the same line after it
       same_moves_line : (other : RuleKind) (c : Grid) (l others : List ℕ) → IsBoard c
-          → bytes ≡ text_of ((codes "renju-game 1" ∷ board_lines other c) ++ l ∷ []) ++ others
-          → (c ≡ b) × (tail ≡ l ++ line_feed ∷ others)
+          → bytes ≡ text_of ((codes "renju-game 1" ∷ board_lines other c) ++ l ∷ []) ++ others → (c ≡ b) × (tail ≡ l ++ line_feed ∷ others)
       same_moves_line other c l others ok_c f =
           let count : length (codes "renju-game 1" ∷ board_lines kind b) ≡ length (codes "renju-game 1" ∷ board_lines other c) =
           let here = board-length kind b in let there = board-length other c in omega (arith, here, there) in
@@ -216,11 +197,8 @@ module _ (bytes : List ℕ) where
 pub unlawful_fault : (file : GameFile) (bytes : List ℕ) (why : PositionError) → IsTextOfGame file bytes
     → refusal file.kind file.board ≡ Some why → IsGameText bytes × ((other : GameFile) → IsTextOfGame other bytes
     → refusal other.kind other.board ≡ Some why)
-unlawful_fault file bytes why text first = (
-  (file, text),
-  λ other is. ap (λ (f : GameFile). refusal f.kind f.board)
-      (one_game file other bytes text is) ∙ first,
-)
+unlawful_fault file bytes why text first =
+    ((file, text), λ other is. ap (λ (f : GameFile). refusal f.kind f.board) (one_game file other bytes text is) ∙ first)
 
 -- moves within the width and the height of the board are on it
 pub sized : (b : Grid) (width height : ℕ) (ms : List Point) → width ≡ b.width → height ≡ b.height

@@ -1,19 +1,13 @@
 -- Texts that grow by one piece after another.
-use Rattle.std.proofs.Common.{rules}
-use Rattle.std.proofs.Common.{◌≡◌, ℕ, ◌+◌, sym, ap, ◌∙◌, List, [], ◌∷◌, ◌++◌, append_assoc, take, map, length, Some, slice_get, codes}
+use Rattle.std.proofs.Common.{rules, ◌≡◌, ℕ, ◌+◌, sym, ap, ◌∙◌, List, [], ◌∷◌, ◌++◌, append_assoc, take, map, length, Some, slice_get}
+use Rattle.std.proofs.Common.{codes}
 use Rattle.std.specs.Fmt.{decimal}
 use Rattle.std.proofs.lemmas.List.{map-append, take_more, flat_map_more}
 use Rattle.std.proofs.lemmas.List.Concat.{flat_map-append}
 use Rattle.std.proofs.lemmas.Option.{slice_get_within, get_or_from_slice_get}
 use Rattle.std.proofs.Math.Seq.{take-length}
-use Rattle.game_rules.specs.Grid.{Grid}
-use Rattle.game_rules.specs.declared.RuleKind.{RuleKind}
-use Rattle.strategy_graph.specs.Tables.{Answers}
-use Rattle.strategy_graph.specs.declared.Node.{Node}
-use Rattle.strategy_graph.specs.declared.roots.Root.TheVariants.{Attack, Defend}
-use Rattle.text_lines.specs.Lines.{ended, text_of}
-use Rattle.position_files.proofs.Common.{rule_line, size_line, black_line, white_line, board_lines, node_line, start_line, nodes_lines}
-use Rattle.position_files.proofs.Common.{table_text}
+use Rattle.position_files.proofs.Common.{Grid, RuleKind, Answers, Node, Attack, Defend, ended, text_of, rule_line, size_line, black_line}
+use Rattle.position_files.proofs.Common.{white_line, board_lines, node_line, start_line, nodes_lines, table_text}
 
 four_lines : (old a b c d : List ℕ) → (((old ++ ended a) ++ ended b) ++ ended c) ++ ended d ≡ old ++ text_of (a ∷ b ∷ c ∷ d ∷ [])
 four_lines old a b c d = simp append_assoc
@@ -38,10 +32,9 @@ board_grown kind b first none t0 t1 e e0 e1 = search rules
 pub node_grown : (old before after : List ℕ) (t : List Node) (i : ℕ) (n : Node) → before ≡ old ++ text_of (map node_line (take i t))
     → slice_get t i ≡ Some n → after ≡ before ++ ended (node_line n) → after ≡ old ++ text_of (map node_line (take (i + 1) t))
 node_grown old before after t i n so_far at e =
-    let more : take (i + 1) t ≡ take i t ++ n ∷ [] = take_more t i n (slice_get_within t i n at)
-    ∙ ap (λ (m : Node). take i t ++ m ∷ []) (get_or_from_slice_get t i n n at) in
-    e ∙ ap (λ (l : List ℕ). l ++ ended (node_line n)) so_far
-    ∙ flat_map_more ended old (map node_line (take i t)) (node_line n)
+    let more : take (i + 1) t ≡ take i t ++ n ∷ [] =
+    take_more t i n (slice_get_within t i n at) ∙ ap (λ (m : Node). take i t ++ m ∷ []) (get_or_from_slice_get t i n n at) in
+    e ∙ ap (λ (l : List ℕ). l ++ ended (node_line n)) so_far ∙ flat_map_more ended old (map node_line (take i t)) (node_line n)
     ∙ ap (λ (ls : List (List ℕ)). old ++ text_of ls) (sym (map-append node_line (take i t) (n ∷ [])))
     ∙ ap (λ (ns : List Node). old ++ text_of (map node_line ns)) (sym more)
 
@@ -59,9 +52,7 @@ table_grown nodes moves count old t0 t1 t2 len e0 e1 e2 =
     let m : List ℕ = ended (codes "moves " ++ decimal moves) in
     let k : List ℕ = ended (codes "nodes " ++ decimal count) in
     let ns : List ℕ = text_of (map node_line nodes) in
-    e2 ∙ ap (λ (l : List ℕ). l ++ ns) (e1 ∙ ap (λ (l : List ℕ). l ++ k) e0)
-    ∙ append_assoc (old ++ m) k ns
-    ∙ append_assoc old m (k ++ ns)
+    e2 ∙ ap (λ (l : List ℕ). l ++ ns) (e1 ∙ ap (λ (l : List ℕ). l ++ k) e0) ∙ append_assoc (old ++ m) k ns ∙ append_assoc old m (k ++ ns)
     ∙ ap (λ n. old ++ text_of ((codes "moves " ++ decimal moves) ∷ (codes "nodes " ++ decimal n) ∷ map node_line nodes)) len
 
 -- lines after the lines of a text
@@ -81,6 +72,5 @@ pub defend_grown : (kind : RuleKind) (b : Grid) (nodes : List Node) (a : Answers
     → t0 ≡ text_of (codes "renju-table 2" ∷ board_lines kind b ++ nodes_lines nodes moves) → t1 ≡ t0 ++ ended (start_line a)
     → t1 ≡ table_text kind b nodes (Defend a) moves
 unfolding table_text
-defend_grown kind b nodes a moves t0 t1 e0 e1 =
-    e1 ∙ ap (λ (l : List ℕ). l ++ ended (start_line a)) e0
+defend_grown kind b nodes a moves t0 t1 e0 e1 = e1 ∙ ap (λ (l : List ℕ). l ++ ended (start_line a)) e0
     ∙ flat_map_more ended [] (codes "renju-table 2" ∷ board_lines kind b ++ nodes_lines nodes moves) (start_line a)

@@ -1,25 +1,16 @@
 -- Where bytes leave the texts of positions, and that a text is that of one position.
-use Rattle.std.proofs.Common.{rules, ◌≡◌, ℕ, ◌+◌, refl, sym, ap, subst, ◌∙◌, arith, List, [], ◌∷◌, ◌++◌, length}
-use Rattle.std.proofs.Common.{take, codes, Some}
+use Rattle.std.proofs.Common.{rules, ◌≡◌, ℕ, ◌+◌, refl, sym, ap, subst, ◌∙◌, arith, List, [], ◌∷◌, ◌++◌, length, take, codes, Some}
 use Rattle.std.proofs.lemmas.List.{append-nil}
-use Rattle.game_rules.proofs.Common.{Grid, IsBoard}
-use Rattle.game_rules.specs.declared.RuleKind.{RuleKind}
-use Rattle.game_rules.specs.declared.RuleKind.TheVariants.{Freestyle}
-use Rattle.game_rules.specs.declared.TheConstants.{MIN_SIDE}
+use Rattle.position_files.proofs.Common.{Grid, IsBoard, RuleKind, Freestyle, MIN_SIDE, refusal, PositionFile, HeadError, line_feed, text_of}
+use Rattle.position_files.proofs.Common.{FirstBad, PositionError, board_lines, position_text, IsTextOfPosition, IsPositionText}
+use Rattle.position_files.proofs.Common.{IsBoardLines, IsSectionFault, IsPositionFault, after_lines, in_file}
 use Rattle.game_rules.proofs.Marks.{empty_board}
-use Rattle.foul_judge.specs.Lawful.{refusal}
-use Rattle.position_files.specs.declared.PositionFile.{PositionFile}
-use Rattle.position_files.specs.declared.error.HeadError.{HeadError}
 use Rattle.position_files.specs.declared.error.HeadError.TheVariants.{BadLine as BadHead, Memory as NoRoom}
-use Rattle.text_lines.proofs.Common.{line_feed, text_of, FirstBad}
 use Rattle.position_files.proofs.Stones.{IsBoard-empty}
 use Rattle.text_lines.proofs.TextLaws.{text_of-cons, AreFree, text_of-injective, whole_text}
 use Rattle.text_lines.proofs.Leaving.{HasParts, leaves_after}
 use Rattle.text_lines.proofs.Badness.{first_bad, too_many}
 use Rattle.position_files.proofs.BoardLines.{board-free, board-length, board_lines-injective, least_side}
-use Rattle.foul_judge.specs.declared.position.PositionError.{PositionError}
-use Rattle.position_files.proofs.Common.{board_lines, position_text, IsTextOfPosition, IsPositionText, IsBoardLines, IsSectionFault}
-use Rattle.position_files.proofs.Common.{IsPositionFault, after_lines, in_file}
 
 -- ---- the lines of a position
 

@@ -1,33 +1,26 @@
 -- A text is that of one value, and nothing is said against the text of a lawful one.
-use Rattle.std.proofs.Common.{rules, ◌≡◌, refl, sym, ◌∙◌, ℕ, List, [], ◌∷◌, ◌++◌, map, subst, ap, length, Some}
-use Rattle.std.proofs.Common.{None}
+use Rattle.std.proofs.Common.{rules, ◌≡◌, refl, sym, ◌∙◌, ℕ, List, [], ◌∷◌, ◌++◌, map, subst, ap, length, Some, None}
 use Rattle.std.proofs.lemmas.List.{length-map}
 use Rattle.text_lines.proofs.Badness.{front_bad}
 use Rattle.position_files.proofs.BoardLines.{board-free, board-length}
 use Rattle.position_files.proofs.AnswerLaws.{start_line-free}
-use Rattle.game_rules.proofs.Common.{Grid, IsPosition}
-use Rattle.game_rules.specs.declared.RuleKind.{RuleKind}
+use Rattle.position_files.proofs.Common.{Grid, RuleKind, refusal, PositionError, PositionFile, TableFile, HeadError, FileError, Unlawful}
+use Rattle.position_files.proofs.Common.{WrongMoves, IsGameFault, GamesReadBack, IsTextOfGame, IsTextOfPosition, board_lines, IsTextOfTable}
+use Rattle.position_files.proofs.Common.{node_line, start_line, IsPositionFault, IsTableFault, HeadsReadBack, NamesFirstBad}
+use Rattle.position_files.proofs.Common.{NodesNameFirstBad, NodesReadBack, PositionsReadBack, StartsNameFirstBad, StartsReadBack}
+use Rattle.position_files.proofs.Common.{TablesReadBack, AreNodeLines, IsBoardLines, IsSectionFault, IsStartLines, text_of, FirstBad}
+use Rattle.position_files.proofs.Common.{GameFile}
+use Rattle.game_rules.proofs.Common.{IsPosition}
 use Rattle.strategy_graph.proofs.Common.{root_depth}
-use Rattle.foul_judge.specs.Lawful.{refusal}
-use Rattle.foul_judge.specs.declared.position.PositionError.{PositionError}
 use Rattle.foul_judge.proofs.Lawfulness.{none_from_lawful}
-use Rattle.position_files.specs.declared.PositionFile.{PositionFile}
-use Rattle.position_files.specs.declared.TableFile.{TableFile}
-use Rattle.position_files.specs.declared.error.HeadError.{HeadError}
 use Rattle.position_files.specs.declared.error.HeadError.TheVariants.{BadLine as BadHead, Memory as NoRoom}
-use Rattle.position_files.specs.declared.error.FileError.{FileError}
-use Rattle.position_files.specs.declared.error.FileError.TheVariants.{BadLine, Unlawful, WrongMoves, Memory}
-use Rattle.position_files.proofs.Common.{IsGameFault, GamesReadBack, IsTextOfGame, IsTextOfPosition, board_lines, IsTextOfTable, node_line}
-use Rattle.position_files.proofs.Common.{start_line, IsPositionFault, IsTableFault, HeadsReadBack, NamesFirstBad, NodesNameFirstBad}
-use Rattle.position_files.proofs.Common.{NodesReadBack, PositionsReadBack, StartsNameFirstBad, StartsReadBack, TablesReadBack, AreNodeLines}
-use Rattle.position_files.proofs.Common.{IsBoardLines, IsSectionFault, IsStartLines}
-use Rattle.text_lines.proofs.Common.{text_of, BeginsWith, FirstBad}
+use Rattle.position_files.specs.declared.error.FileError.TheVariants.{BadLine, Memory}
+use Rattle.text_lines.proofs.Common.{BeginsWith}
 use Rattle.text_lines.proofs.TextLaws.{AreFree, text_of-cons}
 use Rattle.text_lines.proofs.Leaving.{not_left}
 use Rattle.position_files.proofs.SectionLaws.{one_head, one_list, one_start, start_text, node_lines-free}
 use Rattle.position_files.proofs.PositionBad.{one_position}
 use Rattle.position_files.proofs.TableTexts.{one_table}
-use Rattle.position_files.specs.declared.GameFile.{GameFile}
 use Rattle.position_files.specs.declared.error.GameError.{GameError}
 use Rattle.position_files.specs.declared.error.GameError.TheVariants.{Memory as NoGame}
 use Rattle.position_files.proofs.GameLaws.{one_game}

@@ -7,28 +7,19 @@ use Rattle.std.specs.Fmt.{decimal}
 use Rattle.std.proofs.lemmas.List.Concat.{flat_map-append}
 use Rattle.std.proofs.lemmas.List.{take_more, length-map, length-take-le, get_or-map, map-append, append_cancel_left}
 use Rattle.std.proofs.Math.Seq.{take-append_seam}
-use Rattle.game_rules.specs.declared.RuleKind.{RuleKind}
-use Rattle.game_rules.proofs.Common.{Grid}
-use Rattle.text_lines.specs.declared.fault.Fault.{Fault}
-use Rattle.text_lines.specs.declared.fault.Fault.TheVariants.{Bad, Memory}
+use Rattle.position_files.proofs.Common.{RuleKind, Grid, Fault, Bad, line_feed, ended, text_of, LeavesAt, Gives, is_free, GivesLine, Reply}
+use Rattle.position_files.proofs.Common.{Node, MAX_NODES, Nothing, TableOnBoard, RepliesOn, IsNode, IsTable, Answers, Head, board_lines}
+use Rattle.position_files.proofs.Common.{node_line, nodes_lines, NodeFits, ReplyFits, at_line, after_lines, IsSide, AreNodes, AreNodeLines}
+use Rattle.position_files.proofs.Common.{IsSectionFault, StartFits, answers_text, start_line, IsHeadOf, IsNodesOf, IsStartLines, IsStartOf}
+use Rattle.position_files.proofs.Common.{HeadError}
+use Rattle.text_lines.specs.declared.fault.Fault.TheVariants.{Memory}
 use Rattle.text_lines.proofs.TextLaws.{text_of-cons, AreFree, free_take, same_lines, text_of-push}
-use Rattle.text_lines.proofs.Common.{line_feed, ended, text_of, LeavesAt, Gives, is_free, GivesLine}
 use Rattle.text_lines.proofs.LineLaws.{same_line}
 use Rattle.text_lines.proofs.FaultLaws.{gives_bad}
 use Rattle.text_lines.proofs.Leaving.{HasParts, leaves_after, leaves_first}
 use Rattle.text_lines.proofs.Cuts.{is_free-append}
 use Rattle.text_lines.proofs.Decimals.{decimal-free}
-use Rattle.strategy_graph.specs.declared.Reply.{Reply}
-use Rattle.strategy_graph.specs.declared.Node.{Node}
-use Rattle.strategy_graph.specs.declared.TheConstants.{MAX_NODES}
-use Rattle.strategy_graph.specs.declared.Rest.TheVariants.{Nothing}
-use Rattle.strategy_graph.proofs.Common.{TableOnBoard, RepliesOn, IsNode, IsTable, Answers}
 use Rattle.strategy_graph.proofs.Filling.{corner, filled_table, filled_length, node_at}
-use Rattle.position_files.specs.declared.sections.Head.{Head}
-use Rattle.position_files.proofs.Common.{board_lines, node_line, nodes_lines, NodeFits, ReplyFits, at_line, after_lines, IsSide, AreNodes}
-use Rattle.position_files.proofs.Common.{AreNodeLines, IsSectionFault, StartFits, answers_text, start_line, IsHeadOf, IsNodesOf}
-use Rattle.position_files.proofs.Common.{IsStartLines, IsStartOf}
-use Rattle.position_files.specs.declared.error.HeadError.{HeadError}
 use Rattle.position_files.specs.declared.error.HeadError.TheVariants.{BadLine, Memory as NoRoom}
 use Rattle.position_files.proofs.Stones.{is_on_within}
 use Rattle.position_files.proofs.AnswerLaws.{node_line-free, node_line-injective, answers_text-injective, start_line-free}
@@ -63,9 +54,8 @@ unfolding nodes_lines
 body_text kind b nodes moves count bytes r1 r2 r3 rest e1 e2 e3 len e4 =
     let m = codes "moves " ++ decimal moves in
     let k : List ℕ = codes "nodes " ++ decimal (length nodes) in
-    let l2 : r2 ≡ text_of (k ∷ map node_line nodes) ++ rest =
-    e3 ∙ ap (λ n. (codes "nodes " ++ decimal n) ++ line_feed ∷ r3) (sym len) ∙ ap (λ (l : List ℕ). k ++ line_feed ∷ l) e4
-    ∙ text_of-cons k (map node_line nodes) rest in
+    let l2 : r2 ≡ text_of (k ∷ map node_line nodes) ++ rest = e3 ∙ ap (λ n. (codes "nodes " ++ decimal n) ++ line_feed ∷ r3) (sym len)
+    ∙ ap (λ (l : List ℕ). k ++ line_feed ∷ l) e4 ∙ text_of-cons k (map node_line nodes) rest in
     let l1 : r1 ≡ text_of (m ∷ k ∷ map node_line nodes) ++ rest =
     e2 ∙ ap (λ (l : List ℕ). m ++ line_feed ∷ l) l2 ∙ text_of-cons m (k ∷ map node_line nodes) rest in
     e1 ∙ ap (λ (l : List ℕ). text_of (board_lines kind b) ++ l) l1
@@ -186,9 +176,8 @@ module _ (width height : ℕ) (wide : IsSide width) (high : IsSide height) where
   one_start below found other rest more bytes h k =
       let here = start_text found bytes rest h.text in
       let there = start_text other bytes more k.text in
-      let same = same_line (start_line other) more (start_line found) rest
-      (start_line-free width height wide high below other k.start) (start_line-free width height wide high below found h.start)
-      (sym there ∙ here) in
+      let same = same_line (start_line other) more (start_line found) rest (start_line-free width height wide high below other k.start)
+      (start_line-free width height wide high below found h.start) (sym there ∙ here) in
       let text : answers_text other ≡ answers_text found =
       append_cancel_left (codes "start ") (answers_text other) (answers_text found) same.0 in
       (answers_text-injective width height wide high other found k.start.answers h.start.answers text, same.1)

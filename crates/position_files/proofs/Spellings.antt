@@ -1,16 +1,13 @@
 -- Rules and sizes are spelled in one way.
-use Rattle.std.proofs.Common.{◌≡◌, ℕ, ◌^◌, ◌<◌, true, false, cond, sym, ◌∙◌, arith, List, ◌∷◌, ◌++◌, eqb, inl, Option, Some}
-use Rattle.std.proofs.Common.{None, rules}
+use Rattle.std.proofs.Common.{◌≡◌, ℕ, ◌^◌, ◌<◌, true, false, cond, sym, ◌∙◌, arith, List, ◌∷◌, ◌++◌, eqb, inl, Option, Some, None, rules}
 use Rattle.std.specs.Fmt.{decimal}
 use Rattle.std.proofs.lemmas.Bool.{eqb-true, eq-eqb, false≢true}
 use Rattle.std.proofs.lemmas.Fmt.{decimal_injective}
 use Rattle.std.proofs.lemmas.List.{append-nil}
-use Rattle.game_rules.specs.declared.RuleKind.{RuleKind}
-use Rattle.text_lines.proofs.Common.{line_feed, comma, is_free, tail_text}
+use Rattle.position_files.proofs.Common.{RuleKind, line_feed, comma, is_free, tail_text, rule_word, size_text, IsSide, AreSides}
 use Rattle.text_lines.proofs.Cuts.{same_word}
 use Rattle.text_lines.proofs.Decimals.{decimal-free}
 use Rattle.text_lines.proofs.LineLaws.{pair-free}
-use Rattle.position_files.proofs.Common.{rule_word, size_text, IsSide, AreSides}
 
 -- a width or a height is a number of 64 bits
 pub side_fits : (n : ℕ) → IsSide n → n < 2 ^ 64

@@ -1,26 +1,21 @@
 -- The stones of a board, as they come in the list of its cells.
-use Rattle.std.proofs.Common.{rules}
-use Rattle.std.proofs.Common.{◌≡◌, ℕ, zero, suc, ◌+◌, ◌-◌, ◌*◌, ◌/◌, ◌%◌, ◌≤◌, ◌<◌, Bool, true, false, cond, not, ◌&&◌, refl, sym, ap, ◌∙◌}
-use Rattle.std.proofs.Common.{arith, List, [], ◌∷◌, ◌++◌, length, take, drop, set, get_or, filter, nat_lt, replicate, inl, inr}
+use Rattle.std.proofs.Common.{rules, ◌≡◌, ℕ, zero, suc, ◌+◌, ◌-◌, ◌*◌, ◌/◌, ◌%◌, ◌≤◌, ◌<◌, Bool, true, false, cond, not, ◌&&◌, refl, sym}
+use Rattle.std.proofs.Common.{ap, ◌∙◌, arith, List, [], ◌∷◌, ◌++◌, length, take, drop, set, get_or, filter, nat_lt, replicate, inl, inr}
 use Rattle.std.specs.List.{flat_map, range_with_len, AllByRecursion}
 use Rattle.std.proofs.lemmas.Bool.{and_parts, not-true, lt-ltb, both_ways}
 use Rattle.std.proofs.lemmas.List.{drop-drop, length-drop, length-take-le, drop-set-lt, get_or-drop, length-replicate}
 use Rattle.std.proofs.lemmas.List.Elements.{filter-append}
 use Rattle.std.proofs.lemmas.Nat.{div-mul-add, mod-mul-add, row_fits}
 use Rattle.std.proofs.Math.Seq.{drop-cons, take-add, take-length}
-use Rattle.game_rules.proofs.Common.{Grid, IsBoard, is_on, holds, is_stone_of, stone_of, place_of, cell_at, points_of, row_from, put}
-use Rattle.game_rules.proofs.Common.{is_empty, is_empty_cell, other}
-use Rattle.game_rules.specs.declared.Side.{Side}
+use Rattle.position_files.proofs.Common.{Grid, IsBoard, is_on, holds, is_stone_of, place_of, points_of, Side, Empty, Point, stones, SameBut}
+use Rattle.position_files.proofs.Common.{IsSide, IsWithin}
+use Rattle.game_rules.proofs.Common.{stone_of, cell_at, row_from, put, is_empty, is_empty_cell, other}
 use Rattle.game_rules.specs.declared.Cell.{Cell}
-use Rattle.game_rules.specs.declared.Cell.TheVariants.{Empty}
-use Rattle.game_rules.specs.declared.Point.{Point}
 use Rattle.game_rules.proofs.Boards.{stone_of_side, stone_of-other, place_fits, on_x, on_y, is_empty-cell, is_empty-on}
 use Rattle.game_rules.proofs.Positions.{IsBoard-put}
 use Rattle.game_rules.proofs.Cells.{empty_stone, taken_by, not_both_stones}
 use Rattle.game_rules.proofs.Marks.{point_at, marked, is_clear, marked-append, clear_none, clear_drop, marked-set_other, next_mark}
 use Rattle.game_rules.proofs.Marks.{same_tests, clear_from_none, clear_at, clear_replicate, empty_board}
-use Rattle.position_files.proofs.Common.{stones, SameBut, IsSide}
-use Rattle.text_lines.specs.Reading.{IsWithin}
 
 module _ (at : ℕ → Point) (test : Cell → Bool) where
   -- a mark after all others is the last of them
@@ -69,14 +64,12 @@ rows_marked b s ok (suc n) y within =
     let next : (y + 1) * w ≡ y * w + w = omega arith in
     let all : suc n * w ≡ w + n * w = omega arith in
     let row' : filter (holds b s) (row_from y 0 w) ≡ marked (point_at w) (is_stone_of s) (y * w) (take w rest_of) = rw start at row in
-    let rows' : filter (holds b s) (flat_map (λ y. row_from y 0 w) (range_with_len (y + 1) n)) ≡ marked (point_at w) (is_stone_of s)
-    (y * w + w) (take (n * w) (drop w rest_of)) =
-    rows ∙ rw (next, drop-drop w (y * w) b.cells) refl in
-    let fits : y * w + w ≤ length b.cells = let filled = ok.filled in let below =
-    row_fits y w b.height w (omega arith) (omega arith) in omega (arith, filled, below) in
+    let rows' : filter (holds b s) (flat_map (λ y. row_from y 0 w) (range_with_len (y + 1) n)) ≡ marked
+    (point_at w) (is_stone_of s) (y * w + w) (take (n * w) (drop w rest_of)) = rows ∙ rw (next, drop-drop w (y * w) b.cells) refl in
+    let fits : y * w + w ≤ length b.cells =
+    let filled = ok.filled in let below = row_fits y w b.height w (omega arith) (omega arith) in omega (arith, filled, below) in
     let count : length (take w rest_of) ≡ w = length-take-le w rest_of (let d = length-drop (y * w) b.cells in omega (arith, d, fits)) in
-    filter-append (holds b s) (row_from y 0 w) (flat_map (λ y. row_from y 0 w) (range_with_len (y + 1) n))
-    ∙ rw (
+    filter-append (holds b s) (row_from y 0 w) (flat_map (λ y. row_from y 0 w) (range_with_len (y + 1) n)) ∙ rw (
       row',
       rows',
       all,
@@ -141,17 +134,13 @@ module _ (first now : Grid) (s : Side) (points : List Point) (i least : ℕ) (p 
       ap (point_at now.width) start ∙ (λ i. record { x = column i; y = row i })
 
   put_own : stones (put now s p) s ≡ stones now s ++ p ∷ []
-  put_own =
-      stones-marked (put now s p) s (IsBoard-put now s p h.board)
-      ∙ marked-set_last (point_at now.width) (is_stone_of s) 0 (place_of now p) now.cells (stone_of s) (stone_of_side s) fits clear_here
-      ∙ rw (here, stones-marked now s h.board) refl
+  put_own = stones-marked (put now s p) s (IsBoard-put now s p h.board) ∙ marked-set_last (point_at now.width) (is_stone_of s) 0
+      (place_of now p) now.cells (stone_of s) (stone_of_side s) fits clear_here ∙ rw (here, stones-marked now s h.board) refl
 
   put_others : stones (put now s p) (other s) ≡ stones now (other s)
-  put_others =
-      stones-marked (put now s p) (other s) (IsBoard-put now s p h.board)
-      ∙ marked-set_other (point_at now.width) (is_stone_of (other s)) 0 (place_of now p) now.cells (stone_of s) (stone_of-other s) fits
-      (ap (is_stone_of (other s)) is_free_cell ∙ empty_stone (other s))
-      ∙ sym (stones-marked now (other s) h.board)
+  put_others = stones-marked (put now s p) (other s) (IsBoard-put now s p h.board)
+      ∙ marked-set_other (point_at now.width) (is_stone_of (other s)) 0 (place_of now p) now.cells (stone_of s)
+      (stone_of-other s) fits (ap (is_stone_of (other s)) is_free_cell ∙ empty_stone (other s)) ∙ sym (stones-marked now (other s) h.board)
 
   clear_after : is_clear (point_at now.width) (is_stone_of s) (drop (place_of now p + 1) (set now.cells (place_of now p) (stone_of s)))
       ≡ true
@@ -197,8 +186,8 @@ not_taken first now s points i least p h next later on taken b ok same_rest own_
     let same_width : b.width ≡ now.width = same_rest.width ∙ sym h.width in
     let same_height : b.height ≡ now.height = same_rest.height ∙ sym h.height in
     let place : place_of now p ≡ p.y * b.width + p.x = ap (λ n. p.y * n + p.x) (sym same_width) in
-    let mark = next_mark b.width (is_stone_of s) least (drop least b.cells) p (drop (i + 1) points) (place_of now p) place
-    (h.only b ok same_rest.width same_rest.height own_points ∙ next) in
+    let mark = next_mark b.width (is_stone_of s) least
+    (drop least b.cells) p (drop (i + 1) points) (place_of now p) place (h.only b ok same_rest.width same_rest.height own_points ∙ next) in
     let fits = place_fits now p h.board on in
     let split : least + (place_of now p - least) ≡ place_of now p = omega arith in
     let there : get_or (drop least b.cells) (place_of now p - least) Empty ≡ get_or b.cells (place_of now p) Empty =
@@ -207,16 +196,15 @@ not_taken first now s points i least p h next later on taken b ok same_rest own_
     get_or-drop least now.cells (place_of now p - least) Empty ∙ ap (λ n. get_or now.cells n Empty) split in
     let own : is_stone_of s (get_or b.cells (place_of now p) Empty) ≡ true = ap (is_stone_of s) (sym there) ∙ mark.passes in
     let full : is_empty_cell (cell_at now p) ≡ false = ap (λ r. r && is_empty_cell (cell_at now p)) (sym on) ∙ taken in
-    let count : length b.cells ≡ length now.cells = let f = ok.filled in let g =
-    h.board.filled in f ∙ rw (same_width, same_height) (sym g) in
+    let count : length b.cells ≡ length now.cells =
+    let f = ok.filled in let g = h.board.filled in f ∙ rw (same_width, same_height) (sym g) in
     elim (taken_by s (cell_at now p) full) [
-      | inl mine ↦ clear_at (point_at now.width) (is_stone_of s) (drop least now.cells) (place_of now p - least) h.clear
-          (let d = length-drop least now.cells in omega (arith, d, fits)) (ap (is_stone_of s) here ∙ mine)
+      | inl mine ↦ clear_at (point_at now.width) (is_stone_of s) (drop least now.cells)
+          (place_of now p - least) h.clear (let d = length-drop least now.cells in omega (arith, d, fits)) (ap (is_stone_of s) here ∙ mine)
       | inr theirs ↦
-          let marks : marked (point_at b.width) (is_stone_of (other s)) 0 b.cells ≡ marked (point_at b.width) (is_stone_of (other s)) 0
-          now.cells =
-          sym (stones-marked b (other s) ok) ∙ same_rest.others ∙ sym h.others ∙ stones-marked now (other s) h.board
-          ∙ ap (λ n. marked (point_at n) (is_stone_of (other s)) 0 now.cells) (sym same_width) in
+          let marks : marked (point_at b.width) (is_stone_of (other s)) 0 b.cells ≡ marked
+          (point_at b.width) (is_stone_of (other s)) 0 now.cells = sym (stones-marked b (other s) ok) ∙ same_rest.others ∙ sym h.others
+          ∙ stones-marked now (other s) h.board ∙ ap (λ n. marked (point_at n) (is_stone_of (other s)) 0 now.cells) (sym same_width) in
           let same = same_tests b.width (is_stone_of (other s)) 0 b.cells now.cells count marks (place_of now p) in
           not_both_stones s (get_or b.cells (place_of now p) Empty) own (same ∙ theirs)
     ]
@@ -261,6 +249,5 @@ IsBoard-empty width height wide high = search (rules, length-replicate)
 -- no stones stand on an empty board
 pub stones-empty : (width height : ℕ) (s : Side) → IsSide width → IsSide height → stones (empty_board width height) s ≡ []
 stones-empty width height s wide high =
-    stones-marked (empty_board width height) s (IsBoard-empty width height wide high)
-    ∙ clear_none (point_at width) (is_stone_of s) 0 (replicate (width * height) Empty)
-    (clear_replicate (point_at width) (is_stone_of s) (width * height) (empty_stone s))
+    stones-marked (empty_board width height) s (IsBoard-empty width height wide high) ∙ clear_none (point_at width)
+    (is_stone_of s) 0 (replicate (width * height) Empty) (clear_replicate (point_at width) (is_stone_of s) (width * height) (empty_stone s))

@@ -1,28 +1,19 @@
 -- Where bytes leave the texts of tables.
-use Rattle.std.proofs.Common.{◌≡◌, ℕ, suc, ◌+◌, true, refl, sym, ap, subst, ◌∙◌, arith, List, [], ◌∷◌, ◌++◌, length, take, inl, inr}
-use Rattle.std.proofs.Common.{None, codes, rules}
+use Rattle.std.proofs.Common.{◌≡◌, ℕ, suc, ◌+◌, true, refl, sym, ap, subst, ◌∙◌, arith, List, [], ◌∷◌, ◌++◌, length, take, inl, inr, None}
+use Rattle.std.proofs.Common.{codes, rules}
 use Rattle.std.proofs.lemmas.List.{append-nil, length-append, take_all}
 use Rattle.std.proofs.Math.Seq.{take-append_seam}
-use Rattle.game_rules.specs.declared.RuleKind.TheVariants.{Freestyle}
-use Rattle.game_rules.specs.declared.TheConstants.{MIN_SIDE}
+use Rattle.position_files.proofs.Common.{Freestyle, MIN_SIDE, refusal, Answers, IsTable, Root, line_feed, text_of, FirstBad, LeavesAt}
+use Rattle.position_files.proofs.Common.{ReadsLine, is_free, TableFile, MAX_MOVES, Body, FileError, Unlawful, WrongMoves, HeadError}
+use Rattle.position_files.proofs.Common.{IsTextOfTable, IsTableText, start_line, StartFits, BodyFits, body_lines, IsBodyLines}
+use Rattle.position_files.proofs.Common.{IsFinishFault, IsSectionFault, IsStartLines, IsTableFault, IsMiscounted, after_lines, in_file}
 use Rattle.game_rules.proofs.Marks.{empty_board}
-use Rattle.foul_judge.specs.Lawful.{refusal}
-use Rattle.strategy_graph.specs.Tables.{Answers, IsTable}
-use Rattle.strategy_graph.specs.declared.roots.Root.{Root}
-use Rattle.text_lines.proofs.Common.{line_feed, text_of, FirstBad, LeavesAt, ReadsLine, is_free}
 use Rattle.text_lines.proofs.LineLaws.{same_line}
 use Rattle.text_lines.proofs.TextLaws.{text_of-cons, text_of-push, same_lines}
 use Rattle.text_lines.proofs.Leaving.{HasParts, Splits, leaves_after, left_first}
 use Rattle.text_lines.proofs.Badness.{first_bad, too_many}
-use Rattle.position_files.specs.declared.TableFile.{TableFile}
-use Rattle.position_files.specs.declared.TheConstants.{MAX_MOVES}
-use Rattle.position_files.specs.declared.tables.Body.{Body}
-use Rattle.position_files.specs.declared.error.FileError.{FileError}
-use Rattle.position_files.specs.declared.error.FileError.TheVariants.{BadLine, Unlawful, WrongMoves, Memory}
-use Rattle.position_files.specs.declared.error.HeadError.{HeadError}
+use Rattle.position_files.specs.declared.error.FileError.TheVariants.{BadLine, Memory}
 use Rattle.position_files.specs.declared.error.HeadError.TheVariants.{BadLine as BadHead, Memory as NoRoom}
-use Rattle.position_files.proofs.Common.{IsTextOfTable, IsTableText, start_line, StartFits, BodyFits, body_lines, IsBodyLines}
-use Rattle.position_files.proofs.Common.{IsFinishFault, IsSectionFault, IsStartLines, IsTableFault, IsMiscounted, after_lines, in_file}
 use Rattle.position_files.proofs.Stones.{IsBoard-empty}
 use Rattle.position_files.proofs.TableLaws.{file_of}
 use Rattle.position_files.proofs.BoardLines.{least_side}
@@ -63,14 +54,12 @@ pub finish_fault : (body : Body) (root : Root) (bytes : List ℕ) → IsTextOfTa
 finish_fault body root bytes text (BadLine n) h = absurd h
 finish_fault body root bytes text (Unlawful why) h = (
   (file_of body root, text),
-  λ file is. ap (λ (f : TableFile). refusal f.kind f.board) (one_table (file_of body root) file bytes text is)
-      ∙ h,
+  λ file is. ap (λ (f : TableFile). refusal f.kind f.board) (one_table (file_of body root) file bytes text is) ∙ h,
 )
 finish_fault body root bytes text (WrongMoves written counted) h = (
   (file_of body root, text),
-  λ file is.
-      subst (λ (f : TableFile). IsMiscounted f written counted) (sym (one_table (file_of body root) file bytes text is))
-      (record { lawful = h.0; says = h.1; depth = h.2; differ = h.3 }),
+  λ file is. subst (λ (f : TableFile). IsMiscounted f written counted)
+      (sym (one_table (file_of body root) file bytes text is)) (record { lawful = h.0; says = h.1; depth = h.2; differ = h.3 }),
 )
 finish_fault body root bytes text Memory h = tt
 
@@ -148,10 +137,8 @@ module _ (bytes rest : List ℕ) (e : bytes ≡ codes "renju-table 1" ++ line_fe
       let count = body-length body in
       let six_more : length (body_lines body) ≡ suc (suc (suc (suc (suc (suc (length body.table)))))) = omega (arith, count) in
       let found = too_many IsTableText IsTableLines table-free lines_of text_from bytes tail all
-      (inl (body_lines body, (body, fits, table, refl), refl))
-      (e ∙ ap (λ (l : List ℕ). codes "renju-table 1" ++ line_feed ∷ l) text
-      ∙ text_of-cons (codes "renju-table 1") (body_lines body) tail) more
-      (λ lt others is f.
+      (inl (body_lines body, (body, fits, table, refl), refl)) (e ∙ ap (λ (l : List ℕ). codes "renju-table 1" ++ line_feed ∷ l) text
+      ∙ text_of-cons (codes "renju-table 1") (body_lines body) tail) more (λ lt others is f.
       let after = after_first (codes "renju-table 1") (IsBodyLines 1) bytes rest others (length (body_lines body)) lt refl e
       (attack_fronts lt is) f in
       let other : Body = after.are.0 in
@@ -204,9 +191,8 @@ module _ (bytes rest : List ℕ) (e : bytes ≡ codes "renju-table 2" ++ line_fe
 
     -- other lines with a start that the bytes begin with have as many nodes, and the same line after them
     same_start_line : (ls : List (List ℕ)) (others : List ℕ) (is : IsDefendLines ls)
-        → rest ≡ text_of (take (length (body_lines body) + 1) ls) ++ others
-        → (length ls ≡ length (body_lines body) + 1) × StartFits body.board.width body.board.height (length body.table) is.1
-        × (tail ≡ start_line is.1 ++ line_feed ∷ others)
+        → rest ≡ text_of (take (length (body_lines body) + 1) ls) ++ others → (length ls ≡ length (body_lines body) + 1)
+        × StartFits body.board.width body.board.height (length body.table) is.1 × (tail ≡ start_line is.1 ++ line_feed ∷ others)
     same_start_line ls others is f =
         let other : Body = is.0 in
         let here : length (body_lines body) ≡ 6 + length body.table = count in
@@ -221,15 +207,14 @@ module _ (bytes rest : List ℕ) (e : bytes ≡ codes "renju-table 2" ++ line_fe
         let others_count = body-length other in
         let added = length-append (body_lines other) (start_line is.1 ∷ []) in
         let lines = ap length is.5 in
-        let all : rest ≡ text_of (body_lines other) ++ (start_line is.1 ++ line_feed ∷ others) =
-        whole ∙ ap (λ (l : List (List ℕ)). text_of l ++ others)
-        (take_all (length (body_lines body) + 1) (body_lines other ++ start_line is.1 ∷ [])
+        let all : rest ≡ text_of (body_lines other) ++ (start_line is.1 ++ line_feed ∷ others) = whole ∙ ap
+        (λ (l : List (List ℕ)). text_of l ++ others) (take_all (length (body_lines body) + 1) (body_lines other ++ start_line is.1 ∷ [])
         (omega (arith, here, counts, others_count, added))) ∙ sym (text_of-push (body_lines other) (start_line is.1) others) in
         let same = same_lines (body_lines body) (body_lines other) tail (start_line is.1 ++ line_feed ∷ others)
         (body-free 0 body fits table) (body-free 0 other is.2 is.3) (omega (arith, here, counts, others_count)) (sym text ∙ all) in
         let start : StartFits body.board.width body.board.height (length body.table) is.1 =
-        subst (λ n. StartFits n body.board.height (length body.table) is.1) (sym width)
-        (subst (λ n. StartFits other.board.width n (length body.table) is.1) (sym height)
+        subst (λ n. StartFits n body.board.height (length body.table) is.1)
+        (sym width) (subst (λ n. StartFits other.board.width n (length body.table) is.1) (sym height)
         (subst (λ n. StartFits other.board.width other.board.height n is.1) (sym counts) is.4)) in
         (omega (arith, here, counts, others_count, added, lines), start, same.1)
 
@@ -251,11 +236,10 @@ module _ (bytes rest : List ℕ) (e : bytes ≡ codes "renju-table 2" ++ line_fe
         let left = left_first (StartFits width height len) start_line tail fault.0 fault.2 in
         let none : ReadsLine (StartFits body.board.width body.board.height (length body.table)) start_line None tail =
         λ a others fit f. left.1 a others
-        (subst (λ n. StartFits n height len a) (sym w)
-        (subst (λ n. StartFits body.board.width n len a) (sym h)
+        (subst (λ n. StartFits n height len a) (sym w) (subst (λ n. StartFits body.board.width n len a) (sym h)
         (subst (λ n. StartFits body.board.width body.board.height n a) (sym l) fit))) f in
-        let leaves = leaves_after (codes "renju-table 2" ∷ []) IsDefendLines IsTableLines defend_part bytes rest (length (body_lines body))
-        (e ∙ text_of-cons (codes "renju-table 2") [] rest) (no_start_line none) in
+        let leaves = leaves_after (codes "renju-table 2" ∷ []) IsDefendLines IsTableLines defend_part bytes rest
+        (length (body_lines body)) (e ∙ text_of-cons (codes "renju-table 2") [] rest) (no_start_line none) in
         subst (FirstBad IsTableText bytes) (let is = fault.1 in let first = left.0 in let c = count in omega (arith, is, first, c, l))
         (first_bad IsTableText IsTableLines table-free lines_of text_from bytes (1 + length (body_lines body)) leaves)
     start_fault width height len w h l NoRoom fault = tt

@@ -1,12 +1,6 @@
 -- Whole texts of tables.
-use Rattle.std.proofs.Common.{rules}
-use Rattle.std.proofs.Common.{◌≡◌, ℕ, ◌-◌, true, refl, sym, ap, subst, ◌∙◌, List, [], ◌∷◌, ◌++◌, length, codes}
-use Rattle.strategy_graph.specs.Tables.{Answers, IsTable, names_below}
-use Rattle.strategy_graph.specs.declared.roots.Root.{Root}
-use Rattle.strategy_graph.specs.declared.roots.Root.TheVariants.{Attack, Defend}
-use Rattle.position_files.specs.declared.TableFile.{TableFile}
-use Rattle.position_files.specs.declared.tables.Body.{Body}
-use Rattle.text_lines.specs.Lines.{line_feed, text_of}
+use Rattle.std.proofs.Common.{rules, ◌≡◌, ℕ, ◌-◌, true, refl, sym, ap, subst, ◌∙◌, List, [], ◌∷◌, ◌++◌, length, codes}
+use Rattle.position_files.proofs.Common.{Answers, IsTable, names_below, Root, Attack, Defend, TableFile, Body, line_feed, text_of}
 use Rattle.position_files.proofs.Common.{IsTextOfTable, start_line, table_text, BodyFits, IsFinished, body_lines, StartFits}
 use Rattle.text_lines.proofs.TextLaws.{whole_text, text_of-push}
 use Rattle.position_files.proofs.SectionLaws.{replies_on}

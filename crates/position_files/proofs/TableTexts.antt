@@ -5,17 +5,10 @@ use Rattle.std.specs.List.{AllByRecursion}
 use Rattle.std.specs.Fmt.{decimal}
 use Rattle.std.proofs.lemmas.Fmt.{decimal_injective}
 use Rattle.std.proofs.lemmas.List.{append_cancel_left, length-append, length-map}
-use Rattle.game_rules.specs.Grid.{Grid, IsBoard}
-use Rattle.game_rules.specs.declared.RuleKind.{RuleKind}
-use Rattle.strategy_graph.specs.Tables.{Answers, IsTable, TableOnBoard}
-use Rattle.strategy_graph.specs.declared.Node.{Node}
-use Rattle.strategy_graph.specs.declared.roots.Root.{Root}
-use Rattle.strategy_graph.specs.declared.roots.Root.TheVariants.{Attack, Defend}
-use Rattle.position_files.specs.declared.TableFile.{TableFile}
-use Rattle.position_files.specs.declared.tables.Body.{Body}
-use Rattle.text_lines.proofs.Common.{line_feed, text_of, is_free}
-use Rattle.position_files.proofs.Common.{board_lines, RootFits, IsTextOfTable, IsTableText, answers_text, node_line, nodes_lines}
-use Rattle.position_files.proofs.Common.{start_line, table_text, NodeFits, StartFits, BodyFits, body_lines, IsBodyLines}
+use Rattle.position_files.proofs.Common.{Grid, IsBoard, RuleKind, Answers, IsTable, TableOnBoard, Node, Root, Attack, Defend, TableFile}
+use Rattle.position_files.proofs.Common.{Body, line_feed, text_of, is_free, board_lines, RootFits, IsTextOfTable, IsTableText, answers_text}
+use Rattle.position_files.proofs.Common.{node_line, nodes_lines, start_line, table_text, NodeFits, StartFits, BodyFits, body_lines}
+use Rattle.position_files.proofs.Common.{IsBodyLines}
 use Rattle.text_lines.proofs.LineLaws.{same_line}
 use Rattle.position_files.proofs.BoardLines.{width_side, height_side, board-free, board_lines-injective}
 use Rattle.position_files.proofs.AnswerLaws.{answers_text-injective, start_line-free}
@@ -99,8 +92,7 @@ unfolding table_text
 lines_by kind b nodes (Attack r) moves t ok table on_it root e =
     let body : Body = body_of kind b nodes moves in (
       codes "renju-table 1" ∷ body_lines body,
-      inl
-          (body_lines body, (body, attack_fits kind b nodes r moves ok table on_it root, table, refl), refl),
+      inl (body_lines body, (body, attack_fits kind b nodes r moves ok table on_it root, table, refl), refl),
       e,
     )
 lines_by kind b nodes (Defend a) moves t ok table on_it root e =
@@ -197,14 +189,13 @@ same_start body other a c fits fit table tab start begin e =
     let sizes_other = length-append (body_lines other) (start_line c ∷ []) in
     let lengths = ap length e in
     let texts : text_of (body_lines body) ++ (start_line a ++ line_feed ∷ []) ≡ text_of (body_lines other)
-    ++ (start_line c ++ line_feed ∷ []) =
-    text_of-push (body_lines body) (start_line a) [] ∙ ap (λ (l : List (List ℕ)). text_of l ++ []) e
-    ∙ sym (text_of-push (body_lines other) (start_line c) []) in
-    let same = same_lines (body_lines body) (body_lines other) (start_line a ++ line_feed ∷ []) (start_line c ++ line_feed ∷ []) free_body
-    free_other (omega (arith, sizes_body, sizes_other, lengths)) texts in
+    ++ (start_line c ++ line_feed ∷ []) = text_of-push (body_lines body) (start_line a) []
+    ∙ ap (λ (l : List (List ℕ)). text_of l ++ []) e ∙ sym (text_of-push (body_lines other) (start_line c) []) in
+    let same = same_lines (body_lines body) (body_lines other) (start_line a ++ line_feed ∷ [])
+    (start_line c ++ line_feed ∷ []) free_body free_other (omega (arith, sizes_body, sizes_other, lengths)) texts in
     let one : body ≡ other = body_injective 0 0 body other fits fit table tab same.0 in
-    let line = same_line (start_line a) [] (start_line c) [] (free_start body.board (length body.table) a fits.board start)
-    (free_start other.board (length other.table) c fit.board begin) same.1 in
+    let line = same_line (start_line a) [] (start_line c) []
+    (free_start body.board (length body.table) a fits.board start) (free_start other.board (length other.table) c fit.board begin) same.1 in
     let fit_c : StartFits body.board.width body.board.height (length body.table) c =
     subst (λ (b : Body). StartFits b.board.width b.board.height (length b.table) c) (sym one) begin in (
       one,

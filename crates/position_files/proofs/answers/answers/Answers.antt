@@ -6,8 +6,7 @@ use Rattle.position_files.proofs.answers.answers.Goals as goal
 pub returns-in_default : goal.returns-in_default
 returns-in_default c = record {
   answers = no_rest c.args.width c.args.height c.requires.wide c.requires.high c.args.bytes.now
-      (λ e. both_ways c.is_text.result c.if-is_text.false (c.is_text.ensures.same.1 e))
-      c.in_default.ensures.rest;
+      (λ e. both_ways c.is_text.result c.if-is_text.false (c.is_text.ensures.same.1 e)) c.in_default.ensures.rest;
 }
 
 pub returns-in_err-replies : goal.returns-in_err-replies

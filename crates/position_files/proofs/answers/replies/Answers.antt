@@ -1,6 +1,5 @@
 use Rattle.std.proofs.Common.{ℕ, arith, List, Bor, length, length-append, ap, option_copied, Option}
-use Rattle.text_lines.proofs.Common.{space, tail_text}
-use Rattle.position_files.proofs.Common.{reply_text, ReplyFits}
+use Rattle.position_files.proofs.Common.{space, tail_text, reply_text, ReplyFits}
 use Rattle.text_lines.proofs.Items.{begins, stops, goes_on, ends}
 use Rattle.position_files.proofs.AnswerLaws.{reply_items}
 use Rattle.position_files.proofs.answers.replies.Goals as goal

@@ -13,8 +13,7 @@ returns-then-not-is_text c = record {
 pub returns-in_err-number : goal.returns-in_err-number
 returns-in_err-number c = rw c.from_residual-in_err-number.ensures (record {
   rest = no_rest_number c.args.bytes.now c.cut.result.0.now c.in_ok-tail.field-0.now c.cut-2.result.0.now _ _ c.cut.ensures.parts
-      c.cut.ensures.word
-      (λ e. both_ways c.is_text.result c.if-is_text.false (c.is_text.ensures.same.1 e))
+      c.cut.ensures.word (λ e. both_ways c.is_text.result c.if-is_text.false (c.is_text.ensures.same.1 e))
       (ap option_copied c.in_ok-tail.was) c.cut-2.ensures.parts c.cut-2.ensures.word
       (λ n few e. c.in_err-number.ensures.number n (omega (arith, few)) e);
 })

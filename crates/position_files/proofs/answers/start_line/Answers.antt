@@ -7,8 +7,7 @@ use Rattle.position_files.proofs.answers.start_line.Goals as goal
 
 pub returns-in_default : goal.returns-in_default
 returns-in_default c = record {
-  start = no_start c.args.width c.args.height c.requires.wide c.requires.high c.args.bytes.now c.args.len
-      c.in_default.ensures.text;
+  start = no_start c.args.width c.args.height c.requires.wide c.requires.high c.args.bytes.now c.args.len c.in_default.ensures.text;
 }
 
 pub returns-in_err-replies : goal.returns-in_err-replies
@@ -39,7 +38,6 @@ returns-then-not-names_below c =
     record {
       start = bad_start c.args.width c.args.height c.requires.wide c.requires.high c.args.bytes.now c.in-Some.text.now c.in-Some.after.now
           c.args.len c.in-Some.ensures.text.0 c.in-Some.ensures.text.1 found c.in_ok-replies.ensures.answers.0
-          c.in_ok-replies.ensures.answers.1
-          (λ fits. both_ways c.names_below.result c.if-not-names_below.true
+          c.in_ok-replies.ensures.answers.1 (λ fits. both_ways c.names_below.result c.if-not-names_below.true
           (c.names_below.ensures.below ∙ ap (λ (a : Answers). names_below a c.args.len) same ∙ fits.below));
     }

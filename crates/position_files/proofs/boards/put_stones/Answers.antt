@@ -1,11 +1,10 @@
 use Rattle.std.proofs.Common.{◌≡◌, ◌+◌, ◌*◌, arith, sym, ap, ◌∙◌, get_or, true}
-use Rattle.game_rules.specs.Grid.{place_of, is_on}
-use Rattle.game_rules.specs.declared.Point.{Point}
+use Rattle.position_files.proofs.Common.{place_of, is_on, Point}
 use Rattle.game_rules.proofs.PointLists.{next_point, first_points}
 use Rattle.position_files.proofs.Stones.{none_put, one_put, all_put, not_earlier, not_taken, on_board}
-use Rattle.position_files.proofs.boards.put_stones.Goals as goal
 use Rattle.position_files.proofs.boards.put_stones.Goals.{then-place-least-via-then-place-least}
 use Rattle.position_files.proofs.boards.put_stones.Goals.{then-place-least-via-else-place-least+then-not-is_empty}
+use Rattle.position_files.proofs.boards.put_stones.Goals as goal
 
 pub loop-p-init : goal.loop-p-init
 loop-p-init c = none_put c.args.board.now c.args.side c.args.points.now c.width.ensures.board c.requires.none

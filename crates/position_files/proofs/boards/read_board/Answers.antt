@@ -1,10 +1,8 @@
 use Rattle.std.proofs.Common.{ℕ, List, Bor, refl}
-use Rattle.text_lines.specs.declared.fault.Fault.TheVariants.{Bad}
-use Rattle.position_files.specs.Sections.{IsBoardLines}
+use Rattle.position_files.proofs.Common.{Bad, IsBoardLines, Black}
 use Rattle.text_lines.proofs.FaultLaws.{fault_result}
 use Rattle.position_files.proofs.BoardLines.{board_found, none_at_first, none_then, fault_at, no_rule_line, no_size_line, no_black_line}
 use Rattle.position_files.proofs.BoardLines.{no_white_line}
-use Rattle.game_rules.specs.declared.Side.TheVariants.{Black}
 use Rattle.position_files.proofs.boards.read_board.Goals as goal
 
 pub stones_line-requires-clause-none : goal.stones_line-requires-clause-none
@@ -18,8 +16,7 @@ stones_line-requires-2-clause-none c = none_then c.in-Some-size_line.width c.in-
 pub returns-clause-text : goal.returns-clause-text
 returns-clause-text c =
     board_found c.in-Some.kind c.in-Some-size_line.width c.in-Some-size_line.height c.in_ok-board.board c.stones_line.new.board
-    c.stones_line-2.new.board
-    c.args.bytes.now c.in-Some.rest.now c.in-Some-size_line.rest.now c.in-Ok.rest.now c.in-Ok-stones_line.rest.now
+    c.stones_line-2.new.board c.args.bytes.now c.in-Some.rest.now c.in-Some-size_line.rest.now c.in-Ok.rest.now c.in-Ok-stones_line.rest.now
     c.in_ok-board.ensures.empty c.in-Some.ensures.rule.1 c.in-Some-size_line.ensures.size.1 c.in-Ok.ensures.put.0 c.in-Ok.ensures.put.1
     c.in-Ok-stones_line.ensures.put.0 c.in-Ok-stones_line.ensures.put.1
 

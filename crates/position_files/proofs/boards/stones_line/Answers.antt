@@ -1,10 +1,7 @@
 use Rattle.std.proofs.Common.{◌≡◌, ◌++◌, List, ℕ, Bor, sym, subst, ◌∙◌}
 use Rattle.std.specs.List.{AllByRecursion}
 use Rattle.std.proofs.lemmas.Result.{err_from_is_err_and}
-use Rattle.game_rules.specs.declared.Point.{Point}
-use Rattle.text_lines.specs.declared.fault.Fault.TheVariants.{Bad}
-use Rattle.text_lines.proofs.Common.{points_text, IsWithin}
-use Rattle.position_files.specs.Positions.{stones}
+use Rattle.position_files.proofs.Common.{Point, Bad, points_text, IsWithin, stones}
 use Rattle.text_lines.proofs.FaultLaws.{gives_bad, same_fault}
 use Rattle.position_files.proofs.BoardLines.{stones_first, stones_fit, listed_stones}
 use Rattle.position_files.proofs.boards.stones_line.Goals as goal

@@ -10,27 +10,22 @@ pub returns-in_default-clause-refused : goal.returns-in_default-clause-refused
 returns-in_default-clause-refused c = no_first_line c.args.bytes.now (λ rest e. c.in_default.ensures.rest rest tt e)
 
 pub returns-in-Err-clause-refused : goal.returns-in-Err-clause-refused
-returns-in-Err-clause-refused c =
-    rw (c.from.ensures, c.after-in-Err.ensures.error)
+returns-in-Err-clause-refused c = rw (c.from.ensures, c.after-in-Err.ensures.error)
     (board_fault c.args.bytes.now c.in-Some.rest.now c.in-Some.ensures.rest.1 c.in-Err.error c.in-Err.ensures.refused)
 
 pub returns-in-Err-moves_line-clause-refused : goal.returns-in-Err-moves_line-clause-refused
-returns-in-Err-moves_line-clause-refused c =
-    rw (c.from-in-Err-moves_line.ensures, c.at.ensures.error)
+returns-in-Err-moves_line-clause-refused c = rw (c.from-in-Err-moves_line.ensures, c.at.ensures.error)
     (moves_fault c.args.bytes.now c.in-Some.rest.now c.in-Some.ensures.rest.1 c.in-Ok.found.0 c.in-Ok.found.1 _ c.in-Ok.ensures.board
-    c.in-Ok.ensures.text
-    c.width.result c.height.result c.width.ensures.width c.height.ensures.height c.in-Err-moves_line.fault
+    c.in-Ok.ensures.text c.width.result c.height.result c.width.ensures.width c.height.ensures.height c.in-Err-moves_line.fault
     c.in-Err-moves_line.ensures.moves)
 
 pub returns-then-not-is_empty-clause-refused : goal.returns-then-not-is_empty-clause-refused
 returns-then-not-is_empty-clause-refused c =
     let moves = c.in-Ok-moves_line.ensures.moves in
     more_lines_than_six c.args.bytes.now c.in-Some.rest.now c.in-Some.ensures.rest.1 c.in-Ok.found.0 c.in-Ok.found.1 _ c.in-Ok.ensures.board
-    c.in-Ok.ensures.text
-    c.in-Ok-moves_line.found.0 c.in-Ok-moves_line.found.1.now
+    c.in-Ok.ensures.text c.in-Ok-moves_line.found.0 c.in-Ok-moves_line.found.1.now
     (sized c.in-Ok.found.1 c.width.result c.height.result c.in-Ok-moves_line.found.0 c.width.ensures.width c.height.ensures.height
-    moves.0) moves.1
-    (some_bytes c.in-Ok-moves_line.found.1.now (sym c.is_empty.ensures ∙ c.if-not-is_empty.true))
+    moves.0) moves.1 (some_bytes c.in-Ok-moves_line.found.1.now (sym c.is_empty.ensures ∙ c.if-not-is_empty.true))
 
 -- the bytes are the text of the file that is read
 text : (c : Else-not-is_empty)

@@ -27,8 +27,7 @@ loop-rest-smaller c =
 pub loop-rest-preserved : goal.loop-rest-preserved
 loop-rest-preserved c =
     let now = rw c.in-Some.is at c.loop-rest.invariant in
-    rw c.in_ok-push.ensures.ok
-    (goes_on (IsWithin c.args.width c.args.height) point_text
+    rw c.in_ok-push.ensures.ok (goes_on (IsWithin c.args.width c.args.height) point_text
     (point_items c.args.width c.args.height (side_fits c.args.width c.requires.wide) (side_fits c.args.height c.requires.high))
     c.loop-rest.points c.in-Some-point.found c.in-Some.text.now c.cut.result.0.now _ (tail_text space (option_copied c.args.tail)) now
     c.cut.ensures.parts c.cut.ensures.word c.in-Some-point.ensures.point.0 c.in-Some-point.ensures.point.1)
@@ -37,6 +36,5 @@ pub returns : goal.returns
 returns c =
     let now = rw c.in_default.is at c.loop-rest.invariant in
     record {
-      points = ends (IsWithin c.args.width c.args.height) point_text c.loop-rest.points (tail_text space (option_copied c.args.tail))
-          now;
+      points = ends (IsWithin c.args.width c.args.height) point_text c.loop-rest.points (tail_text space (option_copied c.args.tail)) now;
     }

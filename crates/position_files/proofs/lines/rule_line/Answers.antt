@@ -1,6 +1,5 @@
 use Rattle.std.proofs.Common.{refl, codes}
-use Rattle.game_rules.specs.declared.RuleKind.{RuleKind}
-use Rattle.position_files.specs.Positions.{rule_word}
+use Rattle.position_files.proofs.Common.{RuleKind, rule_word}
 use Rattle.text_lines.proofs.LineLaws.{prefix_bad}
 use Rattle.position_files.proofs.Spellings.{rule_word-free}
 use Rattle.position_files.proofs.lines.rule_line.Goals as goal

@@ -1,8 +1,6 @@
 use Rattle.std.proofs.Common.{◌≡◌, ℕ, List, Bor, sym, subst, length, ◌∙◌, Err}
 use Rattle.std.proofs.lemmas.Result.{err_from_is_err_and}
-use Rattle.strategy_graph.specs.Tables.{IsNode}
-use Rattle.strategy_graph.specs.declared.Node.{Node}
-use Rattle.text_lines.specs.declared.fault.Fault.TheVariants.{Bad}
+use Rattle.position_files.proofs.Common.{IsNode, Node, Bad}
 use Rattle.text_lines.proofs.FaultLaws.{same_fault}
 use Rattle.position_files.proofs.SectionLaws.{bad_node, same_node}
 use Rattle.position_files.proofs.nodes.add_line.Goals as goal

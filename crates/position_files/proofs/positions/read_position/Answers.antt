@@ -10,8 +10,7 @@ pub returns-in_default-clause-refused : goal.returns-in_default-clause-refused
 returns-in_default-clause-refused c = no_first_line c.args.bytes.now (λ rest e. c.in_default.ensures.rest rest tt e)
 
 pub returns-in-Err-clause-refused : goal.returns-in-Err-clause-refused
-returns-in-Err-clause-refused c =
-    rw (c.from.ensures, c.after-in-Err.ensures.error)
+returns-in-Err-clause-refused c = rw (c.from.ensures, c.after-in-Err.ensures.error)
     (board_fault c.args.bytes.now c.in-Some.rest.now c.in-Some.ensures.rest.1 c.in-Err.error c.in-Err.ensures.refused)
 
 pub returns-then-not-is_empty-clause-refused : goal.returns-then-not-is_empty-clause-refused
@@ -22,8 +21,7 @@ returns-then-not-is_empty-clause-refused c =
 
 -- the bytes are the text of the position that is read
 text : (c : Else-not-is_empty) → IsTextOfPosition (record { kind = c.in-Ok.found.0; board = c.in-Ok.found.1 }) c.args.bytes.now
-text c =
-    position_found c.in-Ok.found.0 c.in-Ok.found.1 c.in-Ok.found.1 c.args.bytes.now c.in-Some.rest.now
+text c = position_found c.in-Ok.found.0 c.in-Ok.found.1 c.in-Ok.found.1 c.args.bytes.now c.in-Some.rest.now
     c.in-Ok.found.2.now c.in-Ok.ensures.board c.in-Some.ensures.rest.1 c.in-Ok.ensures.text
     (no_bytes c.in-Ok.found.2.now (sym c.is_empty.ensures ∙ c.if-not-is_empty.false)) refl
 

@@ -1,6 +1,5 @@
 use Rattle.std.proofs.Common.{◌≡◌, ◌∙◌, ◌++◌, sym, [], ◌∷◌, append_assoc}
-use Rattle.text_lines.specs.Lines.{ended, line_feed}
-use Rattle.position_files.specs.Tables.{start_line}
+use Rattle.position_files.proofs.Common.{ended, line_feed, start_line}
 use Rattle.position_files.proofs.SectionLaws.{one_start, start_left}
 use Rattle.position_files.proofs.sections.read_start.Goals as goal
 

@@ -1,8 +1,6 @@
 use Rattle.std.proofs.Common.{◌≡◌, sym, subst, ◌∷◌, ◌++◌, codes}
 use Rattle.std.proofs.lemmas.Result.{IfOk-weaker}
-use Rattle.position_files.specs.declared.TableFile.{TableFile}
-use Rattle.text_lines.specs.Lines.{line_feed}
-use Rattle.position_files.specs.Tables.{IsTextOfTable}
+use Rattle.position_files.proofs.Common.{TableFile, line_feed, IsTextOfTable}
 use Rattle.position_files.proofs.TableTexts.{one_table}
 use Rattle.position_files.proofs.TableBad.{no_version}
 use Rattle.position_files.proofs.tables.read_table.Goals as goal
@@ -15,8 +13,7 @@ returns-in-Some-clause-only c =
     c.read_attack.ensures.text
 
 pub returns-in-Some-after-clause-only : goal.returns-in-Some-after-clause-only
-returns-in-Some-after-clause-only c =
-    IfOk-weaker c.read_defend.result
+returns-in-Some-after-clause-only c = IfOk-weaker c.read_defend.result
     (λ (file : TableFile). IsTextOfTable file (codes "renju-table 2" ++ line_feed ∷ c.in-Some-after.rest.now))
     (λ (file : TableFile). (other : TableFile) → IsTextOfTable other c.args.bytes.now → other ≡ file)
     (λ file text other is. one_table file other c.args.bytes.now (subst (IsTextOfTable file) (sym c.in-Some-after.ensures.rest.1) text) is)

@@ -1,6 +1,5 @@
 use Rattle.std.proofs.Common.{◌≡◌, ◌++◌, take, map, string_bytes}
-use Rattle.text_lines.specs.Lines.{text_of}
-use Rattle.position_files.specs.Tables.{node_line}
+use Rattle.position_files.proofs.Common.{text_of, node_line}
 use Rattle.position_files.proofs.writers.push_nodes.Given as goal
 
 -- the lines of the nodes so far stand behind the text
