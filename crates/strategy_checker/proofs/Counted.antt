@@ -1,20 +1,20 @@
 -- The replies that are counted and not walked: the points of a board, taken apart into those that are listed, one more, and
 -- the others, and what each of the others is.
-use Rattle.std.proofs.Common.{◌≡◌, ℕ, zero, suc, ◌+◌, ◌*◌, ◌<◌, ◌≤◌, Bool, true, false, cond, ◌&&◌, ◌||◌}
-use Rattle.std.proofs.Common.{not, List, [], ◌∷◌, length, drop, refl, sym, ap, subst, ◌∙◌, arith, nat_eq, eq-eqb, drop-cons}
-use Rattle.std.proofs.Common.{rules, Some, None, All, count_by, sum_by, flat_map}
+use Rattle.std.proofs.Common.{◌≡◌, ℕ, zero, suc, ◌+◌, ◌*◌, ◌<◌, ◌≤◌, Bool, true, false, cond, ◌&&◌, ◌||◌, not, List, [], ◌∷◌, length, drop}
+use Rattle.std.proofs.Common.{refl, sym, ap, subst, ◌∙◌, arith, nat_eq, eq-eqb, drop-cons, rules, Some, None, All, count_by, sum_by}
+use Rattle.std.proofs.Common.{flat_map}
 use Rattle.std.specs.List.{list_any, list_all, range_with_len}
 use Rattle.std.proofs.lemmas.Bool.{lt-ltb}
 use Rattle.std.proofs.lemmas.List.{drop_all}
 use Rattle.std.proofs.lemmas.List.Sums.{sum_by-cons, sum_by-append}
-use Rattle.game_rules.proofs.Common.{Grid, IsBoard, is_on, is_empty, is_empty_cell, cell_at, row_from, points_of, empties_of, is_same_point}
-use Rattle.game_rules.proofs.Common.{precedes, has_five, IsPosition, outcome, after, mover, has_fouls, goes_on}
-use Rattle.game_rules.specs.declared.RuleKind.{RuleKind}
-use Rattle.game_rules.specs.declared.Outcome.{Outcome}
-use Rattle.game_rules.specs.declared.Outcome.TheVariants.{Refused, Wins, Fouls, Draws, GoesOn}
+use Rattle.strategy_checker.proofs.Common.{Grid, IsBoard, is_empty, points_of, empties_of, is_same_point, precedes, has_five, IsPosition}
+use Rattle.strategy_checker.proofs.Common.{outcome, after, mover, has_fouls, goes_on, RuleKind, Outcome, Wins, GoesOn, Point, Reply, Rest}
+use Rattle.strategy_checker.proofs.Common.{Node, Answers, answer, is_rising, listed_node, rest_node, Accepted, AcceptedStart, Meets}
+use Rattle.strategy_checker.proofs.Common.{arrivals, arrivals_after, arrivals_at, Sure, IsSure, is_apart}
+use Rattle.game_rules.proofs.Common.{is_on, is_empty_cell, cell_at, row_from}
+use Rattle.game_rules.specs.declared.Outcome.TheVariants.{Refused, Fouls, Draws}
 use Rattle.game_rules.specs.declared.Cell.{Cell}
 use Rattle.game_rules.specs.declared.Cell.TheVariants.{Empty}
-use Rattle.game_rules.specs.declared.Point.{Point}
 use Rattle.game_rules.proofs.Boards.{and_left, and_right, place_fits}
 use Rattle.game_rules.proofs.Outcomes.{outcome-five, outcome-more, draws-last}
 use Rattle.game_rules.proofs.Wins.{no_five}
@@ -22,14 +22,7 @@ use Rattle.game_rules.proofs.Points.{points-found, is_same_point-itself, is_same
 use Rattle.game_rules.proofs.Points.{taken_refused}
 use Rattle.game_rules.proofs.Places.{place, Rising, rising-first, rows-rising, earlier-differs}
 use Rattle.game_rules.proofs.Tests.{eq_from, or_none, or_right}
-use Rattle.strategy_graph.specs.declared.Reply.{Reply}
-use Rattle.strategy_graph.specs.declared.Rest.{Rest}
-use Rattle.strategy_graph.specs.declared.Node.{Node}
-use Rattle.strategy_graph.proofs.Common.{Answers, answer, is_rising, listed_node, rest_node, Accepted, AcceptedStart, Meets, arrivals}
-use Rattle.strategy_graph.proofs.Common.{arrivals_after, arrivals_at}
 use Rattle.strategy_graph.proofs.Steps.{arrivals-answer, arrivals-stops, met-answer, met-foul, met-no_move}
-use Rattle.strategy_checker.specs.declared.outlook.Sure.{Sure}
-use Rattle.strategy_checker.proofs.Common.{IsSure, is_apart}
 use Rattle.strategy_checker.proofs.Sureness.{sure-accepted}
 use Rattle.strategy_checker.proofs.Walking.{drop-none}
 
@@ -126,59 +119,56 @@ sum-listed b f off [] rising = none (points_of b) where
   none [] = refl
   none (p ∷ ps) = let all = sum_by-cons (λ (q : Point). zero) p ps in let rest = none ps in omega (arith, all, rest)
 sum-listed b f off (r ∷ rs) rising =
-    let split = sum_by-same (only_listed (r ∷ rs) f) (λ q. only_at r.at f q + only_listed rs f q) (points_of b)
-    (λ q. by_tests q (is_same_point r.at q) (is_listed rs q) refl refl) in
+    let split = sum_by-same (only_listed (r ∷ rs) f)
+    (λ q. only_at r.at f q + only_listed rs f q) (points_of b) (λ q. by_tests q (is_same_point r.at q) (is_listed rs q) refl refl) in
     let both = sum_by-both (only_at r.at f) (only_listed rs f) (points_of b) in
     let one = sum-only b r.at f (off r.at) in
     let rest = sum-listed b f off rs (and_right (list_all (λ (s : Reply). precedes r.at s.at) rs) _ rising) in
     let all = sum_by-cons (λ (s : Reply). f s.at) r rs in
-    omega (arith, split, both, one, rest, all)
-  where
-    by_tests : (q : Point) (s t : Bool) → is_same_point r.at q ≡ s → is_listed rs q ≡ t
-        → cond (s || t) (f q) 0 ≡ cond s (f q) 0 + cond t (f q) 0
-    by_tests q true true e h =
-        let unlisted : is_listed rs q ≡ false = subst (λ (p : Point). is_listed rs p ≡ false) (is_same_point-same r.at q e)
-        (first-unlisted r.at rs (and_left _ (is_rising rs) rising)) in
-        let no : false ≡ true = sym unlisted ∙ h in cc
-    by_tests q true false e h = omega arith
-    by_tests q false t e h = omega arith
+    omega (arith, split, both, one, rest, all) where
+      by_tests : (q : Point) (s t : Bool) → is_same_point r.at q ≡ s → is_listed rs q ≡ t
+          → cond (s || t) (f q) 0 ≡ cond s (f q) 0 + cond t (f q) 0
+      by_tests q true true e h =
+          let unlisted : is_listed rs q ≡ false = subst (λ (p : Point). is_listed rs p ≡ false) (is_same_point-same r.at q e)
+          (first-unlisted r.at rs (and_left _ (is_rising rs) rising)) in
+          let no : false ≡ true = sym unlisted ∙ h in cc
+      by_tests q true false e h = omega arith
+      by_tests q false t e h = omega arith
 
 -- ---- those that are apart: listed, or one more
 
 -- a sum over the points of a board, taken apart
-pub sum-apart : (b : Grid) (f : Point → ℕ) → ((e : Point) → is_on b e ≡ false → f e ≡ 0) → (rs : List Reply) → is_rising rs ≡ true
-    → (w : Point)
-    → sum_by f (points_of b) ≡ sum_by (λ q. cond (is_apart rs w q) 0 (f q)) (points_of b)
+pub sum-apart : (b : Grid) (f : Point → ℕ) → ((e : Point) → is_on b e ≡ false → f e ≡ 0) → (rs : List Reply)
+    → is_rising rs ≡ true → (w : Point) → sum_by f (points_of b) ≡ sum_by (λ q. cond (is_apart rs w q) 0 (f q)) (points_of b)
     + (sum_by (λ r. f r.at) rs + cond (is_listed rs w) 0 (f w))
 unfolding only_listed only_at
 sum-apart b f off rs rising w =
-    let split = sum_by-same f
-    (λ q. cond (is_apart rs w q) 0 (f q) + (only_listed rs f q + only_at w (λ p. cond (is_listed rs w) 0 (f p)) q)) (points_of b)
-    (λ q. by_tests q (is_listed rs w) (is_listed rs q) (is_same_point w q) refl refl refl) in
-    let outer = sum_by-both (λ q. cond (is_apart rs w q) 0 (f q))
-    (λ q. only_listed rs f q + only_at w (λ p. cond (is_listed rs w) 0 (f p)) q) (points_of b) in
+    let split =
+    sum_by-same f (λ q. cond (is_apart rs w q) 0 (f q) + (only_listed rs f q + only_at w (λ p. cond (is_listed rs w) 0 (f p)) q))
+    (points_of b) (λ q. by_tests q (is_listed rs w) (is_listed rs q) (is_same_point w q) refl refl refl) in
+    let outer = sum_by-both
+    (λ q. cond (is_apart rs w q) 0 (f q)) (λ q. only_listed rs f q + only_at w (λ p. cond (is_listed rs w) 0 (f p)) q) (points_of b) in
     let inner = sum_by-both (only_listed rs f) (only_at w (λ p. cond (is_listed rs w) 0 (f p))) (points_of b) in
     let listed = sum-listed b f off rs rising in
-    let one = sum-only b w (λ p. cond (is_listed rs w) 0 (f p))
-    (λ h. ap (λ n. cond (is_listed rs w) 0 n) (off w h) ∙ none (is_listed rs w)) in
-    omega (arith, split, outer, inner, listed, one)
-  where
-    none : (r : Bool) → cond r 0 zero ≡ 0
-    none true = refl
-    none false = refl
+    let one =
+    sum-only b w (λ p. cond (is_listed rs w) 0 (f p)) (λ h. ap (λ n. cond (is_listed rs w) 0 n) (off w h) ∙ none (is_listed rs w)) in
+    omega (arith, split, outer, inner, listed, one) where
+      none : (r : Bool) → cond r 0 zero ≡ 0
+      none true = refl
+      none false = refl
 
-    by_tests : (q : Point) (l t s : Bool) → is_listed rs w ≡ l → is_listed rs q ≡ t → is_same_point w q ≡ s
-        → f q ≡ cond (t || s) 0 (f q) + (cond t (f q) 0 + cond s (cond l 0 (f q)) 0)
-    by_tests q l true false el et es = omega arith
-    by_tests q true true true el et es = omega arith
-    by_tests q false true true el et es =
-        let same : is_listed rs w ≡ true = subst (λ (p : Point). is_listed rs p ≡ true) (sym (is_same_point-same w q es)) et in
-        let no : false ≡ true = sym el ∙ same in cc
-    by_tests q l false false el et es = omega arith
-    by_tests q false false true el et es = omega arith
-    by_tests q true false true el et es =
-        let same : is_listed rs q ≡ true = subst (λ (p : Point). is_listed rs p ≡ true) (is_same_point-same w q es) el in
-        let no : false ≡ true = sym et ∙ same in cc
+      by_tests : (q : Point) (l t s : Bool) → is_listed rs w ≡ l → is_listed rs q ≡ t → is_same_point w q ≡ s
+          → f q ≡ cond (t || s) 0 (f q) + (cond t (f q) 0 + cond s (cond l 0 (f q)) 0)
+      by_tests q l true false el et es = omega arith
+      by_tests q true true true el et es = omega arith
+      by_tests q false true true el et es =
+          let same : is_listed rs w ≡ true = subst (λ (p : Point). is_listed rs p ≡ true) (sym (is_same_point-same w q es)) et in
+          let no : false ≡ true = sym el ∙ same in cc
+      by_tests q l false false el et es = omega arith
+      by_tests q false false true el et es = omega arith
+      by_tests q true false true el et es =
+          let same : is_listed rs q ≡ true = subst (λ (p : Point). is_listed rs p ≡ true) (is_same_point-same w q es) el in
+          let no : false ≡ true = sym et ∙ same in cc
 
 -- ---- the empty points
 
@@ -242,20 +232,19 @@ pub count-others : (b : Grid) → IsBoard b → (rs : List Reply) → is_rising 
     → count_by (λ q. is_empty b q && not (is_apart rs w q)) (points_of b) + (count_by (λ r. is_empty b r.at) rs + cond (is_listed rs w) 0 1)
     ≡ empties_of b
 count-others b ok rs rising w free =
-    let all = sum-apart b (λ q. cond (is_empty b q) 1 0) (λ e off. ap (λ r. cond (r && is_empty_cell (cell_at b e)) 1 zero) off) rs rising
-    w in
+    let all =
+    sum-apart b (λ q. cond (is_empty b q) 1 0) (λ e off. ap (λ r. cond (r && is_empty_cell (cell_at b e)) 1 zero) off) rs rising w in
     let others = sum_by-same (λ q. cond (is_apart rs w q) 0 (cond (is_empty b q) 1 0))
     (λ q. cond (is_empty b q && not (is_apart rs w q)) 1 0) (points_of b) (λ q. by_tests (is_apart rs w q) (is_empty b q)) in
     let one : cond (is_listed rs w) 0 (cond (is_empty b w) 1 0) ≡ cond (is_listed rs w) 0 1 =
     ap (λ r. cond (is_listed rs w) zero (cond r 1 0)) free in
     let count = count-empty b ok in
-    omega (arith, all, others, one, count)
-  where
-    by_tests : (r s : Bool) → cond r zero (cond s 1 0) ≡ cond (s && not r) 1 zero
-    by_tests true true = refl
-    by_tests true false = refl
-    by_tests false true = refl
-    by_tests false false = refl
+    omega (arith, all, others, one, count) where
+      by_tests : (r s : Bool) → cond r zero (cond s 1 0) ≡ cond (s && not r) 1 zero
+      by_tests true true = refl
+      by_tests true false = refl
+      by_tests false true = refl
+      by_tests false false = refl
 
 -- ---- what each of them is
 
@@ -265,8 +254,7 @@ going-empty rule b free calm more q = search (rules, outcome-more, taken_refused
 
 -- where a side without fouls has no five point, the replies that go on are the empty points
 pub count-going : (rule : RuleKind) (b : Grid) (rs : List Reply) (w : Point) → has_five rule b (mover b) ≡ false
-    → has_fouls rule (mover b) ≡ false → 1 < empties_of b
-    → count_by (λ q. is_empty b q && not (is_apart rs w q)) (points_of b) ≡ count_by
+    → has_fouls rule (mover b) ≡ false → 1 < empties_of b → count_by (λ q. is_empty b q && not (is_apart rs w q)) (points_of b) ≡ count_by
     (λ q. goes_on (outcome rule b q) && not (is_apart rs w q)) (points_of b)
 count-going rule b rs w free calm more = search (rules, going-empty)
 
@@ -310,10 +298,9 @@ module _ (rule : RuleKind) (t : List Node) (b : Grid) (rs : List Reply) (rest : 
   -- then the arrivals are those behind the replies that are listed
   pub arrivals-listed : arrivals_after rule answers (arrivals rule t) b ≡ sum_by (λ r. arrivals_at rule answers (arrivals rule t) b r.at) rs
   unfolding only_listed
-  arrivals-listed = sum_by-same (arrivals_at rule answers (arrivals rule t) b)
-      (only_listed rs (arrivals_at rule answers (arrivals rule t) b))
-      (points_of b) (λ q. by_test q (is_listed rs q) refl)
-      ∙ sum-listed b (arrivals_at rule answers (arrivals rule t) b)
+  arrivals-listed =
+      sum_by-same (arrivals_at rule answers (arrivals rule t) b) (only_listed rs (arrivals_at rule answers (arrivals rule t) b))
+      (points_of b) (λ q. by_test q (is_listed rs q) refl) ∙ sum-listed b (arrivals_at rule answers (arrivals rule t) b)
       (λ e off. arrivals-stops rule t answers b e Refused (off_refused rule b e off) (λ x. cc)) rs rising where
         by_test : (q : Point) (r : Bool) → is_listed rs q ≡ r
             → arrivals_at rule answers (arrivals rule t) b q ≡ cond r (arrivals_at rule answers (arrivals rule t) b q) 0
@@ -354,8 +341,7 @@ module _ (rule : RuleKind) (t : List Node) (b : Grid) (rs : List Reply) (rest : 
 
   -- the arrivals behind all replies: one for each other reply that goes on, and those behind the replies that are apart
   pub arrivals-most : is_rising rs ≡ true
-      → arrivals_after rule a (arrivals rule t) b
-      ≡ count_by (λ q. goes_on (outcome rule b q) && not (is_apart rs s.attack q)) (points_of b)
+      → arrivals_after rule a (arrivals rule t) b ≡ count_by (λ q. goes_on (outcome rule b q) && not (is_apart rs s.attack q)) (points_of b)
       + (sum_by (λ r. arrivals_at rule a (arrivals rule t) b r.at) rs + cond (is_listed rs s.attack) 0
       (arrivals_at rule a (arrivals rule t) b s.attack))
   arrivals-most rising =
@@ -367,9 +353,8 @@ module _ (rule : RuleKind) (t : List Node) (b : Grid) (rs : List Reply) (rest : 
       omega (arith, all, others)
 
   -- all replies are met once those that are apart are
-  pub met-most : has_five rule b (mover b) ≡ false → 1 < empties_of b
-      → All (λ r. Meets rule a (Accepted rule t) b r.at) rs → (is_listed rs s.attack ≡ false → Meets rule a (Accepted rule t) b s.attack)
-      → AcceptedStart rule t a b
+  pub met-most : has_five rule b (mover b) ≡ false → 1 < empties_of b → All (λ r. Meets rule a (Accepted rule t) b r.at) rs
+      → (is_listed rs s.attack ≡ false → Meets rule a (Accepted rule t) b s.attack) → AcceptedStart rule t a b
   met-most free more listed last q = by_tests (is_listed rs q) (is_same_point s.attack q) refl refl where
     by_outcome : is_apart rs s.attack q ≡ false → (u : Outcome) → outcome rule b q ≡ u → Meets rule a (Accepted rule t) b q
     by_outcome h Refused o = met-no_move rule t a b q o

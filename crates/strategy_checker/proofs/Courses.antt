@@ -1,21 +1,15 @@
 -- The courses over replies: what they owe is what all replies owe.
-use Rattle.std.proofs.Common.{◌≡◌, ℕ, zero, suc, ◌+◌, ◌<◌, Bool, true, false, cond, List, [], ◌∷◌, ◌++◌, map}
-use Rattle.std.proofs.Common.{refl, sym, ap, subst, ◌∙◌, arith, rules, inl, inr, Some, slice_get, All, sum_by, find, option_map}
+use Rattle.std.proofs.Common.{◌≡◌, ℕ, zero, suc, ◌+◌, ◌<◌, Bool, true, false, cond, List, [], ◌∷◌, ◌++◌, map, refl, sym, ap, subst, ◌∙◌}
+use Rattle.std.proofs.Common.{arith, rules, inl, inr, Some, slice_get, All, sum_by, find, option_map}
 use Rattle.std.specs.List.{list_all}
 use Rattle.std.proofs.lemmas.List.Elements.{All-cons, All-nil}
 use Rattle.std.proofs.lemmas.List.Sums.{sum_by-cons, sum_by-append}
-use Rattle.game_rules.proofs.Common.{Grid, IsBoard, empties_of, points_of, has_five, IsPosition, mover, precedes, is_same_point}
-use Rattle.game_rules.specs.declared.Point.{Point}
-use Rattle.game_rules.specs.declared.RuleKind.{RuleKind}
+use Rattle.strategy_checker.proofs.Common.{Grid, IsBoard, empties_of, points_of, has_five, IsPosition, mover, precedes, is_same_point}
+use Rattle.strategy_checker.proofs.Common.{Point, RuleKind, Node, Reply, Rest, Answers, is_rising, listed_node, rest_node, Accepted, Meets}
+use Rattle.strategy_checker.proofs.Common.{arrivals, arrivals_after, arrivals_at, Sure, Walk, IsReady, IsSure, AreMet, IsWhole, Owes}
+use Rattle.strategy_checker.proofs.Common.{apart_points, owed}
 use Rattle.game_rules.proofs.Boards.{and_left, and_right}
 use Rattle.game_rules.proofs.Points.{is_same_point-itself, precedes-differs}
-use Rattle.strategy_graph.specs.declared.Node.{Node}
-use Rattle.strategy_graph.specs.declared.Reply.{Reply}
-use Rattle.strategy_graph.specs.declared.Rest.{Rest}
-use Rattle.strategy_graph.proofs.Common.{Answers, is_rising, listed_node, rest_node, Accepted, Meets, arrivals, arrivals_after, arrivals_at}
-use Rattle.strategy_checker.specs.declared.outlook.Sure.{Sure}
-use Rattle.strategy_checker.specs.declared.walk.Walk.{Walk}
-use Rattle.strategy_checker.proofs.Common.{IsReady, IsSure, AreMet, IsWhole, Owes, apart_points, owed}
 use Rattle.strategy_checker.proofs.Counted.{arrivals-listed, is_listed, met-listed, met-most}
 use Rattle.strategy_checker.proofs.Owing.{owes-all}
 
@@ -33,8 +27,7 @@ listed-here (s ∷ rs) zero r rising at = search (rules, is_same_point-itself)
 listed-here (s ∷ rs) (suc i) r rising at =
     let after : precedes s.at r.at ≡ true = all-at (λ x. precedes s.at x.at) rs i r (and_left _ (is_rising rs) rising) at in
     ap (λ (b : Bool). option_map (λ (x : Reply). x.next) (cond b (Some s) (find (λ (x : Reply). is_same_point x.at r.at) rs)))
-    (precedes-differs s.at r.at after)
-    ∙ listed-here rs i r (and_right (list_all (λ (x : Reply). precedes s.at x.at) rs) _ rising) at
+    (precedes-differs s.at r.at after) ∙ listed-here rs i r (and_right (list_all (λ (x : Reply). precedes s.at x.at) rs) _ rising) at
 
 -- ---- points of replies
 
@@ -42,8 +35,7 @@ sum-at : (f : Point → ℕ) (rs : List Reply) → sum_by f (map (λ r. r.at) rs
 sum-at f [] = refl
 sum-at f (r ∷ rs) = search (rules, sum_by-cons, sum-at f rs)
 
-all-apart : (P : Point → Type 0) (rs : List Reply) (ys : List Point) → All P (map (λ r. r.at) rs ++ ys)
-    → All (λ r. P r.at) rs × All P ys
+all-apart : (P : Point → Type 0) (rs : List Reply) (ys : List Point) → All P (map (λ r. r.at) rs ++ ys) → All (λ r. P r.at) rs × All P ys
 all-apart P [] ys all = (All-nil (λ (r : Reply). P r.at), all)
 all-apart P (r ∷ rs) ys all =
     let rest = all-apart P rs ys (λ j d l. all (suc j) d (omega (arith, l))) in

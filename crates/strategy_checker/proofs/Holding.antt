@@ -1,11 +1,8 @@
 -- Held tables: a root that is added, and what each root that is held says.
-use Rattle.std.proofs.Common.{◌≡◌, ◌<◌, List, [], ◌∷◌, ◌++◌, length, rules}
+use Rattle.std.proofs.Common.{◌<◌, List, [], ◌∷◌, ◌++◌, length, rules}
 use Rattle.std.proofs.lemmas.List.{length_push}
 use Rattle.std.proofs.lemmas.List.Elements.{All-push}
-use Rattle.strategy_graph.specs.declared.Node.{Node}
-use Rattle.strategy_checker.specs.declared.TheConstants.{MAX_ROOTS}
-use Rattle.strategy_checker.specs.declared.held.HeldRoot.{HeldRoot}
-use Rattle.strategy_checker.specs.HeldRoots.{IsHeldRoot, IsHeld}
+use Rattle.strategy_checker.proofs.Common.{Node, MAX_ROOTS, HeldRoot, IsHeldRoot, IsHeld}
 
 pub IsHeld-push : (t : List Node) (rs : List HeldRoot) (r : HeldRoot) → IsHeld (record { table = t; roots = rs }) → length rs < MAX_ROOTS
     → IsHeldRoot t r → IsHeld (record { table = t; roots = rs ++ r ∷ [] })

@@ -2,16 +2,8 @@
 use Rattle.std.proofs.Common.{◌≡◌, ℕ, ◌+◌, ◌<◌, List, [], ◌∷◌, reverse, refl, ap, ◌∙◌, arith, rules, Ok, Err}
 use Rattle.std.proofs.lemmas.List.Elements.{All-cons, All-nil}
 use Rattle.std.proofs.lemmas.List.Sums.{sum_by-cons}
-use Rattle.game_rules.proofs.Common.{Grid}
-use Rattle.game_rules.specs.declared.Point.{Point}
-use Rattle.game_rules.specs.declared.RuleKind.{RuleKind}
-use Rattle.strategy_graph.specs.declared.Node.{Node}
-use Rattle.strategy_graph.specs.declared.Why.{Why}
-use Rattle.strategy_graph.proofs.Common.{Answers, Accepted, Meets, arrivals, arrivals_at, LeadsStart}
-use Rattle.strategy_checker.specs.declared.walk.Stop.{Stop}
-use Rattle.strategy_checker.specs.declared.walk.Stop.TheVariants.{Fault, Spent, Memory}
-use Rattle.strategy_checker.specs.declared.walk.Walk.{Walk}
-use Rattle.strategy_checker.proofs.Common.{IsReady, Stopped, Walked, WalkedReply, AreMet, Owes, owed}
+use Rattle.strategy_checker.proofs.Common.{Grid, Point, RuleKind, Node, Why, Answers, Accepted, Meets, arrivals, arrivals_at, LeadsStart}
+use Rattle.strategy_checker.proofs.Common.{Stop, Fault, Spent, Memory, Walk, IsReady, Stopped, Walked, WalkedReply, AreMet, Owes, owed}
 
 module _ (rule : RuleKind) (t : List Node) (a : Answers) (b : Grid) where
   pub owed-cons : (q : Point) (qs : List Point) → owed rule t a b (q ∷ qs) ≡ arrivals_at rule a (arrivals rule t) b q + owed rule t a b qs

@@ -1,18 +1,12 @@
 -- What a walk from a root shows, and the verdict that comes of it.
-use Rattle.std.proofs.Common.{◌≡◌, ℕ, ◌+◌, ◌-◌, ◌<◌, ◌≤◌, List, reverse, ◌∙◌, rules, Result, Err}
-use Rattle.game_rules.proofs.Common.{Grid}
-use Rattle.game_rules.specs.declared.Point.{Point}
-use Rattle.game_rules.specs.declared.RuleKind.{RuleKind}
+use Rattle.std.proofs.Common.{◌≡◌, ℕ, ◌-◌, ◌<◌, List, reverse, rules, Result, Err}
+use Rattle.strategy_checker.proofs.Common.{Grid, Point, RuleKind, Node, Walk, Stop, IsChecked, IsEndOf, IsTold, IsVerdictOf, AcceptsExactly}
+use Rattle.strategy_checker.proofs.Common.{RefusesRightly, SpendsRightly, IfAccepted, IfRefused, Stopped, Walked}
 use Rattle.strategy_graph.proofs.Common.{AcceptedRoot, LeadsRoot, RootWins, root_arrivals, root_depth}
-use Rattle.strategy_graph.specs.declared.Node.{Node}
 use Rattle.strategy_graph.specs.declared.roots.Root.{Root}
 use Rattle.strategy_graph.proofs.Starts.{accepted-root-wins, leads-refutes-root}
-use Rattle.strategy_checker.specs.declared.walk.Walk.{Walk}
-use Rattle.strategy_checker.specs.declared.walk.Stop.{Stop}
 use Rattle.strategy_checker.specs.declared.Verdict.{Verdict}
 use Rattle.strategy_checker.specs.declared.error.HeldError.{HeldError}
-use Rattle.strategy_checker.proofs.Common.{IsChecked, IsEndOf, IsTold, IsVerdictOf, AcceptsExactly, RefusesRightly, SpendsRightly}
-use Rattle.strategy_checker.proofs.Common.{IfAccepted, IfRefused, Stopped, Walked}
 
 -- what a verdict says of a root
 pub record IsRight (rule : RuleKind) (t : List Node) (root : Root) (b : Grid) (work : ℕ) (v : Verdict) : Type 0 where

@@ -1,37 +1,26 @@
 -- An open node: what is left of its replies, and what comes of it. And the nodes that wait for one another.
-use Rattle.std.proofs.Common.{◌≡◌, ℕ, ◌+◌, ◌<◌, List, [], ◌∷◌, ◌++◌, reverse, refl, sym, ap, ◌∙◌, arith}
-use Rattle.std.proofs.Common.{false, Option, Some, None, Result, Ok, Err, slice_get, inl, inr, rules}
+use Rattle.std.proofs.Common.{◌≡◌, ℕ, ◌+◌, ◌<◌, List, [], ◌∷◌, ◌++◌, reverse, refl, sym, ap, ◌∙◌, arith, false, Option, Some, None, Result}
+use Rattle.std.proofs.Common.{Ok, Err, slice_get, inl, inr, rules}
 use Rattle.std.proofs.lemmas.List.{reverse-append}
 use Rattle.std.proofs.lemmas.List.Elements.{All-cons}
-use Rattle.game_rules.proofs.Common.{Grid, lift, IsPosition, after, outcome}
-use Rattle.game_rules.specs.declared.Point.{Point}
-use Rattle.game_rules.specs.declared.RuleKind.{RuleKind}
-use Rattle.game_rules.specs.declared.Outcome.{Outcome}
-use Rattle.game_rules.specs.declared.Outcome.TheVariants.{GoesOn}
-use Rattle.strategy_graph.specs.declared.Node.{Node}
-use Rattle.strategy_graph.specs.declared.Why.{Why}
-use Rattle.strategy_graph.proofs.Common.{Answers, IsTable, answer, answers_of, is_winning, Accepted, AcceptedStart, Meets, arrivals}
-use Rattle.strategy_graph.proofs.Common.{arrivals_after, arrivals_at, LeadsStart, attack_fault}
+use Rattle.strategy_checker.proofs.Common.{Grid, lift, IsPosition, after, outcome, Point, RuleKind, Outcome, GoesOn, Node, Why, Answers}
+use Rattle.strategy_checker.proofs.Common.{answer, answers_of, is_winning, Accepted, AcceptedStart, Meets, arrivals, arrivals_after}
+use Rattle.strategy_checker.proofs.Common.{arrivals_at, LeadsStart, attack_fault, Stop, Fault, Spent, Memory, Stage, Walk, IsNoted}
+use Rattle.strategy_checker.proofs.Common.{IsOutlook, IsReady, Stopped, AreMet, Entered, Handed, IsStage, Owes, Settled, Stops, Under}
+use Rattle.strategy_checker.proofs.Common.{Waits, WentOn, all_to_ask, left_at, owed}
+use Rattle.strategy_graph.proofs.Common.{IsTable}
 use Rattle.strategy_graph.proofs.Filling.{IsTable-lower}
 use Rattle.strategy_graph.proofs.Steps.{accepted-by-replies, arrivals-by-replies, arrivals-answer, met-all, met-answer, leads-answer}
 use Rattle.game_rules.proofs.Undo.{lift_back}
-use Rattle.strategy_checker.specs.declared.walk.Stop.{Stop}
-use Rattle.strategy_checker.specs.declared.walk.Stop.TheVariants.{Fault, Spent, Memory}
-use Rattle.strategy_checker.specs.declared.walk.Stage.{Stage}
-use Rattle.strategy_checker.specs.declared.walk.Walk.{Walk}
 use Rattle.strategy_checker.specs.declared.meeting.Meeting.{Meeting}
-use Rattle.strategy_checker.proofs.Common.{IsNoted, IsOutlook, IsReady, Stopped, AreMet, Entered, Handed, IsStage, Owes, Settled, Stops}
-use Rattle.strategy_checker.proofs.Common.{Under, Waits, WentOn, all_to_ask, left_at, owed}
 use Rattle.strategy_checker.proofs.Owing.{owed-cons}
 use Rattle.strategy_checker.proofs.Walking.{attack-stops, attack-then-leads}
 
 -- a fault of the attack of a node that is entered
-pub entered-stops : (rule : RuleKind) (t : List Node) (i : ℕ) (b : Grid) {n : Node} {why : Why} {u : Outcome} {start : ℕ}
-    (mid new : Walk) (stop : Stop) → mid.left ≡ start → slice_get t i ≡ Some n → u ≡ outcome rule b n.attack
-    → attack_fault u n.rest ≡ Some why → mid.line ≡ [] → IsNoted n.attack mid.line new.line (Fault why) stop
-    → Stops rule t i b start new stop
-entered-stops rule t i b mid new stop left at o h none noted =
-    rw (← left) (attack-stops rule t i b _ _ _ mid new stop at o h none noted)
+pub entered-stops : (rule : RuleKind) (t : List Node) (i : ℕ) (b : Grid) {n : Node} {why : Why} {u : Outcome} {start : ℕ} (mid new : Walk)
+    (stop : Stop) → mid.left ≡ start → slice_get t i ≡ Some n → u ≡ outcome rule b n.attack → attack_fault u n.rest ≡ Some why
+    → mid.line ≡ [] → IsNoted n.attack mid.line new.line (Fault why) stop → Stops rule t i b start new stop
+entered-stops rule t i b mid new stop left at o h none noted = rw (← left) (attack-stops rule t i b _ _ _ mid new stop at o h none noted)
 
 stopped-more : (L : Why → Type 0) (P Q : Type 0) → (P → Q) → (stop : Stop) → Stopped L P stop → Stopped L Q stop
 stopped-more L P Q f stop h = search rules
@@ -90,8 +79,7 @@ module _ {rule : RuleKind} {t : List Node} {n : Node} {c : Grid} {o : Stage} whe
   pub stage-stops : {qs : List Point} {mid : ℕ} (late new : Walk) (stop last : Stop) → IsStage rule t n c o qs mid
       → Stopped (λ why. LeadsStart rule t (answers_of n) c (reverse late.line) why) (mid < owed rule t (answers_of n) c qs) stop
       → IsNoted n.attack late.line new.line stop last → Stops rule t o.node (lift c n.attack) o.before new last
-  stage-stops late new (Fault why) (Fault w) is h noted =
-      rw (noted.1, reverse-append late.line (n.attack ∷ []), noted.0)
+  stage-stops late new (Fault why) (Fault w) is h noted = rw (noted.1, reverse-append late.line (n.attack ∷ []), noted.0)
       (attack-then-leads rule t o.node (lift c n.attack) n (reverse late.line) why is.at is.on is.more (rw is.back h))
   stage-stops late new (Fault why) Spent is h noted = absurd noted
   stage-stops late new (Fault why) Memory is h noted = tt
@@ -101,29 +89,27 @@ module _ {rule : RuleKind} {t : List Node} {n : Node} {c : Grid} {o : Stage} whe
   module _ {i start : ℕ} (waits : Waits rule t n c o i start) where
     -- the node that it waits for is settled
     pub waits-settled : {now : Walk} → Settled rule t i (after c o.meeting.reply) start now → IsStage rule t n c o (left_at n c o) now.left
-    waits-settled settled =
-        record {
-          at = waits.stage.at;
-          lawful = waits.stage.lawful;
-          on = waits.stage.on;
-          back = waits.stage.back;
-          more = waits.stage.more;
-          outlook = waits.stage.outlook;
-          counted = omega (
-            arith,
-            waits.stage.counted,
-            owed-cons rule t (answers_of n) c o.meeting.reply (left_at n c o),
-            settled.counted,
-            arrivals-answer rule t (answers_of n) c o.meeting.reply i waits.on waits.answered,
-          );
-          met = λ later. waits.stage.met (All-cons (Meets rule (answers_of n) (Accepted rule t) c) o.meeting.reply (left_at n c o)
-              (met-answer rule t (answers_of n) c o.meeting.reply i waits.on waits.answered settled.accepted) later);
-        }
+    waits-settled settled = record {
+      at = waits.stage.at;
+      lawful = waits.stage.lawful;
+      on = waits.stage.on;
+      back = waits.stage.back;
+      more = waits.stage.more;
+      outlook = waits.stage.outlook;
+      counted = omega (
+        arith,
+        waits.stage.counted,
+        owed-cons rule t (answers_of n) c o.meeting.reply (left_at n c o),
+        settled.counted,
+        arrivals-answer rule t (answers_of n) c o.meeting.reply i waits.on waits.answered,
+      );
+      met = λ later. waits.stage.met (All-cons (Meets rule (answers_of n) (Accepted rule t) c) o.meeting.reply (left_at n c o)
+          (met-answer rule t (answers_of n) c o.meeting.reply i waits.on waits.answered settled.accepted) later);
+    }
 
     -- the walk has stopped there, and the reply is noted
     pub waits-stops : (late new : Walk) (stop last : Stop) → Stops rule t i (after c o.meeting.reply) start late stop
-        → IsNoted o.meeting.reply late.line new.line stop last
-        → Stopped (λ why. LeadsStart rule t (answers_of n) c (reverse new.line) why)
+        → IsNoted o.meeting.reply late.line new.line stop last → Stopped (λ why. LeadsStart rule t (answers_of n) c (reverse new.line) why)
         (start < owed rule t (answers_of n) c (o.meeting.reply ∷ left_at n c o)) last
     waits-stops late new stop last h noted =
         let more = owed-cons rule t (answers_of n) c o.meeting.reply (left_at n c o) in
@@ -169,10 +155,9 @@ module _ {rule : RuleKind} {t : List Node} {root : ℕ} {first : Grid} {all : �
 
     -- the node that was entered is settled, and the last one that waits is open again once its reply is taken back
     pub handed-settled : {old : List Stage} {e : Option Stage} (os : List Stage) → old ≡ os ++ o ∷ [] → r ≡ Ok e → e ≡ None
-        → Handed rule t root first all (reverse old) now c r
-        → (n : Node) × (b : Grid) × IsStage rule t n b o (left_at n b o) now.left × IsReady rule t b now
-        × Under rule t root first all (reverse os) o.node (lift b n.attack) o.before × (c ≡ after b o.meeting.reply)
-        × (outcome rule b o.meeting.reply ≡ GoesOn) × (lift c o.meeting.reply ≡ b)
+        → Handed rule t root first all (reverse old) now c r → (n : Node) × (b : Grid) × IsStage rule t n b o (left_at n b o) now.left
+        × IsReady rule t b now × Under rule t root first all (reverse os) o.node (lift b n.attack) o.before
+        × (c ≡ after b o.meeting.reply) × (outcome rule b o.meeting.reply ≡ GoesOn) × (lift c o.meeting.reply ≡ b)
     handed-settled os took is none was =
         let handed = rw (took, reverse-append os (o ∷ []), is, none) at was in
         let n = handed.under.0 in
@@ -191,11 +176,10 @@ module _ {rule : RuleKind} {t : List Node} {root : ℕ} {first : Grid} {all : �
         )
 
     -- the walk has stopped at the node that was entered, for which the last one waits
-    pub handed-stopped : {old : List Stage} {stop : Stop} (os : List Stage) → old ≡ os ++ o ∷ [] → r ≡ Err stop
-        → Handed rule t root first all (reverse old) now c r
-        → (n : Node) × (b : Grid) × (i : ℕ) × (start : ℕ) × Waits rule t n b o i start × (c ≡ after b o.meeting.reply)
-        × Stops rule t i c start now stop × Under rule t root first all (reverse os) o.node (lift b n.attack) o.before
-        × (lift c o.meeting.reply ≡ b)
+    pub handed-stopped : {old : List Stage} {stop : Stop} (os : List Stage)
+        → old ≡ os ++ o ∷ [] → r ≡ Err stop → Handed rule t root first all (reverse old) now c r → (n : Node)
+        × (b : Grid) × (i : ℕ) × (start : ℕ) × Waits rule t n b o i start × (c ≡ after b o.meeting.reply) × Stops rule t i c start now stop
+        × Under rule t root first all (reverse os) o.node (lift b n.attack) o.before × (lift c o.meeting.reply ≡ b)
     handed-stopped os took is was =
         let handed = rw (took, reverse-append os (o ∷ []), is) at was in
         let waits = handed.under.1.1.0 in

@@ -1,14 +1,13 @@
 -- A node that is sure wins after each reply that goes on elsewhere: its attack stays a five point.
-use Rattle.std.proofs.Common.{◌≡◌, ℕ, ◌<◌, Bool, true, false, refl, sym, ap, subst, ◌∙◌, arith, List, nat_eq, rules}
-use Rattle.std.proofs.Common.{Option, Some, None, IfSome, slice_get, option_map}
+use Rattle.std.proofs.Common.{◌≡◌, ℕ, ◌<◌, Bool, true, false, refl, sym, ap, subst, ◌∙◌, arith, List, nat_eq, rules, Option, Some, None}
+use Rattle.std.proofs.Common.{IfSome, slice_get, option_map}
 use Rattle.std.proofs.lemmas.Bool.Decides.{nat_tests}
 use Rattle.std.proofs.lemmas.Bool.{not-true}
-use Rattle.game_rules.proofs.Common.{Grid, holds, lift, empties_of, five_points, has_five, five, IsPosition, outcome, mover, other, after}
-use Rattle.game_rules.proofs.Common.{has_fouls}
-use Rattle.game_rules.specs.declared.RuleKind.{RuleKind}
-use Rattle.game_rules.specs.declared.Outcome.TheVariants.{Wins, GoesOn}
+use Rattle.strategy_checker.proofs.Common.{Grid, lift, empties_of, has_five, IsPosition, outcome, mover, after, has_fouls, RuleKind, Wins}
+use Rattle.strategy_checker.proofs.Common.{GoesOn, Point, Node, Accepted, arrivals, Sure, AreFives, HadNone, IsQuick, IsSure, TellsFives}
+use Rattle.strategy_checker.proofs.Common.{fives_after, is_sure_after, leaves_none}
+use Rattle.game_rules.proofs.Common.{holds, five_points, five, other}
 use Rattle.game_rules.specs.declared.Side.{Side}
-use Rattle.game_rules.specs.declared.Point.{Point}
 use Rattle.game_rules.proofs.Boards.{and_left, and_right, Apart}
 use Rattle.game_rules.proofs.Points.{is_same_point-apart, is_same_point-same, taken_refused}
 use Rattle.game_rules.proofs.Fives.{five-other}
@@ -18,18 +17,13 @@ use Rattle.row_shapes.specs.FivePoints.{in_short}
 use Rattle.row_shapes.specs.declared.fives.FivePoints.{FivePoints}
 use Rattle.row_shapes.specs.declared.fives.FivePoints.TheVariants.{None as NoPoint, One, Several}
 use Rattle.row_shapes.proofs.FiveLaws.{has_five-none, none-left as no-left, one-taken}
-use Rattle.strategy_graph.specs.declared.Node.{Node}
-use Rattle.strategy_graph.proofs.Common.{Accepted, arrivals}
 use Rattle.strategy_graph.proofs.Filling.{IsTable-lower}
 use Rattle.strategy_graph.proofs.Steps.{accepted-by-win, arrivals-one}
-use Rattle.strategy_checker.specs.declared.outlook.Sure.{Sure}
-use Rattle.strategy_checker.proofs.Common.{AreFives, HadNone, IsQuick, IsSure, TellsFives, fives_after, is_sure_after, leaves_none}
 
 module _ (rule : RuleKind) (t : List Node) (b : Grid) (q : Point) (lawful : IsPosition rule b) (on : outcome rule b q ≡ GoesOn) where
   -- a five point of the side that is not to move wins after a reply elsewhere
   outcome-after : (w : Point) → five rule b (other (mover b)) w ≡ true → Apart q w → outcome rule (after b q) w ≡ Wins
-  outcome-after w h apart = five-outcome rule (after b q) w
-      (ap (λ (s : Side). five rule (after b q) s w) (mover-then rule b q lawful on)
+  outcome-after w h apart = five-outcome rule (after b q) w (ap (λ (s : Side). five rule (after b q) s w) (mover-then rule b q lawful on)
       ∙ five-other b (mover b) q lawful.board (GoesOn-empty rule b q on) rule w apart ∙ h)
 
   -- what is sure is accepted after such a reply, and is the one arrival there
@@ -59,11 +53,9 @@ module _ (rule : RuleKind) (t : List Node) (b : Grid) (q : Point) (lawful : IsPo
 
 -- what is told of the five points of the side that moved last, with the move of the other side after it
 pub none-left : (rule : RuleKind) (b : Grid) (p : Point) → IsPosition rule b → outcome rule b p ≡ GoesOn → (fives : Option FivePoints)
-    → TellsFives rule b fives → leaves_none fives p ≡ true
-    → has_five rule (after b p) (mover (after b p)) ≡ false
-none-left rule b p lawful on fives told h =
-    subst (λ (s : Side). has_five rule (after b p) s ≡ false) (sym (mover-then rule b p lawful on))
-    (has_five-none rule (after b p) (other (mover b)) (by_told fives told h)) where
+    → TellsFives rule b fives → leaves_none fives p ≡ true → has_five rule (after b p) (mover (after b p)) ≡ false
+none-left rule b p lawful on fives told h = subst (λ (s : Side). has_five rule (after b p) s ≡ false)
+    (sym (mover-then rule b p lawful on)) (has_five-none rule (after b p) (other (mover b)) (by_told fives told h)) where
       by_told : (fives : Option FivePoints) → TellsFives rule b fives → leaves_none fives p ≡ true
           → in_short (five_points rule (after b p) (other (mover b))) ≡ NoPoint
       by_told None told h = cc
@@ -73,9 +65,8 @@ none-left rule b p lawful on fives told h =
       by_told (Some Several) told h = cc
 
 -- what is known of the five points of the side that moved last, once it has moved
-pub had_none : (rule : RuleKind) (b : Grid) (q : Point) → IsPosition rule b → outcome rule b q ≡ GoesOn → (free : Bool)
-    → (free ≡ true → has_five rule b (mover b) ≡ false)
-    → (c : Grid) → c ≡ after b q → AreFives rule c (fives_after free q)
+pub had_none : (rule : RuleKind) (b : Grid) (q : Point) → IsPosition rule b → outcome rule b q ≡ GoesOn
+    → (free : Bool) → (free ≡ true → has_five rule b (mover b) ≡ false) → (c : Grid) → c ≡ after b q → AreFives rule c (fives_after free q)
 had_none rule b q lawful on free none c there = search (rules, lift-after)
 
 -- where the side to move has no five point and no fouls, each reply on an empty point goes on, unless that is the last

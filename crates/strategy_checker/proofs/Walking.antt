@@ -1,21 +1,11 @@
 -- A move played and taken back, arrivals that are taken, and faults.
-use Rattle.std.proofs.Common.{rules, ◌≡◌, ℕ, ◌+◌, ◌≤◌, false, drop, List, [], ◌∷◌, ◌++◌}
-use Rattle.std.proofs.Common.{◌∙◌, arith, Some, slice_get, Result, Ok, Err}
-use Rattle.game_rules.proofs.Common.{Grid, is_empty, IsPosition, outcome, after}
-use Rattle.game_rules.specs.declared.RuleKind.{RuleKind}
-use Rattle.game_rules.specs.declared.Outcome.{Outcome}
-use Rattle.game_rules.specs.declared.Outcome.TheVariants.{GoesOn}
-use Rattle.game_rules.specs.declared.Point.{Point}
+use Rattle.std.proofs.Common.{rules, ◌≡◌, ℕ, ◌≤◌, false, drop, List, [], ◌∷◌, arith, Some, slice_get, Result, Ok, Err}
+use Rattle.strategy_checker.proofs.Common.{Grid, is_empty, IsPosition, outcome, after, RuleKind, Outcome, GoesOn, Point, Node, Why, Answers}
+use Rattle.strategy_checker.proofs.Common.{answers_of, is_winning, arrivals, attack_fault, Leads, LeadsStart, Stop, Fault, Walk, IsNoted}
+use Rattle.strategy_checker.proofs.Common.{IsReady, IsTrueMemo, Takes, Walked, WalkedNode, WalkedReply}
 use Rattle.game_rules.proofs.Points.{taken_refused}
 use Rattle.game_rules.proofs.Positions.{IsPosition-after}
-use Rattle.strategy_graph.specs.declared.Node.{Node}
-use Rattle.strategy_graph.specs.declared.Why.{Why}
-use Rattle.strategy_graph.proofs.Common.{Answers, answers_of, is_winning, arrivals, attack_fault, Leads, LeadsStart}
 use Rattle.strategy_graph.proofs.Steps.{arrivals-stops, leads-attack, leads-reply, met-no_move}
-use Rattle.strategy_checker.specs.declared.walk.Stop.{Stop}
-use Rattle.strategy_checker.specs.declared.walk.Stop.TheVariants.{Fault}
-use Rattle.strategy_checker.specs.declared.walk.Walk.{Walk}
-use Rattle.strategy_checker.proofs.Common.{IsNoted, IsReady, IsTrueMemo, Takes, Walked, WalkedNode, WalkedReply}
 
 -- ---- a move that goes on, played and taken back
 
@@ -35,8 +25,7 @@ fault-stops rule t A n L p why old new stop none here noted = search rules
 
 -- arrivals that are taken
 pub taken : (rule : RuleKind) (t : List Node) (A : Type 0) (n : ℕ) (L : List Point → Why → Type 0) (old new : Walk)
-    (r : Result (Unit {0}) Stop)
-    → old.line ≡ [] → IsTrueMemo rule t old.memo → A → Takes n old new r → Walked rule t A n L old new r
+    (r : Result (Unit {0}) Stop) → old.line ≡ [] → IsTrueMemo rule t old.memo → A → Takes n old new r → Walked rule t A n L old new r
 taken rule t A n L old new r none memo a takes = search rules
 
 -- a walk that has taken arrivals may step on

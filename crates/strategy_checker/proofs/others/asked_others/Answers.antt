@@ -1,8 +1,7 @@
 use Rattle.std.proofs.Common.{◌&&◌, not, subst, arith}
 use Rattle.std.proofs.lemmas.List.Sums.{count_by-le-length}
-use Rattle.game_rules.proofs.Common.{IsBoard, points_of, outcome, goes_on}
+use Rattle.strategy_checker.proofs.Common.{IsBoard, points_of, outcome, goes_on, is_apart}
 use Rattle.game_rules.proofs.Places.{points_few}
-use Rattle.strategy_checker.proofs.Common.{is_apart}
 use Rattle.strategy_checker.proofs.others.asked_others.Goals as goal
 
 -- no more are counted than there are points

@@ -1,6 +1,5 @@
 use Rattle.std.proofs.Common.{◌≡◌, ◌+◌, ◌&&◌, not, count_by}
-use Rattle.game_rules.proofs.Common.{points_of, outcome, goes_on}
-use Rattle.strategy_checker.proofs.Common.{is_apart}
+use Rattle.strategy_checker.proofs.Common.{points_of, outcome, goes_on, is_apart}
 use Rattle.strategy_checker.proofs.others.asked_others.Given as goal
 
 -- those that are counted, and those among the points left, are all

@@ -1,6 +1,5 @@
 use Rattle.std.proofs.Common.{◌≡◌, ◌∙◌, ◌&&◌, not, false, sym, ap, count_by}
-use Rattle.game_rules.proofs.Common.{Grid, is_empty, points_of, mover, has_fouls}
-use Rattle.strategy_checker.proofs.Common.{is_apart}
+use Rattle.strategy_checker.proofs.Common.{Grid, is_empty, points_of, mover, has_fouls, is_apart}
 use Rattle.strategy_checker.proofs.Counted.{count-going}
 use Rattle.strategy_checker.proofs.others.others_going_on.Goals as goal
 

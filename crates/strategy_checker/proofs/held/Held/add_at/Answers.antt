@@ -1,9 +1,6 @@
 use Rattle.std.proofs.Common.{◌≡◌, ◌<◌, true, not, List, length, sym, ap, subst, ◌∙◌, is_ok}
-use Rattle.strategy_graph.specs.declared.Node.{Node}
+use Rattle.strategy_checker.proofs.Common.{Node, MAX_ROOTS, HeldRoot, HeldTable, IsHeldRoot}
 use Rattle.strategy_graph.proofs.Common.{root_below}
-use Rattle.strategy_checker.specs.declared.TheConstants.{MAX_ROOTS}
-use Rattle.strategy_checker.specs.declared.held.HeldRoot.{HeldRoot}
-use Rattle.strategy_checker.proofs.Common.{HeldTable, IsHeldRoot}
 use Rattle.strategy_checker.proofs.Holding.{IsHeld-push}
 use Rattle.strategy_checker.proofs.held.Held.add_at.Goals as goal
 

@@ -1,15 +1,9 @@
-use Rattle.std.proofs.Common.{◌≡◌, ◌<◌, ℕ, reverse, refl, sym, ap, subst, ◌∙◌, arith, if◌then◌else◌}
+use Rattle.std.proofs.Common.{◌≡◌, ◌<◌, ℕ, reverse, refl, sym, ap, subst, ◌∙◌, arith}
 use Rattle.std.proofs.lemmas.Result.{err_from_is_err_and}
-use Rattle.game_rules.proofs.Common.{Grid, outcome}
-use Rattle.game_rules.specs.declared.Outcome.TheVariants.{Wins}
-use Rattle.game_rules.specs.declared.RuleKind.{RuleKind}
-use Rattle.strategy_graph.specs.Lent.{lent_node}
+use Rattle.strategy_checker.proofs.Common.{Grid, outcome, Wins, RuleKind, lent_node, Accepted, arrivals, Leads, Walk, Stopped}
 use Rattle.strategy_graph.specs.declared.Why.TheVariants.{NotWon}
-use Rattle.strategy_graph.proofs.Common.{Accepted, arrivals, Leads}
 use Rattle.strategy_graph.proofs.Filling.{IsTable-lower}
 use Rattle.strategy_graph.proofs.Steps.{arrivals-positive, accepted-by-win, arrivals-one}
-use Rattle.strategy_checker.specs.declared.walk.Walk.{Walk}
-use Rattle.strategy_checker.proofs.Common.{Stopped}
 use Rattle.strategy_checker.proofs.Stages.{entered-stops}
 use Rattle.strategy_checker.proofs.Walking.{taken-ready, taken-short}
 use Rattle.strategy_checker.proofs.walk.Walk.enter.Goals as goal

@@ -1,9 +1,7 @@
-use Rattle.std.proofs.Common.{◌≡◌, ◌∷◌, ap, sym, ◌∙◌}
+use Rattle.std.proofs.Common.{ap, sym, ◌∙◌}
 use Rattle.std.proofs.lemmas.Option.{same_Some}
-use Rattle.game_rules.specs.Grid.{lift}
+use Rattle.strategy_checker.proofs.Common.{lift, lent_node, Node}
 use Rattle.game_rules.proofs.Undo.{stone_back}
-use Rattle.strategy_graph.specs.Lent.{lent_node}
-use Rattle.strategy_graph.specs.declared.Node.{Node}
 use Rattle.strategy_checker.proofs.Stages.{stage-stops, waits-stops}
 use Rattle.strategy_checker.proofs.walk.Walk.give_up.Goals as goal
 

@@ -1,8 +1,6 @@
 use Rattle.std.proofs.Common.{◌≡◌, ◌++◌, ◌∷◌, [], refl, sym, subst, inr, arith}
-use Rattle.game_rules.specs.Grid.{Grid, lift}
+use Rattle.strategy_checker.proofs.Common.{Grid, lift, lent_node, Entered}
 use Rattle.game_rules.proofs.Undo.{stone_back}
-use Rattle.strategy_graph.specs.Lent.{lent_node}
-use Rattle.strategy_checker.specs.Meetings.{Entered}
 use Rattle.strategy_checker.proofs.Sureness.{had_none}
 use Rattle.strategy_checker.proofs.walk.Walk.go_down.Goals as goal
 
@@ -26,8 +24,7 @@ enter-requires-clause-fives g c =
     waits.stage.outlook.free c.play.new.self c.play.ensures.played)
 
 pub returns-clause-went_on : goal.returns-clause-went_on
-returns-clause-went_on g c =
-    λ n at.
+returns-clause-went_on g c = λ n at.
     let pushed : c.push.new.self.items ≡ c.args.waiting.now.items ++ c.args.stage ∷ [] = grind arith in
     inr (record {
       top = c.args.stage;

@@ -1,10 +1,7 @@
-use Rattle.std.proofs.Common.{◌≡◌, ◌∷◌, [], ◌∙◌, length, refl, sym, inl, arith}
+use Rattle.std.proofs.Common.{◌∙◌, length, refl, sym, inl, arith}
 use Rattle.std.proofs.lemmas.Option.{same_Some}
-use Rattle.game_rules.specs.Grid.{lift}
+use Rattle.strategy_checker.proofs.Common.{lift, lent_node, Node, answers_of}
 use Rattle.game_rules.proofs.Undo.{stone_back}
-use Rattle.strategy_graph.specs.Lent.{lent_node}
-use Rattle.strategy_graph.specs.declared.Node.{Node}
-use Rattle.strategy_graph.specs.Tables.{answers_of}
 use Rattle.strategy_graph.proofs.Answering.{answer-below}
 use Rattle.strategy_graph.proofs.Filling.{names_below-more}
 use Rattle.strategy_checker.proofs.Stages.{stage-on, stage-stops, went-on-same}
@@ -76,8 +73,7 @@ returns-in-Err-clause-went_on g c = λ m at.
     rw (← same_Some _ m (sym c.node-node.ensures.node ∙ at)) (inl (
       refl,
       (
-        stage-stops c.next-met.new.self c.noted.new.self c.in-Err.stop c.noted.result stage c.in-Err.ensures.advanced
-            c.noted.ensures.noted,
+        stage-stops c.next-met.new.self c.noted.new.self c.in-Err.stop c.noted.result stage c.in-Err.ensures.advanced c.noted.ensures.noted,
         rw c.next-met.ensures.same at c.undo.ensures.undone,
       ),
     ))

@@ -1,7 +1,6 @@
 use Rattle.std.proofs.Common.{sym, arith, rules}
-use Rattle.game_rules.specs.Grid.{lift}
+use Rattle.strategy_checker.proofs.Common.{lift, lent_node}
 use Rattle.game_rules.proofs.Undo.{stone_back}
-use Rattle.strategy_graph.specs.Lent.{lent_node}
 use Rattle.strategy_checker.proofs.walk.Walk.leave.Goals as goal
 
 pub undo-requires-clause-stone : goal.undo-requires-clause-stone

@@ -1,9 +1,7 @@
-use Rattle.std.proofs.Common.{◌≡◌, ◌<◌, arith, ◌∷◌, ◌∙◌, ℕ, false, length, sym, ap, Option, Some, None, IfSome, Ok}
+use Rattle.std.proofs.Common.{◌≡◌, ◌<◌, arith, ◌∙◌, ℕ, false, length, sym, ap, Option, Some, None, IfSome, Ok}
 use Rattle.std.proofs.lemmas.Result.{err_from_is_err_and}
-use Rattle.game_rules.proofs.Common.{Grid, is_empty}
-use Rattle.strategy_graph.proofs.Common.{Answers, answer}
+use Rattle.strategy_checker.proofs.Common.{Grid, is_empty, Answers, answer, Asked}
 use Rattle.strategy_graph.proofs.Answering.{answer-below}
-use Rattle.strategy_checker.proofs.Common.{Asked}
 use Rattle.strategy_checker.proofs.Owing.{owes-on, owes-stops}
 use Rattle.strategy_checker.proofs.Walking.{refused-reply}
 use Rattle.strategy_checker.proofs.walk.Walk.next.Goals as goal
@@ -11,9 +9,8 @@ use Rattle.strategy_checker.proofs.walk.Walk.next.Goals as goal
 pub loop-q-preserved-then-not-is_empty : goal.loop-q-preserved-then-not-is_empty
 loop-q-preserved-then-not-is_empty g c =
     let b : Grid = c.args.position.now in
-    let taken : is_empty b c.in-Some.q ≡ false =
-    ap (λ (w : Grid). is_empty w c.in-Some.q) (sym (c.board.ensures.board ∙ c.loop-q.invariant.same))
-    ∙ sym c.is_empty.ensures.empty ∙ c.if-not-is_empty.true in
+    let taken : is_empty b c.in-Some.q ≡ false = ap (λ (w : Grid). is_empty w c.in-Some.q)
+    (sym (c.board.ensures.board ∙ c.loop-q.invariant.same)) ∙ sym c.is_empty.ensures.empty ∙ c.if-not-is_empty.true in
     record {
       same = c.loop-q.invariant.same;
       owes = owes-on c.loop-q.invariant.owes c.in-Some.ensures.next
@@ -32,8 +29,7 @@ ask-requires-clause-below g c = by_answer c.answer_of-answer.result c.answer_of-
 pub returns-in_err-ask-clause-advanced : goal.returns-in_err-ask-clause-advanced
 returns-in_err-ask-clause-advanced g c =
     let p = err_from_is_err_and c.from_residual-in_err-ask.result c.from_residual-in_err-ask.ensures.1 in
-    rw (p.1, p.2)
-    (owes-stops c.loop-q.invariant.owes c.in-Some.ensures.next c.ask.new.self c.in_err-ask.field-0.0
+    rw (p.1, p.2) (owes-stops c.loop-q.invariant.owes c.in-Some.ensures.next c.ask.new.self c.in_err-ask.field-0.0
     (rw c.loop-q.invariant.same at (c.in_err-ask.ensures.asked _ (sym c.answer_of-answer.ensures.answer))))
 
 pub returns-in-Some-2-clause-advanced : goal.returns-in-Some-2-clause-advanced

@@ -1,6 +1,5 @@
 use Rattle.std.proofs.Common.{◌≡◌, ◌≤◌, length}
-use Rattle.strategy_graph.proofs.Common.{Answers}
-use Rattle.strategy_checker.proofs.Common.{IsOutlook, AreMet, Owes, all_to_ask, owed, to_ask}
+use Rattle.strategy_checker.proofs.Common.{Answers, IsOutlook, AreMet, Owes, all_to_ask, owed, to_ask}
 use Rattle.strategy_checker.proofs.walk.Walk.next.Given as goal
 
 -- the position stays, and the replies are asked one after another

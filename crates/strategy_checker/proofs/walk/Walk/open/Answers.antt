@@ -1,14 +1,9 @@
 use Rattle.std.proofs.Common.{◌≡◌, ◌+◌, ◌∙◌, true, false, sym, ap, refl, arith, None}
 use Rattle.std.proofs.lemmas.Result.{err_from_is_err_and}
-use Rattle.game_rules.proofs.Common.{Grid, has_five, after, mover}
-use Rattle.game_rules.specs.declared.Point.{Point}
-use Rattle.game_rules.specs.declared.RuleKind.{RuleKind}
-use Rattle.strategy_graph.specs.Lent.{lent_node}
-use Rattle.strategy_graph.proofs.Common.{Accepted, arrivals, Leads}
+use Rattle.strategy_checker.proofs.Common.{Grid, has_five, after, mover, Point, RuleKind, lent_node, Accepted, arrivals, Leads, Walk}
+use Rattle.strategy_checker.proofs.Common.{IsOutlook, IsReady}
 use Rattle.strategy_graph.proofs.Steps.{arrivals-positive}
 use Rattle.strategy_checker.specs.declared.outlook.Outlook.{Outlook}
-use Rattle.strategy_checker.specs.declared.walk.Walk.{Walk}
-use Rattle.strategy_checker.proofs.Common.{IsOutlook, IsReady}
 use Rattle.strategy_checker.proofs.Sureness.{none-left}
 use Rattle.strategy_checker.proofs.Stages.{stage-first, stage-lift}
 use Rattle.strategy_checker.proofs.Walking.{played-lawful, taken-ready, taken-short}

@@ -1,11 +1,7 @@
 use Rattle.std.proofs.Common.{◌≡◌, ◌+◌, ◌<◌, ℕ, cond, sym, ap, subst, ◌∙◌, arith, Option, IfSome, Some, sum_by}
 use Rattle.std.proofs.lemmas.Result.{err_from_is_err_and}
-use Rattle.game_rules.proofs.Common.{Grid, empties_of}
-use Rattle.game_rules.specs.declared.RuleKind.{RuleKind}
-use Rattle.strategy_graph.proofs.Common.{Answers, rest_node, arrivals, arrivals_after, arrivals_at}
-use Rattle.strategy_checker.specs.declared.outlook.Sure.{Sure}
-use Rattle.strategy_checker.specs.declared.walk.Walk.{Walk}
-use Rattle.strategy_checker.proofs.Common.{IsSure, AreMet, IsWhole, owed, to_ask}
+use Rattle.strategy_checker.proofs.Common.{Grid, empties_of, RuleKind, Answers, rest_node, arrivals, arrivals_after, arrivals_at, Sure}
+use Rattle.strategy_checker.proofs.Common.{Walk, IsSure, AreMet, IsWhole, owed, to_ask}
 use Rattle.strategy_checker.proofs.Counted.{arrivals-most, is_listed}
 use Rattle.strategy_checker.proofs.Courses.{apart-arrivals, apart-met, whole-owes}
 use Rattle.strategy_checker.proofs.Walking.{taken-ready}

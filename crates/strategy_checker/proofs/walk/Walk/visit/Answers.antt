@@ -1,9 +1,7 @@
-use Rattle.std.proofs.Common.{◌≡◌, ◌∙◌, reverse, sym, ap, subst}
+use Rattle.std.proofs.Common.{◌∙◌, reverse, sym, ap, subst}
 use Rattle.std.proofs.lemmas.Option.{slice_get_within, same_Some}
-use Rattle.game_rules.proofs.Common.{Grid, lift, after}
+use Rattle.strategy_checker.proofs.Common.{Grid, lift, after, Stage, Under}
 use Rattle.game_rules.proofs.Undo.{stone_back, unwon_back}
-use Rattle.strategy_checker.specs.declared.walk.Stage.{Stage}
-use Rattle.strategy_checker.proofs.Common.{Under}
 use Rattle.strategy_checker.proofs.Stages.{handed-first, handed-on, handed-open, handed-settled, handed-stopped}
 use Rattle.strategy_checker.proofs.walk.Walk.visit.Goals as goal
 

@@ -1,18 +1,13 @@
-use Rattle.std.proofs.Common.{◌≡◌, ◌∷◌, [], ◌∙◌, ℕ, length, refl, sym, ap, arith, Option, Result, Ok, Err}
+use Rattle.std.proofs.Common.{◌∙◌, ℕ, length, refl, sym, ap, arith, Option, Result, Ok, Err}
 use Rattle.std.proofs.lemmas.Bool.{not-true}
 use Rattle.std.proofs.lemmas.Result.{err_from_is_err_and}
-use Rattle.game_rules.proofs.Common.{Grid, has_five, after}
-use Rattle.game_rules.specs.declared.Point.{Point}
-use Rattle.game_rules.specs.declared.RuleKind.{RuleKind}
-use Rattle.strategy_graph.proofs.Common.{Answers, LeadsStart}
+use Rattle.strategy_checker.proofs.Common.{Grid, has_five, after, Point, RuleKind, Answers, LeadsStart, Walk, WalkedReply, Advanced}
+use Rattle.strategy_checker.proofs.Common.{all_to_ask, owed, Stop}
 use Rattle.strategy_graph.proofs.Answering.{answer-below}
 use Rattle.strategy_graph.proofs.Steps.{arrivals-answer, arrivals-positive, met-all}
 use Rattle.strategy_checker.specs.declared.meeting.Course.{Course}
-use Rattle.strategy_checker.specs.declared.walk.Walk.{Walk}
-use Rattle.strategy_checker.proofs.Common.{WalkedReply, Advanced, all_to_ask, owed}
 use Rattle.strategy_checker.proofs.Owing.{owes-done, owes-on, owes-short, owes-stops, owes-then}
 use Rattle.strategy_checker.proofs.Walking.{taken-ready}
-use Rattle.strategy_checker.specs.declared.walk.Stop.{Stop}
 use Rattle.strategy_checker.proofs.walk.Walk.visit_start.Goals.{After-next}
 use Rattle.strategy_checker.proofs.walk.Walk.visit_start.Goals as goal
 
@@ -89,8 +84,7 @@ loop-next-preserved g c =
     let advanced = rw c.in-Some.is at (asked g (goal.at.loop-next-preserved g c).After-next (Ok _) c.in_ok-next.ensures.advanced) in
     record {
       same = c.in_ok-answer-in-Some.ensures.same ∙ c.in_ok-next.ensures.same ∙ c.loop-next.invariant.same;
-      owes = owes-on (owes-then c.loop-next.invariant.owes advanced.0) refl
-          (rw (c.in_ok-next.ensures.same, c.loop-next.invariant.same) at
+      owes = owes-on (owes-then c.loop-next.invariant.owes advanced.0) refl (rw (c.in_ok-next.ensures.same, c.loop-next.invariant.same) at
           (c.in_ok-answer-in-Some.ensures.walked c.args.start.now advanced.2));
       outlook = rw (← c.loop-next.invariant.same) c.in_ok-next.ensures.outlook;
     }
@@ -100,6 +94,5 @@ returns-in_err-answer-in-Some-clause-walked g c =
     let advanced = rw c.in-Some.is at
     (asked g (goal.at.returns-in_err-answer-in-Some-clause-walked g c).After-next (Ok _) c.in_ok-next.ensures.advanced) in
     let p = err_from_is_err_and c.from_residual-in_err-answer-in-Some.result c.from_residual-in_err-answer-in-Some.ensures.1 in
-    rw (p.1, p.2)
-    (owes-stops (owes-then c.loop-next.invariant.owes advanced.0) refl c.answer.new.self c.in_err-answer-in-Some.field-0.0
+    rw (p.1, p.2) (owes-stops (owes-then c.loop-next.invariant.owes advanced.0) refl c.answer.new.self c.in_err-answer-in-Some.field-0.0
     (rw (c.in_ok-next.ensures.same, c.loop-next.invariant.same) at (c.in_err-answer-in-Some.ensures.walked c.args.start.now advanced.2)))
