@@ -1,14 +1,8 @@
 -- How texts begin: a book with its first line, and a table with another.
-use Rattle.std.proofs.Common.{◌≡◌, ℕ, ◌∙◌, List, drop, rules}
-use Rattle.game_rules.specs.Grid.{Grid}
+use Rattle.std.proofs.Common.{◌≡◌, ℕ, List, drop, rules}
+use Rattle.table_book.proofs.Common.{Grid, Node, Root, text_of, TableFile, Book, BeginsBook, IsTextOfBook, book_lines, book_text}
 use Rattle.game_rules.specs.declared.RuleKind.{RuleKind}
-use Rattle.strategy_graph.specs.declared.Node.{Node}
-use Rattle.strategy_graph.specs.declared.roots.Root.{Root}
-use Rattle.text_lines.specs.Lines.{text_of}
-use Rattle.position_files.specs.declared.TableFile.{TableFile}
 use Rattle.position_files.specs.Tables.{IsTextOfTable, table_text}
-use Rattle.table_book.specs.declared.Book.{Book}
-use Rattle.table_book.specs.Books.{BeginsBook, IsTextOfBook, book_lines, book_text}
 
 -- the text of a book begins as one
 pub book-begins : (book : Book) (bytes : List ℕ) → IsTextOfBook book bytes → BeginsBook bytes

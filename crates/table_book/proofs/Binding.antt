@@ -1,16 +1,13 @@
 -- Files that are bound into a book one after the other: what the book has of them stays as it grows.
-use Rattle.std.proofs.Common.{◌≡◌, ◌⊎◌, inl, inr, ℕ, zero, suc, ◌<◌, ◌≤◌, ◌+◌, List, [], ◌∷◌}
-use Rattle.std.proofs.Common.{◌++◌, length, refl, sym, ap, subst, ◌∙◌, arith, Some, slice_get, Contains, length-append}
-use Rattle.std.proofs.Common.{append-nil, rules, append_assoc}
+use Rattle.std.proofs.Common.{◌≡◌, ◌⊎◌, inl, inr, ℕ, zero, suc, ◌<◌, ◌≤◌, ◌+◌, List, [], ◌∷◌, ◌++◌, length, refl, sym, ap, subst, ◌∙◌}
+use Rattle.std.proofs.Common.{arith, Some, slice_get, Contains, length-append, append-nil, rules, append_assoc}
 use Rattle.std.specs.List.{AllByRecursion}
 use Rattle.std.proofs.lemmas.Bool.{cases_lt}
 use Rattle.std.proofs.lemmas.List.{map-append}
 use Rattle.std.proofs.lemmas.List.Elements.{Contains-append_cases, Contains-append_left, Contains-append_right}
 use Rattle.std.proofs.lemmas.Option.{slice_get_within}
-use Rattle.position_files.specs.declared.TableFile.{TableFile}
-use Rattle.strategy_graph.specs.declared.Node.{Node}
-use Rattle.strategy_graph.specs.declared.TheConstants.{MAX_NODES}
-use Rattle.strategy_graph.specs.declared.roots.Root.{Root}
+use Rattle.table_book.proofs.Common.{TableFile, Node, MAX_NODES, Root, Book, Entry, EntryFits, EntryRootFits, AddsFile, AreEntriesOf}
+use Rattle.table_book.proofs.Common.{AreInOrder, HoldSame, IsBinding, IsBound, IsEntryOf, SameRoot, nodes_of, tables_of}
 use Rattle.strategy_graph.proofs.Common.{NamesLower}
 use Rattle.strategy_graph.proofs.Filling.{IsTable-lower}
 use Rattle.strategy_graph.proofs.Saying.{iff-then, root-grown}
@@ -18,10 +15,6 @@ use Rattle.strategy_compiler.proofs.Adopted.{among-one, among-two}
 use Rattle.strategy_compiler.proofs.Common.{Adopts, IsCompiled, HoldMore, IsHeld, Unfolded, unfolded, unfolded_nodes}
 use Rattle.strategy_compiler.proofs.Unfolding.{answers-longer, held-within, unfolded-apart, unfolded-longer, unfolded_nodes-at}
 use Rattle.strategy_compiler.proofs.Unfolding.{unfolded_nodes-there}
-use Rattle.table_book.specs.declared.Book.{Book}
-use Rattle.table_book.specs.declared.Entry.{Entry}
-use Rattle.table_book.proofs.Common.{EntryFits, EntryRootFits, AddsFile, AreEntriesOf, AreInOrder, HoldSame, IsBinding, IsBound, IsEntryOf}
-use Rattle.table_book.proofs.Common.{SameRoot, nodes_of, tables_of}
 use Rattle.table_book.proofs.Soundness.{root_fits-below}
 
 -- ---- roots and entries of nodes that grow
@@ -36,8 +29,7 @@ module _ (u more : List Node) (lower : NamesLower u) where
   entries-grown [] [] fit h = tt
   entries-grown [] (e ∷ es) fit h = absurd h
   entries-grown (file ∷ files) [] fit h = absurd h
-  entries-grown (file ∷ files) (e ∷ es) fit h =
-      search (rules, root-stays, root-grown, root_fits-below, entries-grown files es fit.1 h.1)
+  entries-grown (file ∷ files) (e ∷ es) fit h = search (rules, root-stays, root-grown, root_fits-below, entries-grown files es fit.1 h.1)
 
 entries-more : (t : List Node) (files : List TableFile) (es : List Entry) (file : TableFile) (e : Entry) → AreEntriesOf files t es
     → IsEntryOf file t e → AreEntriesOf (files ++ file ∷ []) t (es ++ e ∷ [])
@@ -98,8 +90,7 @@ tables-more files file = map-append (λ (f : TableFile). f.table) files (file �
 
 nodes-more : (files : List TableFile) (file : TableFile) → nodes_of (files ++ file ∷ []) ≡ nodes_of files ++ unfolded_nodes file.table
 nodes-more [] file = append-nil (unfolded_nodes file.table)
-nodes-more (f ∷ files) file =
-    ap (λ (ws : List Unfolded). unfolded_nodes f.table ++ ws) (nodes-more files file)
+nodes-more (f ∷ files) file = ap (λ (ws : List Unfolded). unfolded_nodes f.table ++ ws) (nodes-more files file)
     ∙ sym (append_assoc (unfolded_nodes f.table) (nodes_of files) (unfolded_nodes file.table))
 
 -- ---- no file
@@ -152,12 +143,10 @@ module _ (files : List TableFile) (file : TableFile) (old new : Book) (before : 
                 there.3,
                 there.4 ∙ ap (λ (v : List Node). unfolded v i) same ∙ e,
               )
-          by_two t i (inr same) l e =
-              (t, i, Contains-append_right (tables_of files) (file.table ∷ []) t (0, omega arith, same), l, e)
+          by_two t i (inr same) l e = (t, i, Contains-append_right (tables_of files) (file.table ∷ []) t (0, omega arith, same), l, e)
 
     from : IsHeld (tables_of (files ++ file ∷ [])) w → IsHeld (old.table ∷ file.table ∷ []) w
-    from is =
-        by_two is.0 is.1 (Contains-append_cases (tables_of files) (file.table ∷ []) is.0
+    from is = by_two is.0 is.1 (Contains-append_cases (tables_of files) (file.table ∷ []) is.0
         (subst (λ (ts : List (List Node)). Contains ts is.0) (tables-more files file) is.2)) is.3 is.4 where
           by_two : (t : List Node) (i : ℕ) → Contains (tables_of files) t ⊎ Contains (file.table ∷ []) t → i < length t → unfolded t i ≡ w
               → IsHeld (old.table ∷ file.table ∷ []) w
@@ -192,15 +181,14 @@ module _ (files : List TableFile) (file : TableFile) (old new : Book) (before : 
     by_place (inl e) =
         let there = old-held (unfolded new.table (suc k)) (place-held files q (unfolded new.table (suc k)) e) in
         let c = count in
-        let next : there.0 ≡ suc k =
-        unfolded-apart new.table new-lower binding.compiled.different there.0 (suc k) (let low = there.1 in omega arith) l
-        (stays-at there.0 there.1 ∙ there.2) in
+        let next : there.0 ≡ suc k = unfolded-apart new.table new-lower binding.compiled.different there.0
+        (suc k) (let low = there.1 in omega arith) l (stays-at there.0 there.1 ∙ there.2) in
         let low : suc k < length old.table = (let inside = there.1 in omega arith) in
         let place = before.in_order k q low (e ∙ ap Some (stays-at (suc k) low)) in (
           place.0,
           place.1,
-          get-left (nodes_of files) (unfolded_nodes file.table) place.0 (unfolded new.table k)
-              (place.2 ∙ ap Some (sym (stays-at k (omega arith)))),
+          get-left (nodes_of files)
+              (unfolded_nodes file.table) place.0 (unfolded new.table k) (place.2 ∙ ap Some (sym (stays-at k (omega arith)))),
         )
     by_place (inr e) = before-file e.0 e.1 (cases_lt k (length old.table))
         (unfolded_nodes-at file.table e.0 (unfolded new.table (suc k)) e.2)
@@ -208,9 +196,7 @@ module _ (files : List TableFile) (file : TableFile) (old new : Book) (before : 
   pub bound-more : IsBound (files ++ file ∷ []) new
   bound-more = record {
     binding = binding;
-    entries =
-        subst (AreEntriesOf (files ++ file ∷ []) new.table) (sym adds.added)
-        (entries-more new.table files old.entries file adds.entry
+    entries = subst (AreEntriesOf (files ++ file ∷ []) new.table) (sym adds.added) (entries-more new.table files old.entries file adds.entry
         (subst (λ (u : List Node). AreEntriesOf files u old.entries) (sym adopts.grows.is)
         (entries-grown old.table adopts.grows.added old-lower files old.entries before.binding.entries before.entries)) adds.is_of);
     held = λ w. iff-then (adds.held w) (both-held w);
@@ -251,18 +237,16 @@ bound-full files file book bound h = more-held (book.table ∷ file.table ∷ []
           let there = (bound.held w).0 (book.table, i, (0, omega arith, refl), inside, ap (λ (v : List Node). unfolded v i) same ∙ e) in
           subst (λ (ts : List (List Node)). IsHeld ts w) (sym (tables-more files file))
           (there.0, there.1, Contains-append_left (tables_of files) (file.table ∷ []) there.0 there.2, there.3, there.4)
-      by_two w t i (inr same) l e =
-          subst (λ (ts : List (List Node)). IsHeld ts w) (sym (tables-more files file))
-          (t, i, Contains-append_right (tables_of files) (file.table ∷ []) t (0, omega arith, same), l, e)
+      by_two w t i (inr same) l e = subst (λ (ts : List (List Node)). IsHeld ts w)
+          (sym (tables-more files file)) (t, i, Contains-append_right (tables_of files) (file.table ∷ []) t (0, omega arith, same), l, e)
 
 -- more files hold no fewer
 pub hold-longer : (files more : List TableFile) (most : ℕ) → HoldMore (tables_of files) most → HoldMore (tables_of (files ++ more)) most
-hold-longer files more most h =
-    more-held (tables_of files) (tables_of (files ++ more)) most (λ w is. (
-      is.0,
-      is.1,
-      subst (λ (ts : List (List Node)). Contains ts is.0) (sym (map-append (λ (f : TableFile). f.table) files more))
-          (Contains-append_left (tables_of files) (tables_of more) is.0 is.2),
-      is.3,
-      is.4,
-    )) h
+hold-longer files more most h = more-held (tables_of files) (tables_of (files ++ more)) most (λ w is. (
+  is.0,
+  is.1,
+  subst (λ (ts : List (List Node)). Contains ts is.0)
+      (sym (map-append (λ (f : TableFile). f.table) files more)) (Contains-append_left (tables_of files) (tables_of more) is.0 is.2),
+  is.3,
+  is.4,
+)) h

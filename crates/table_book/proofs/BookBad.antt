@@ -1,30 +1,25 @@
 -- Where bytes leave the lines of books, and the first bad line of their texts.
-use Rattle.std.proofs.Common.{◌≡◌, ℕ, ◌+◌, ◌≤◌, refl, sym, ap, subst, ◌∙◌, arith, List, [], ◌∷◌, ◌++◌}
-use Rattle.std.proofs.Common.{length, map, take, drop, take-append-drop, replicate, get_or, inl, inr, None, codes, rules, flat_map}
+use Rattle.std.proofs.Common.{◌≡◌, ℕ, ◌+◌, ◌≤◌, refl, sym, ap, subst, ◌∙◌, arith, List, [], ◌∷◌, ◌++◌, length, map, take, drop}
+use Rattle.std.proofs.Common.{take-append-drop, replicate, get_or, inl, inr, None, codes, rules, flat_map}
 use Rattle.std.specs.List.{AllByRecursion}
 use Rattle.std.specs.Fmt.{decimal}
 use Rattle.std.proofs.lemmas.Bool.{cases_lt}
 use Rattle.std.proofs.lemmas.Fmt.{decimal_injective}
 use Rattle.std.proofs.lemmas.List.{append_cancel_left, append-nil, length-map, length-replicate, length-take-le}
-use Rattle.game_rules.specs.declared.TheConstants.{MAX_SIDE}
+use Rattle.table_book.proofs.Common.{MAX_SIDE, Node, MAX_NODES, line_feed, text_of, node_line, Book, Entry, MAX_ENTRIES, EntryFits, HasText}
+use Rattle.table_book.proofs.Common.{IsBookText, book_lines, book_text, entries_line, entry_lines, first_line, nodes_line, IsBookFault}
+use Rattle.table_book.proofs.Common.{in_book, IsBookLines, IsEndLines, IsRestLines, rest_lines}
 use Rattle.strategy_graph.proofs.Common.{IsTable}
-use Rattle.strategy_graph.specs.declared.Node.{Node}
-use Rattle.strategy_graph.specs.declared.TheConstants.{MAX_NODES}
 use Rattle.strategy_graph.proofs.Filling.{corner, filled_table}
-use Rattle.text_lines.proofs.Common.{FirstBad, IsBetween, IsLineOf, LeavesAt, ReadsLine, line_feed, text_of}
+use Rattle.text_lines.proofs.Common.{FirstBad, IsBetween, IsLineOf, LeavesAt, ReadsLine}
 use Rattle.text_lines.proofs.TextLaws.{AreFree, free_take, same_lines, text_of-cons}
 use Rattle.text_lines.proofs.Leaving.{HasParts, leaves_after, leaves_first}
 use Rattle.text_lines.proofs.Badness.{first_bad, too_many}
-use Rattle.position_files.proofs.Common.{after_lines, AreNodeLines, AreNodes, IsSectionFault, node_line}
+use Rattle.position_files.proofs.Common.{after_lines, AreNodeLines, AreNodes, IsSectionFault}
 use Rattle.position_files.specs.declared.error.HeadError.{HeadError}
 use Rattle.position_files.specs.declared.error.HeadError.TheVariants.{BadLine, Memory}
 use Rattle.position_files.proofs.Completions.{filled_fit}
 use Rattle.position_files.proofs.SectionLaws.{fault_after, fault_in, node_lines-free, number-free}
-use Rattle.table_book.specs.declared.Book.{Book}
-use Rattle.table_book.specs.declared.Entry.{Entry}
-use Rattle.table_book.specs.declared.TheConstants.{MAX_ENTRIES}
-use Rattle.table_book.proofs.Common.{EntryFits, HasText, IsBookText, book_lines, book_text, entries_line, entry_lines, first_line}
-use Rattle.table_book.proofs.Common.{nodes_line, IsBookFault, in_book, IsBookLines, IsEndLines, IsRestLines, rest_lines}
 use Rattle.table_book.proofs.EntryLaws.{largest_side}
 use Rattle.table_book.proofs.EntryBad.{least_entry, least_entry-fits}
 use Rattle.table_book.proofs.BookLaws.{book-free, book-length, same_numbers}
@@ -115,8 +110,7 @@ number_in_book = record {
         (
           filled_book n,
           filled_has n is.1.few,
-          ap (λ (m : List (List ℕ)). first_line ∷ m ++ rest) is.2
-              ∙ ap (λ c. first_line ∷ nodes_line c ∷ rest) (sym count),
+          ap (λ (m : List (List ℕ)). first_line ∷ m ++ rest) is.2 ∙ ap (λ c. first_line ∷ nodes_line c ∷ rest) (sym count),
         ),
       );
   parts = λ ls is.
@@ -134,9 +128,8 @@ number_in_book = record {
 
 pub no_nodes_line : (bytes rest : List ℕ) → bytes ≡ first_line ++ line_feed ∷ rest → ReadsLine (IsBetween 0 MAX_NODES) nodes_line None rest
     → LeavesAt IsBookLines bytes 1
-no_nodes_line bytes rest e none =
-    leaves_after (first_line ∷ []) (IsLineOf (IsBetween 0 MAX_NODES) nodes_line) IsBookLines number_in_book bytes rest 0
-    (e ∙ text_of-cons first_line [] rest)
+no_nodes_line bytes rest e none = leaves_after (first_line ∷ [])
+    (IsLineOf (IsBetween 0 MAX_NODES) nodes_line) IsBookLines number_in_book bytes rest 0 (e ∙ text_of-cons first_line [] rest)
     (leaves_first (IsBetween 0 MAX_NODES) nodes_line rest 0 (record { enough = omega arith; few = omega arith }) none)
 
 module _ (k : ℕ) (few : k ≤ MAX_NODES) where

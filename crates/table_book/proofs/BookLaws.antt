@@ -1,18 +1,14 @@
 -- The lines of books: they have no line feed, and spell one book.
-use Rattle.std.proofs.Common.{◌≡◌, ℕ, ◌+◌, ◌*◌, refl, sym, ap, ◌∙◌, arith, List, [], ◌∷◌, ◌++◌}
-use Rattle.std.proofs.Common.{append_assoc, length, map, drop, get_or, codes, Bor, rules, ◌↔◌, IsTrue, Option, Some, None, is_some}
-use Rattle.std.proofs.Common.{option_copied, flat_map}
+use Rattle.std.proofs.Common.{◌≡◌, ℕ, ◌+◌, ◌*◌, refl, sym, ap, ◌∙◌, arith, List, [], ◌∷◌, ◌++◌, append_assoc, length, map, drop, get_or}
+use Rattle.std.proofs.Common.{codes, Bor, rules, ◌↔◌, IsTrue, Option, Some, None, is_some, option_copied, flat_map}
 use Rattle.std.specs.Fmt.{decimal}
 use Rattle.std.proofs.lemmas.Fmt.{decimal_injective}
 use Rattle.std.proofs.lemmas.List.{append_cancel_left, append-nil, length-append, length-map}
-use Rattle.game_rules.specs.declared.TheConstants.{MAX_SIDE}
-use Rattle.text_lines.proofs.Common.{Reads, line_feed, text_of}
+use Rattle.table_book.proofs.Common.{MAX_SIDE, line_feed, text_of, node_line, Book, BeginsBook, HasText, IsTextOfBook, book_lines}
+use Rattle.table_book.proofs.Common.{book_text, entries_line, entry_lines, first_line, nodes_line}
+use Rattle.text_lines.proofs.Common.{Reads}
 use Rattle.text_lines.proofs.TextLaws.{AreFree, free_append, text_of-injective}
-use Rattle.position_files.proofs.Common.{node_line}
 use Rattle.position_files.proofs.SectionLaws.{node_lines-free, nodes_injective, number-free}
-use Rattle.table_book.specs.declared.Book.{Book}
-use Rattle.table_book.proofs.Common.{BeginsBook, HasText, IsTextOfBook, book_lines, book_text, entries_line, entry_lines, first_line}
-use Rattle.table_book.proofs.Common.{nodes_line}
 use Rattle.table_book.proofs.Lists.{same_parts}
 use Rattle.table_book.proofs.EntryLaws.{entries-free, entries-injective, entries-length, largest_side}
 

@@ -1,25 +1,20 @@
 -- What a binder holds stays as its nodes grow, and the entry of a file says in the book what the file says.
-use Rattle.std.proofs.Common.{◌≡◌, ℕ, suc, ◌<◌, ◌≤◌, true, false, List, []}
-use Rattle.std.proofs.Common.{◌∷◌, ◌++◌, length, refl, sym, ap, subst, ◌∙◌, arith, nat_lt, slice_index, map, length-append}
-use Rattle.std.proofs.Common.{rules, ltb-true, lt-ltb}
+use Rattle.std.proofs.Common.{◌≡◌, ℕ, suc, ◌<◌, ◌≤◌, true, false, List, [], ◌∷◌, ◌++◌, length, refl, sym, ap, subst, ◌∙◌, arith, nat_lt}
+use Rattle.std.proofs.Common.{slice_index, map, length-append, rules, ltb-true, lt-ltb}
 use Rattle.std.specs.List.{list_all, AllByRecursion}
-use Rattle.game_rules.specs.declared.TheConstants.{MAX_SIDE}
+use Rattle.table_book.proofs.Common.{MAX_SIDE, Grid, TableFile, Node, MAX_NODES, Root, Attack, Defend, root_below, Entry, MAX_ENTRIES}
+use Rattle.table_book.proofs.Common.{EntryFits, IsSound, EntryRootFits, AddsFile, CanBeBound, HoldSame, IsBinding, IsEntryOf, SameRoot}
 use Rattle.game_rules.specs.declared.Point.{Point}
-use Rattle.game_rules.proofs.Common.{Grid, IsBoard, is_on}
+use Rattle.game_rules.proofs.Common.{IsBoard, is_on}
 use Rattle.game_rules.proofs.Boards.{and_left, and_right, on_x, on_y}
 use Rattle.game_rules.proofs.Tests.{all_push}
 use Rattle.position_files.proofs.Common.{IsTextOfTable, RootFits}
-use Rattle.position_files.specs.declared.TableFile.{TableFile}
 use Rattle.position_files.specs.declared.TheConstants.{MAX_MOVES}
 use Rattle.position_files.proofs.Completions.{answers_fit, nodes_fit}
 use Rattle.position_files.proofs.SectionLaws.{nodes_on}
-use Rattle.strategy_graph.specs.declared.Node.{Node}
 use Rattle.strategy_graph.specs.declared.Reply.{Reply}
-use Rattle.strategy_graph.specs.declared.TheConstants.{MAX_NODES}
-use Rattle.strategy_graph.specs.declared.roots.Root.{Root}
-use Rattle.strategy_graph.specs.declared.roots.Root.TheVariants.{Attack, Defend}
 use Rattle.strategy_graph.proofs.Common.{IsStart, RepliesOn, TableOnBoard, IsTable, NamesLower, is_winning, named, names_below}
-use Rattle.strategy_graph.proofs.Common.{renumbered_answers, renumbered_root, root_below, RootSaysSame}
+use Rattle.strategy_graph.proofs.Common.{renumbered_answers, renumbered_root, RootSaysSame}
 use Rattle.strategy_graph.proofs.Answering.{replies-on}
 use Rattle.strategy_graph.proofs.Copies.{is_winning-renumbered, named-renumbered}
 use Rattle.strategy_graph.proofs.Filling.{IsTable-lower, names_below-more}
@@ -28,10 +23,6 @@ use Rattle.strategy_graph.proofs.Renumbering.{points-renumbered, rising-renumber
 use Rattle.strategy_compiler.proofs.Common.{Adopts, AreNumbers, IsCompiled, unfolded}
 use Rattle.strategy_compiler.proofs.Adopted.{adopted-holds, copies, number-inside, number-is}
 use Rattle.strategy_compiler.proofs.Unfolding.{answers-copied, unfolded-apart}
-use Rattle.table_book.specs.declared.Entry.{Entry}
-use Rattle.table_book.specs.declared.TheConstants.{MAX_ENTRIES}
-use Rattle.table_book.proofs.Common.{EntryFits, IsSound, EntryRootFits, AddsFile, CanBeBound, HoldSame, IsBinding, IsEntryOf}
-use Rattle.table_book.proofs.Common.{SameRoot}
 use Rattle.table_book.proofs.Soundness.{root_fits-below}
 
 -- ---- points of a board are points of the largest
@@ -82,15 +73,13 @@ pub binding-grown : (old new : List Node) (file : TableFile) (es : List Entry) �
     → CanBeBound file → Adopts old file.table new → IsBinding (record { table = new; entries = es })
 unfolding largest
 binding-grown old new file es h can adopts =
-    let nodes =
-    nodes_fit largest new (adopts.on_board largest (nodes_on largest old h.nodes)
+    let nodes = nodes_fit largest new (adopts.on_board largest (nodes_on largest old h.nodes)
     (table-largest file.board file.table can.text.1.board can.text.1.on_board)) adopts.compiled.table in
     search (rules, IsTable-lower, entries-grown, sound-grown)
 
 -- and with one entry more
 binding-pushed : (t : List Node) (es es' : List Entry) (e : Entry) → IsBinding (record { table = t; entries = es })
-    → length es < MAX_ENTRIES → EntryFits (length t) e → IsSound t e → es' ≡ es ++ e ∷ []
-    → IsBinding (record { table = t; entries = es' })
+    → length es < MAX_ENTRIES → EntryFits (length t) e → IsSound t e → es' ≡ es ++ e ∷ [] → IsBinding (record { table = t; entries = es' })
 binding-pushed t es es' e h room fits sound is = search (rules, all_push, length-append)
 
 -- ---- the entry of a file
@@ -99,15 +88,13 @@ module _ (old t new : List Node) (numbers : List ℕ) (table : IsTable t) (lower
   -- the root says what the file's says
   pub root-same : (root : Root) → root_below root (length t) ≡ true
       → RootSaysSame t root new (renumbered_root (λ j. slice_index numbers j) root)
-  root-same =
-      root-copied (λ j. slice_index numbers j) (length t) t new (copies old t new numbers table are) (IsTable-lower t table) lower
+  root-same = root-copied (λ j. slice_index numbers j) (length t) t new (copies old t new numbers table are) (IsTable-lower t table) lower
 
   -- and is the same
   root-is : (root : Root) → root_below root (length t) ≡ true → SameRoot t root new (renumbered_root (λ j. slice_index numbers j) root)
   root-is (Attack i) below = (number-is old t new numbers table are lower i (ltb-true _ _ below)).1
-  root-is (Defend a) below =
-      answers-copied (λ j. slice_index numbers j) (λ j. nat_lt j (length t)) t new (copies old t new numbers table are)
-      (IsTable-lower t table) lower a below
+  root-is (Defend a) below = answers-copied (λ j. slice_index numbers j)
+      (λ j. nat_lt j (length t)) t new (copies old t new numbers table are) (IsTable-lower t table) lower a below
 
   all-mapped : (js : List ℕ) → list_all (λ j. nat_lt j (length t)) js ≡ true
       → list_all (λ j. nat_lt j (length new)) (map (λ j. slice_index numbers j) js) ≡ true
@@ -128,14 +115,9 @@ module _ (old t new : List Node) (numbers : List ℕ) (table : IsTable t) (lower
       let rest : is_winning (renumbered_answers f a).rest ≡ false = is_winning-renumbered f a.rest ∙ fits.0.not_winning in
       let start : IsStart (renumbered_answers f a) =
       record { not_winning = rest; rising = rising-renumbered f a.replies ∙ fits.0.rising } in
-      let on : RepliesOn largest (renumbered_answers f a).replies =
-      replies-on largest (renumbered_answers f a).replies a.replies (points-renumbered f a.replies)
-      (replies-largest b a.replies ok fits.2) in
-      record {
-        answers = answers_fit largest (renumbered_answers f a) (length new) on below few (λ wins. cc);
-        start = start;
-        below = below;
-      }
+      let on : RepliesOn largest (renumbered_answers f a).replies = replies-on largest
+      (renumbered_answers f a).replies a.replies (points-renumbered f a.replies) (replies-largest b a.replies ok fits.2) in
+      record { answers = answers_fit largest (renumbered_answers f a) (length new) on below few (λ wins. cc); start = start; below = below }
 
   moves-few : (b : Grid) (root : Root) (moves : ℕ) → RootFits b t root moves → moves ≤ MAX_MOVES
   moves-few b x1 moves fits = search rules
@@ -151,18 +133,16 @@ module _ (file : TableFile) (old new : List Node) (numbers : List ℕ) (root : R
   new-lower = IsTable-lower new adopts.compiled.table
 
   entry-same : RootSaysSame file.table file.root new root
-  entry-same =
-      subst (RootSaysSame file.table file.root new) (sym is)
-      (root-same old file.table new numbers can.text.1.table new-lower are file.root (text-below file can.text.0 can.text.1))
+  entry-same = subst (RootSaysSame file.table file.root new)
+      (sym is) (root-same old file.table new numbers can.text.1.table new-lower are file.root (text-below file can.text.0 can.text.1))
 
   entry-of : IsEntryOf file new entry
   entry-of = record {
     kind = refl;
     board = refl;
     moves = refl;
-    same =
-        subst (SameRoot file.table file.root new) (sym is)
-        (root-is old file.table new numbers can.text.1.table new-lower are file.root (text-below file can.text.0 can.text.1));
+    same = subst (SameRoot file.table file.root new)
+        (sym is) (root-is old file.table new numbers can.text.1.table new-lower are file.root (text-below file can.text.0 can.text.1));
     root = entry-same;
   }
 
@@ -170,9 +150,8 @@ module _ (file : TableFile) (old new : List Node) (numbers : List ℕ) (root : R
   entry-fits = record {
     board = can.text.1.board;
     moves = moves-few old file.table new numbers can.text.1.table new-lower are file.board file.root file.moves can.text.1.root;
-    root =
-        subst (EntryRootFits (length new)) (sym is)
-        (root-fits old file.table new numbers can.text.1.table new-lower are file.board file.root file.moves can.text.1.board
+    root = subst (EntryRootFits (length new))
+        (sym is) (root-fits old file.table new numbers can.text.1.table new-lower are file.board file.root file.moves can.text.1.board
         adopts.compiled.table.size can.text.1.root);
   }
 
@@ -206,8 +185,7 @@ module _ (file : TableFile) (old new : List Node) (numbers : List ℕ) (root : R
 
   -- the file is added, and what is held is a binding
   pub both-added : (es es' : List Entry) → IsBinding (record { table = old; entries = es }) → length es < MAX_ENTRIES
-      → es' ≡ es ++ entry ∷ []
-      → AddsFile (record { table = old; entries = es }) file (record { table = new; entries = es' })
+      → es' ≡ es ++ entry ∷ [] → AddsFile (record { table = old; entries = es }) file (record { table = new; entries = es' })
       × IsBinding (record { table = new; entries = es' })
   both-added es es' h room is = (
     file-added es es' h.compiled is,

@@ -1,25 +1,25 @@
 -- Where bytes leave the lines of entries.
-use Rattle.std.proofs.Common.{◌≡◌, ℕ, suc, ◌+◌, ◌-◌, ◌*◌, ◌^◌, ◌<◌, ◌≤◌, refl, sym, ap, subst, ◌∙◌}
-use Rattle.std.proofs.Common.{arith, List, [], ◌∷◌, ◌++◌, length, take, drop, take-append-drop, get_or, replicate, None, codes}
-use Rattle.std.proofs.Common.{rules, flat_map}
+use Rattle.std.proofs.Common.{◌≡◌, ℕ, suc, ◌+◌, ◌-◌, ◌*◌, ◌^◌, ◌<◌, ◌≤◌, refl, sym, ap, subst, ◌∙◌, arith, List, [], ◌∷◌, ◌++◌, length}
+use Rattle.std.proofs.Common.{take, drop, take-append-drop, get_or, replicate, None, codes, rules, flat_map}
 use Rattle.std.specs.List.{AllByRecursion}
 use Rattle.std.specs.Fmt.{decimal}
 use Rattle.std.proofs.lemmas.Fmt.{decimal_injective}
 use Rattle.std.proofs.lemmas.List.{append_cancel_left, append-nil, length-append, length-replicate, length-take-le}
 use Rattle.std.proofs.lemmas.List.Concat.{flat_map-append}
 use Rattle.std.proofs.Math.Seq.{drop-cons}
-use Rattle.game_rules.proofs.Common.{Grid, IsBoard}
+use Rattle.table_book.proofs.Common.{Grid, MAX_SIDE, Root, Attack, Defend, line_feed, text_of, board_lines, Entry, MAX_ENTRIES, EntryFits}
+use Rattle.table_book.proofs.Common.{EntryRootFits, entries_line, entry_lines, move_count_line, root_line, AreEntryLines, IsEndLines}
+use Rattle.table_book.proofs.Common.{IsEntryLines}
+use Rattle.game_rules.proofs.Common.{IsBoard}
 use Rattle.game_rules.specs.declared.RuleKind.{RuleKind}
 use Rattle.game_rules.specs.declared.RuleKind.TheVariants.{Freestyle}
-use Rattle.game_rules.specs.declared.TheConstants.{MAX_SIDE, MIN_SIDE}
+use Rattle.game_rules.specs.declared.TheConstants.{MIN_SIDE}
 use Rattle.game_rules.proofs.Marks.{empty_board}
-use Rattle.strategy_graph.specs.declared.roots.Root.{Root}
-use Rattle.strategy_graph.specs.declared.roots.Root.TheVariants.{Attack, Defend}
-use Rattle.text_lines.proofs.Common.{IsBetween, IsLineOf, LeavesAt, ReadsLine, line_feed, text_of}
+use Rattle.text_lines.proofs.Common.{IsBetween, IsLineOf, LeavesAt, ReadsLine}
 use Rattle.text_lines.proofs.LineLaws.{same_line}
 use Rattle.text_lines.proofs.TextLaws.{AreFree, free_append, text_of-push}
 use Rattle.text_lines.proofs.Leaving.{HasParts, leaves_after, leaves_first, left_first}
-use Rattle.position_files.proofs.Common.{StartFits, after_lines, board_lines, IsBoardLines, IsSectionFault, IsStartLines, start_line}
+use Rattle.position_files.proofs.Common.{StartFits, after_lines, IsBoardLines, IsSectionFault, IsStartLines, start_line}
 use Rattle.position_files.specs.declared.TheConstants.{MAX_MOVES}
 use Rattle.position_files.specs.declared.error.HeadError.{HeadError}
 use Rattle.position_files.specs.declared.error.HeadError.TheVariants.{BadLine, Memory}
@@ -27,10 +27,6 @@ use Rattle.position_files.proofs.BoardLines.{board-free, board-length, least_sid
 use Rattle.position_files.proofs.Completions.{all_at}
 use Rattle.position_files.proofs.SectionLaws.{fault_after, number-free, only_fits, only_start}
 use Rattle.position_files.proofs.Stones.{IsBoard-empty}
-use Rattle.table_book.specs.declared.Entry.{Entry}
-use Rattle.table_book.specs.declared.TheConstants.{MAX_ENTRIES}
-use Rattle.table_book.proofs.Common.{EntryFits, EntryRootFits, entries_line, entry_lines, move_count_line, root_line, AreEntryLines}
-use Rattle.table_book.proofs.Common.{IsEndLines, IsEntryLines}
 use Rattle.table_book.proofs.Lists.{all_append, all_replicate, all_take}
 use Rattle.table_book.proofs.EntryLaws.{entries-free, entries-length, moves_line-free}
 
@@ -159,9 +155,8 @@ module _ (k : ℕ) (kind : RuleKind) (b : Grid) (ok : IsBoard b) where
     entry_root_fault bytes r1 r2 e1 e2 error h =
         let lengths = length-append (board_lines kind b) (move_count_line m ∷ []) in
         let four = board-length kind b in
-        fault_after (board_lines kind b ++ move_count_line m ∷ []) (IsLineOf (EntryRootFits k) root_line) (IsEntryLines k) root_in_entry
-        bytes r2 5
-        (omega (arith, lengths, four))
+        fault_after (board_lines kind b ++ move_count_line m ∷ [])
+        (IsLineOf (EntryRootFits k) root_line) (IsEntryLines k) root_in_entry bytes r2 5 (omega (arith, lengths, four))
         (e1 ∙ ap (λ (l : List ℕ). text_of (board_lines kind b) ++ l) e2 ∙ text_of-push (board_lines kind b) (move_count_line m) r2) error h
 
   pub no_moves_line : (bytes rest : List ℕ) → bytes ≡ text_of (board_lines kind b) ++ rest
@@ -225,14 +220,12 @@ module _ (k count : ℕ) (few_k : k < 2 ^ 64) (es : List Entry) (fit : AllByRecu
           part = entry_lines (get_or all (length es) least_entry);
           more = flat_map entry_lines (drop (suc (length es)) all);
           lines =
-              is.2
-              ∙ ap (flat_map entry_lines)
-              (sym (take-append-drop (length es) all) ∙ ap (λ (l : List Entry). take (length es) all ++ l)
+              is.2 ∙ ap (flat_map entry_lines) (sym (take-append-drop (length es) all) ∙ ap (λ (l : List Entry). take (length es) all ++ l)
               (drop-cons all (length es) least_entry within))
               ∙ flat_map-append entry_lines (take (length es) all) (get_or all (length es) least_entry ∷ drop (suc (length es)) all);
           free = entries-free k (take (length es) all) few_k (all_take (EntryFits k) (length es) all is.1.fit);
-          count = entries-length (take (length es) all) ∙ ap (λ n. 6 * n) (length-take-le (length es) all (omega (arith, within)))
-              ∙ sym (entries-length es);
+          count = entries-length (take (length es) all)
+              ∙ ap (λ n. 6 * n) (length-take-le (length es) all (omega (arith, within))) ∙ sym (entries-length es);
           are = λ same. (get_or all (length es) least_entry, all_at (EntryFits k) all (length es) least_entry is.1.fit within, refl);
         };
   }

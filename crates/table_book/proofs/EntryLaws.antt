@@ -1,21 +1,18 @@
 -- The lines of entries: they have no line feed, and spell one entry.
-use Rattle.std.proofs.Common.{◌≡◌, ℕ, ◌+◌, ◌*◌, ◌^◌, ◌<◌, true, refl, sym, ap, ◌∙◌, arith, List, []}
-use Rattle.std.proofs.Common.{◌∷◌, ◌++◌, append_assoc, length, take, get_or, codes, rules, flat_map}
+use Rattle.std.proofs.Common.{◌≡◌, ℕ, ◌*◌, ◌^◌, ◌<◌, true, refl, sym, ap, ◌∙◌, arith, List, [], ◌∷◌, ◌++◌, append_assoc, length, take}
+use Rattle.std.proofs.Common.{get_or, codes, rules, flat_map}
 use Rattle.std.specs.List.{AllByRecursion}
 use Rattle.std.specs.Fmt.{decimal}
 use Rattle.std.proofs.lemmas.Fmt.{decimal_injective}
 use Rattle.std.proofs.lemmas.List.{append_cancel_left, length-append}
-use Rattle.game_rules.specs.declared.TheConstants.{MAX_SIDE}
-use Rattle.strategy_graph.specs.declared.roots.Root.{Root}
-use Rattle.strategy_graph.specs.declared.roots.Root.TheVariants.{Attack, Defend}
-use Rattle.text_lines.proofs.Common.{ended, is_free, line_feed, text_of}
+use Rattle.table_book.proofs.Common.{MAX_SIDE, Root, Attack, Defend, ended, line_feed, text_of, board_lines, Entry, EntryFits}
+use Rattle.table_book.proofs.Common.{EntryRootFits, entry_lines, move_count_line, root_line}
+use Rattle.text_lines.proofs.Common.{is_free}
 use Rattle.text_lines.proofs.TextLaws.{AreFree, free_append, text_of-append, text_of-cons}
-use Rattle.position_files.proofs.Common.{IsSide, board_lines, answers_text}
+use Rattle.position_files.proofs.Common.{IsSide, answers_text}
 use Rattle.position_files.proofs.AnswerLaws.{answers_text-injective, start_line-free}
 use Rattle.position_files.proofs.BoardLines.{board-free, board_lines-injective}
 use Rattle.position_files.proofs.SectionLaws.{number-free}
-use Rattle.table_book.specs.declared.Entry.{Entry}
-use Rattle.table_book.proofs.Common.{EntryFits, EntryRootFits, entry_lines, move_count_line, root_line}
 use Rattle.table_book.proofs.Lists.{same_parts}
 
 pub largest_side : IsSide MAX_SIDE
@@ -104,8 +101,7 @@ unfolding entry_lines
 entry_text e bytes r1 r2 rest e1 e2 e3 =
     let last : r2 ≡ text_of (root_line e.root ∷ []) ++ rest =
     e3 ∙ append_assoc (root_line e.root) (line_feed ∷ []) rest ∙ text_of-cons (root_line e.root) [] rest in
-    let two : r1 ≡ text_of (move_count_line e.moves ∷ root_line e.root ∷ []) ++ rest =
-    e2 ∙ ap (λ (l : List ℕ). move_count_line e.moves ++ line_feed ∷ l) last
-    ∙ text_of-cons (move_count_line e.moves) (root_line e.root ∷ []) rest in
+    let two : r1 ≡ text_of (move_count_line e.moves ∷ root_line e.root ∷ []) ++ rest = e2 ∙ ap
+    (λ (l : List ℕ). move_count_line e.moves ++ line_feed ∷ l) last ∙ text_of-cons (move_count_line e.moves) (root_line e.root ∷ []) rest in
     e1 ∙ ap (λ (l : List ℕ). text_of (board_lines e.kind e.board) ++ l) two
     ∙ sym (text_of-append (board_lines e.kind e.board) (move_count_line e.moves ∷ root_line e.root ∷ []) rest)

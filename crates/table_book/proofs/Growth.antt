@@ -1,13 +1,9 @@
 -- The text of a book, which grows by one section after another.
-use Rattle.std.proofs.Common.{◌≡◌, ℕ, ◌+◌, sym, ap, ◌∙◌, List, [], ◌∷◌, ◌++◌, append_assoc, map, length}
-use Rattle.std.proofs.Common.{flat_map}
+use Rattle.std.proofs.Common.{◌≡◌, ℕ, sym, ap, ◌∙◌, List, [], ◌∷◌, ◌++◌, append_assoc, map, length, flat_map}
 use Rattle.std.proofs.lemmas.List.{flat_map_more}
 use Rattle.std.proofs.lemmas.List.Concat.{flat_map-append}
-use Rattle.text_lines.proofs.Common.{ended, text_of}
-use Rattle.position_files.proofs.Common.{board_lines, node_line}
-use Rattle.table_book.specs.declared.Book.{Book}
-use Rattle.table_book.specs.declared.Entry.{Entry}
-use Rattle.table_book.proofs.Common.{book_lines, book_text, entries_line, entry_lines, first_line, move_count_line, nodes_line, root_line}
+use Rattle.table_book.proofs.Common.{ended, text_of, board_lines, node_line, Book, Entry, book_lines, book_text, entries_line, entry_lines}
+use Rattle.table_book.proofs.Common.{first_line, move_count_line, nodes_line, root_line}
 
 -- the lines of an entry
 pub entry_grown : (e : Entry) (old t1 t2 t3 : List ℕ) → t1 ≡ old ++ text_of (board_lines e.kind e.board)
@@ -35,6 +31,5 @@ book_grown book none t0 t1 t2 t3 t4 e e0 e1 e2 e3 e4 =
     let s3 = e3 ∙ ap (λ (l : List ℕ). l ++ ended (entries_line (length book.entries))) s2 in
     e4 ∙ ap (λ (l : List ℕ). l ++ text_of (flat_map entry_lines book.entries)) s3
     ∙ sections first_line (nodes_line (length book.table)) (entries_line (length book.entries)) (text_of (map node_line book.table))
-    (text_of (flat_map entry_lines book.entries))
-    ∙ ap (λ (l : List ℕ). ended first_line ++ (ended (nodes_line (length book.table)) ++ l))
+    (text_of (flat_map entry_lines book.entries)) ∙ ap (λ (l : List ℕ). ended first_line ++ (ended (nodes_line (length book.table)) ++ l))
     (sym (flat_map-append ended (map node_line book.table) (entries_line (length book.entries) ∷ flat_map entry_lines book.entries)))

@@ -1,18 +1,16 @@
 -- Entries that are checked one after another, held or counted.
-use Rattle.std.proofs.Common.{◌≡◌, ℕ, ◌+◌, ◌*◌, ◌≤◌, ◌<◌, sym, ap, subst, ◌∙◌, arith, List, [], ◌∷◌, ◌++◌, length, map, take}
-use Rattle.std.proofs.Common.{sum_by, Some, slice_get, rules}
+use Rattle.std.proofs.Common.{◌≡◌, ℕ, ◌+◌, ◌*◌, ◌≤◌, ◌<◌, sym, ap, subst, ◌∙◌, arith, List, ◌∷◌, ◌++◌, length, map, take, sum_by, Some}
+use Rattle.std.proofs.Common.{slice_get, rules}
 use Rattle.std.specs.List.{AllByRecursion}
 use Rattle.std.proofs.lemmas.List.{length-map}
 use Rattle.std.proofs.lemmas.Option.{slice_get_within}
 use Rattle.std.proofs.Math.Seq.{take-append_seam}
 use Rattle.strategy_graph.specs.Roots.{AcceptedRoot, LeadsRoot}
-use Rattle.strategy_graph.specs.declared.Node.{Node}
+use Rattle.table_book.proofs.Common.{Node, Entry, IsAccepted, IsHoldFault, at_entry, entry_arrivals, held_entry}
 use Rattle.strategy_checker.specs.HeldRoots.{HeldTable}
 use Rattle.strategy_checker.specs.HeldErrors.{IfRootRefused, IfRootSpent}
 use Rattle.strategy_checker.specs.declared.error.HeldError.{HeldError}
-use Rattle.table_book.specs.declared.Entry.{Entry}
 use Rattle.table_book.specs.declared.TheConstants.{MAX_BOOK_WORK}
-use Rattle.table_book.specs.Holding.{IsAccepted, IsHoldFault, at_entry, entry_arrivals, held_entry}
 use Rattle.table_book.proofs.Lists.{seam}
 use Rattle.table_book.proofs.Soundness.{earliest_at}
 

@@ -1,6 +1,5 @@
 -- Lists that are put together and cut, and what holds of each of their items.
-use Rattle.std.proofs.Common.{◌≡◌, ℕ, zero, suc, ◌+◌, refl, ap, ◌∙◌, arith, List, [], ◌∷◌, ◌++◌, length, take, Some, slice_get}
-use Rattle.std.proofs.Common.{replicate}
+use Rattle.std.proofs.Common.{◌≡◌, ℕ, zero, suc, refl, ap, ◌∙◌, arith, List, [], ◌∷◌, ◌++◌, length, take, Some, slice_get, replicate}
 use Rattle.std.specs.List.{AllByRecursion}
 
 -- the parts of two lists that are put together are the same, where the first ones are of one length

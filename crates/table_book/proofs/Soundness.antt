@@ -1,15 +1,11 @@
 -- Entries that are asked one after another, and what is said of the first at which something is wrong.
-use Rattle.std.proofs.Common.{rules, ◌≡◌, ℕ, ◌+◌, ◌-◌, refl, sym, ◌∙◌, arith, List, take, Some, None, slice_get, true}
-use Rattle.std.proofs.Common.{lt-ltb}
+use Rattle.std.proofs.Common.{rules, ◌≡◌, ℕ, ◌+◌, ◌-◌, refl, sym, ◌∙◌, arith, List, take, Some, None, slice_get, true, lt-ltb}
 use Rattle.std.specs.List.{AllByRecursion}
 use Rattle.foul_judge.proofs.Lawfulness.{none_from_lawful}
-use Rattle.strategy_graph.proofs.Common.{root_below}
-use Rattle.strategy_graph.specs.declared.roots.Root.{Root}
-use Rattle.table_book.specs.declared.Book.{Book}
-use Rattle.table_book.specs.declared.Entry.{Entry}
+use Rattle.table_book.proofs.Common.{root_below, Root, Book, Entry, IsSound, IsTextOfBook, IsWellFormed, EntryRootFits, IsBookFault}
+use Rattle.table_book.proofs.Common.{IsEarliest, IsUnsound, BooksReadBack}
 use Rattle.table_book.specs.declared.error.BookError.{BookError}
 use Rattle.table_book.specs.declared.error.BookError.TheVariants.{BadLine, Unlawful, WrongMoves, Memory}
-use Rattle.table_book.proofs.Common.{IsSound, IsTextOfBook, IsWellFormed, EntryRootFits, IsBookFault, IsEarliest, IsUnsound, BooksReadBack}
 use Rattle.game_rules.proofs.Tests.{all_get}
 use Rattle.table_book.proofs.BookLaws.{one_book}
 

@@ -1,7 +1,5 @@
 use Rattle.std.proofs.Common.{◌≡◌, ap, sym, subst, ◌+◌, List, length, true}
-use Rattle.strategy_graph.specs.Roots.{root_below}
-use Rattle.strategy_graph.specs.declared.Node.{Node}
-use Rattle.table_book.specs.Books.{EntryFits, IsSound}
+use Rattle.table_book.proofs.Common.{root_below, Node, EntryFits, IsSound}
 use Rattle.game_rules.proofs.Tests.{all_get}
 use Rattle.table_book.proofs.Soundness.{root_fits-below}
 use Rattle.table_book.proofs.Holds.{hold_fault_of, next_entry}

@@ -15,8 +15,6 @@ returns-in-Ok-clause-text c =
     c.in-Ok.found.1.now c.in-Ok.ensures.count c.in-Some.ensures.rest.1 c.in-Some-number_line.ensures.number.1 c.in-Ok.ensures.text
 
 pub returns-in-Err-clause-refused : goal.returns-in-Err-clause-refused
-returns-in-Err-clause-refused c =
-    rw c.after-in-Err.ensures.error
+returns-in-Err-clause-refused c = rw c.after-in-Err.ensures.error
     (book_rest_fault c.in-Some-number_line.count c.in-Some-number_line.ensures.number.0.few c.args.bytes.now c.in-Some.rest.now
-    c.in-Some-number_line.rest.now c.in-Some.ensures.rest.1 c.in-Some-number_line.ensures.number.1 c.in-Err.error
-    c.in-Err.ensures.refused)
+    c.in-Some-number_line.rest.now c.in-Some.ensures.rest.1 c.in-Some-number_line.ensures.number.1 c.in-Err.error c.in-Err.ensures.refused)

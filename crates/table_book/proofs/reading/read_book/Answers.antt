@@ -34,7 +34,6 @@ returns-clause-found c = whole_book c.in-Ok.found.0 c.args.bytes.now c.in-Ok.fou
     (no_bytes c.in-Ok.found.1.now (sym c.is_empty.ensures ∙ c.if-not-is_empty.false))
 
 pub returns-clause-only : goal.returns-clause-only
-returns-clause-only c = λ other is.
-    one_book c.in-Ok.found.0 other c.args.bytes.now
+returns-clause-only c = λ other is. one_book c.in-Ok.found.0 other c.args.bytes.now
     (whole_book c.in-Ok.found.0 c.args.bytes.now c.in-Ok.found.1.now c.in-Ok.ensures.fits c.in-Ok.ensures.text
     (no_bytes c.in-Ok.found.1.now (sym c.is_empty.ensures ∙ c.if-not-is_empty.false))) is

@@ -1,6 +1,5 @@
 use Rattle.std.proofs.Common.{◌≡◌, ◌++◌, take, string_bytes, flat_map}
-use Rattle.text_lines.proofs.Common.{text_of}
-use Rattle.table_book.proofs.Common.{entry_lines}
+use Rattle.table_book.proofs.Common.{text_of, entry_lines}
 use Rattle.table_book.proofs.writing.push_entries.Given as goal
 
 -- the lines of the entries so far stand behind the text

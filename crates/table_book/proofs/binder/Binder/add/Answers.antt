@@ -1,7 +1,6 @@
 -- Nodes are adopted, and the entries stay; then the file's entry comes after them.
 use Rattle.std.proofs.Common.{List, sym, subst}
-use Rattle.table_book.specs.declared.Entry.{Entry}
-use Rattle.table_book.specs.Binding.{IsBinding}
+use Rattle.table_book.proofs.Common.{Entry, IsBinding}
 use Rattle.table_book.proofs.Binding.{bound-more}
 use Rattle.table_book.proofs.Bound.{binding-grown, both-added}
 use Rattle.table_book.proofs.binder.Binder.add.Goals as goal
@@ -20,20 +19,17 @@ invariant_of-self-in_err-push c =
     (binding-grown _ _ c.args.file c.self.inside.entries c.self.invariant c.requires.can_be_bound c.adopt_table.ensures.adopts)
 
 pub invariant_of-self-2 : goal.invariant_of-self-2
-invariant_of-self-2 c =
-    (both-added c.args.file _ _ _ _ c.requires.can_be_bound c.adopt_table.ensures.adopts c.in_ok-numbers.ensures.numbers
+invariant_of-self-2 c = (both-added c.args.file _ _ _ _ c.requires.can_be_bound c.adopt_table.ensures.adopts c.in_ok-numbers.ensures.numbers
     (rw c.as_slice.ensures.value at c.in_ok-root.ensures.root) c.self.inside.entries c.push.new.self c.self.invariant
     (rw (← c.self.view_is) at c.requires.room) c.in_ok-push.ensures.pushed).1
 
 pub returns-clause-added : goal.returns-clause-added
-returns-clause-added c =
-    rw (← c.self.view_is) (both-added c.args.file _ _ _ _ c.requires.can_be_bound c.adopt_table.ensures.adopts
+returns-clause-added c = rw (← c.self.view_is) (both-added c.args.file _ _ _ _ c.requires.can_be_bound c.adopt_table.ensures.adopts
     c.in_ok-numbers.ensures.numbers (rw c.as_slice.ensures.value at c.in_ok-root.ensures.root) c.self.inside.entries c.push.new.self
     c.self.invariant (rw (← c.self.view_is) at c.requires.room) c.in_ok-push.ensures.pushed).0
 
 pub returns-clause-bound : goal.returns-clause-bound
-returns-clause-bound c =
-    rw (← c.self.view_is) (λ files before.
+returns-clause-bound c = rw (← c.self.view_is) (λ files before.
     let both = both-added c.args.file _ _ _ _ c.requires.can_be_bound c.adopt_table.ensures.adopts c.in_ok-numbers.ensures.numbers
     (rw c.as_slice.ensures.value at c.in_ok-root.ensures.root) c.self.inside.entries c.push.new.self c.self.invariant
     (rw (← c.self.view_is) at c.requires.room) c.in_ok-push.ensures.pushed in
