@@ -1,7 +1,6 @@
 -- The counts of a drill: each table of a win may be held, each game is won, a number has one drill; and what the calls say of a position.
-use Rattle.std.proofs.Common.{Option, Some, None, ◌≢◌, All, find, ◌≡◌, ◌⊎◌, inl, inr, refl, sym, ap, subst, ◌∙◌}
-use Rattle.std.proofs.Common.{ℕ, zero, suc, ◌+◌, ◌*◌, ◌<◌, ◌≤◌, Bool, true, false, cond, nat_le, List, [], ◌∷◌}
-use Rattle.std.proofs.Common.{length, add-one, arith, ◌++◌, rules}
+use Rattle.std.proofs.Common.{Option, Some, None, All, find, ◌≡◌, ◌⊎◌, inl, inr, refl, sym, ap, subst, ◌∙◌, ℕ, zero, suc, ◌+◌, ◌*◌, ◌<◌}
+use Rattle.std.proofs.Common.{◌≤◌, Bool, true, false, cond, nat_le, List, [], ◌∷◌, length, add-one, arith, ◌++◌, rules}
 use Rattle.std.specs.List.{range_with_len}
 use Rattle.std.proofs.lemmas.Bool.{cases_lt, lt-ltb}
 use Rattle.std.proofs.lemmas.Bool.Decides.{nat_tests}
@@ -116,18 +115,17 @@ module _ (h : HeldTable) (rule : RuleKind) (b : Grid) (n : ℕ)
     more-turns : AtOrOver h rule b n (k + 1)
     unfolding AtOrOver
     more-turns =
-        let then = then_state h rule b n now number c at k t on (after c at) refl (next_number number) (drawn (next_number number)) refl
-        refl q refl in
+        let then =
+        then_state h rule b n now number c at k t on (after c at) refl (next_number number) (drawn (next_number number)) refl refl q refl in
         elim (met h rule b n now number c at k t on (after c at) refl (next_number number) (drawn (next_number number)) refl refl q refl) [
           | inl foul ↦ inr (rw then at foul.over)
           | inr answer ↦ inl (
             next_number number,
             after (after c at) q,
             answer.playing.node.attack,
-            course-next h rule b n now number c at k t on (after c at) refl (next_number number) (drawn (next_number number)) refl refl q
-                refl
-                (after_turns begun n (k + 1)) (brain_step now (Turn q.x q.y)).reaction (sym then) refl answer.playing.node.attack
-                (ap move_said answer.says),
+            course-next h rule b n now number c at k t on
+                (after c at) refl (next_number number) (drawn (next_number number)) refl refl q refl (after_turns begun n (k + 1))
+                (brain_step now (Turn q.x q.y)).reaction (sym then) refl answer.playing.node.attack (ap move_said answer.says),
           )
         ]
 
@@ -166,11 +164,8 @@ module _ (h : HeldTable) (rule : RuleKind) (b : Grid) (n : ℕ)
 -- a brain may hold the table with this one root
 pub held-one : (rule : RuleKind) (b : Grid) (t : List Node) → IsPosition rule b → Accepted rule t (last t) b → IsHeld (held_at rule b t)
 held-one rule b t lawful accepted = record {
-  roots = one (record {
-    lawful = lawful;
-    below = lt-ltb (last t) (length t) (accepted-in_table rule t (last t) b accepted);
-    accepted = accepted;
-  });
+  roots = one
+      (record { lawful = lawful; below = lt-ltb (last t) (length t) (accepted-in_table rule t (last t) b accepted); accepted = accepted });
   few = omega arith;
 } where
   one : IsHeldRoot t (record { root = Attack (last t); kind = rule; board = b })
@@ -180,8 +175,7 @@ held-one rule b t lawful accepted = record {
 
 pub game-won : (rule : RuleKind) (b : Grid) (t : List Node) → IsPosition rule b → b.width ≡ SIDE → b.height ≡ SIDE → IsHoldable rule b t
     → (n moves : ℕ) (won : Bool) (u : ℕ) → IsGamePlayed (state_begun (held_at rule b t) rule b) n moves won u → won ≡ true
-game-won rule b t lawful wide high can n moves won u played =
-    played.ends ∙ played-won (held_at rule b t) rule b n
+game-won rule b t lawful wide high can n moves won u played = played.ends ∙ played-won (held_at rule b t) rule b n
     (opened (held_at rule b t) rule b (last t) wide high lawful (held-one rule b t lawful can.accepted) refl) played.turns played.game
     played.played
 
@@ -271,10 +265,9 @@ pub node-below : (t u : List Node) (i : ℕ) → u ≡ t → i < length t → ro
 node-below t u i same low = lt-ltb i (length u) (let e : length u ≡ length t = ap length same in omega (arith, e, low))
 
 -- the root that was added to the table is its last node, at the board
-pub held-as : (rule : RuleKind) (b c : Grid) (t : List Node) (i : ℕ) (new old : HeldTable) → c ≡ b → i ≡ last t → old.table ≡ t
-    → old.roots ≡ [] → new.table ≡ old.table
-    → new.roots ≡ old.roots ++ (let r : HeldRoot = record { root = Attack i; kind = rule; board = c } in r) ∷ []
-    → new ≡ held_at rule b t
+pub held-as : (rule : RuleKind) (b c : Grid) (t : List Node) (i : ℕ) (new old : HeldTable)
+    → c ≡ b → i ≡ last t → old.table ≡ t → old.roots ≡ [] → new.table ≡ old.table
+    → new.roots ≡ old.roots ++ (let r : HeldRoot = record { root = Attack i; kind = rule; board = c } in r) ∷ [] → new ≡ held_at rule b t
 held-as rule b c t i new old board node table none kept added = search rules
 
 -- node i is accepted at the board, and has few arrivals
@@ -290,13 +283,8 @@ holdable-as rule b c t u i board node table held = search rules
 pub plays-as : (rule : RuleKind) (b : Grid) (t : List Node) (s : ℕ) (c : Counts) (u moves : ℕ) (won : Bool) (h : HeldTable)
     → h ≡ held_at rule b t → IsHoldable rule b t → IsGamePlayed (state_begun h rule b) s moves won u → c ≡ win_counts moves won
     → PlaysGame rule b t s c u
-plays-as rule b t s c u moves won h held can game counts = record {
-  holdable = can;
-  moves = moves;
-  won = won;
-  game = rw held at game;
-  counts = counts;
-}
+plays-as rule b t s c u moves won h held can game counts =
+    record { holdable = can; moves = moves; won = won; game = rw held at game; counts = counts }
 
 -- the counts of one win
 pub win-within : (moves : ℕ) (won : Bool) → moves ≤ 225 → AreWithin 1 (win_counts moves won)

@@ -1,5 +1,5 @@
 -- A game of the drill as it goes: its first move by the table, the state of the brain after so many turns, and how the game ends.
-use Rattle.std.proofs.Common.{◌≢◌, Some, None, ◌≡◌, refl, sym, ap, subst, ◌∙◌, ℕ, ◌*◌, ◌≤◌, [], ◌∷◌}
+use Rattle.std.proofs.Common.{◌≢◌, Some, None, ◌≡◌, refl, sym, ap, subst, ◌∙◌, ℕ, ◌≤◌, [], ◌∷◌}
 use Rattle.std.proofs.Common.{arith, ◌⊎◌, inl, inr, ◌+◌, ◌<◌, Bool, true, false, add-one, rules}
 use Rattle.std.proofs.lemmas.List.Sums.{count_by-le-length}
 use Rattle.std.proofs.lemmas.Bool.{cases_lt}
@@ -74,9 +74,8 @@ told-as h rule kind b board new told lines begun same there = search rules
 
 -- a brain that holds accepted roots after its first move held them before
 pub opened-as : (h : HeldTable) (rule : RuleKind) (b : Grid) (told s : State) → b.width ≡ SIDE → b.height ≡ SIDE → IsPosition rule b
-    → (i : ℕ) × (h.roots ≡ record { root = Attack i; kind = rule; board = b } ∷ [])
-    → told ≡ told_all (new_brain h) (position_lines rule b) → s ≡ (brain_step told Done).next → IsHeld s.held
-    → IsOpened h rule b (brain_step told Done)
+    → (i : ℕ) × (h.roots ≡ record { root = Attack i; kind = rule; board = b } ∷ []) → told ≡ told_all (new_brain h) (position_lines rule b)
+    → s ≡ (brain_step told Done).next → IsHeld s.held → IsOpened h rule b (brain_step told Done)
 opened-as h rule b told s wide high lawful root is next held =
     let kept = told-kept h (new_brain h) (position_lines rule b) (new-lawful h) in
     let still : s.held ≡ h = ap (λ (t : State). t.held) next ∙ (next-lawful h told Done (rw is kept)).1 in
@@ -183,18 +182,15 @@ module _ (h : HeldTable) (rule : RuleKind) (b : Grid) (n : ℕ) where
       turn_is =
           let shown : board_now s.place ≡ c1 = board-then h rule s turns t.playing goes ∙ sym then_board in
           ap (λ (x : Grid). drawn_turn x (drawn (number_after n (turns + 1)))) shown
-          ∙ ap (drawn_turn c1) (ap drawn (sym number_then) ∙ sym draw)
-          ∙ ap (λ (x : Point). let a : Asked = Turn x.x x.y in a) (sym point)
+          ∙ ap (drawn_turn c1) (ap drawn (sym number_then) ∙ sym draw) ∙ ap (λ (x : Point). let a : Asked = Turn x.x x.y in a) (sym point)
 
       pub then_state : (brain_step s (Turn q.x q.y)).next ≡ after_turns s0 n (turns + 1)
-      then_state =
-          ap (λ (a : Asked). (brain_step s a).next) (sym turn_is)
+      then_state = ap (λ (a : Asked). (brain_step s a).next) (sym turn_is)
           ∙ ap (λ (x : State). (brain_step x (drawn_turn (board_now x.place) (drawn (number_after n (turns + 1))))).next) t.state
           ∙ sym (turn-after s0 n turns)
 
       then_sooner : (k : ℕ) → k < turns + 1 → is_ended (after_turns s0 n k).place ≡ false
-      then_sooner = no-later s0 n turns t.no_sooner
-          (rw t.state at (going-now h rule s turns t.playing goes))
+      then_sooner = no-later s0 n turns t.no_sooner (rw t.state at (going-now h rule s turns t.playing goes))
 
       pub met : IsFouled (brain_step s (Turn q.x q.y)) (turns + 1) ⊎ IsAnswered h rule c1 q (brain_step s (Turn q.x q.y)) (turns + 1)
       met = rw then_board (reply-met h rule s turns t.playing goes q (rw then_board at course-empty))
@@ -211,8 +207,7 @@ module _ (h : HeldTable) (rule : RuleKind) (b : Grid) (n : ℕ) where
         -- it says no move: the opponent's is a foul
         pub course-ended : move_said r ≡ None → IsGamePlayed s0 n (turns + 1) (says_foul r) u
         course-ended is = elim met [
-          | inl foul ↦
-              subst (λ (won : Bool). IsGamePlayed s0 n (turns + 1) won u) (sym (foul-said foul.says).1)
+          | inl foul ↦ subst (λ (won : Bool). IsGamePlayed s0 n (turns + 1) won u) (sym (foul-said foul.says).1)
               (played (turns + 1) (turns + 1) u (brain_step s (Turn q.x q.y)).next then_state foul.over then_sooner number_then)
           | inr answer ↦ let said = answer-said answer.playing.node.attack answer.says in absurd (cc)
         ]

@@ -1,5 +1,5 @@
 -- A position of the drill, draw by draw.
-use Rattle.std.proofs.Common.{◌≡◌, refl, sym, ap, ◌∙◌, ℕ, zero, suc, ◌+◌, ◌*◌, ◌/◌, ◌^◌, ◌<◌, ◌≤◌}
+use Rattle.std.proofs.Common.{◌≡◌, refl, sym, ap, ◌∙◌, ℕ, zero, suc, ◌+◌, ◌/◌, ◌^◌, ◌<◌, ◌≤◌}
 use Rattle.std.proofs.Common.{Bool, true, false, cond, ◌&&◌, nat_lt, add-one, arith, ◌≢◌, rules}
 use Rattle.std.proofs.lemmas.Bool.Decides.{nat_tests}
 use Rattle.std.proofs.lemmas.List.{length-replicate}
@@ -69,9 +69,8 @@ board-same : (f : Grid → ℕ) → ((b : Grid) (p : Point) → f (after b p) �
     → f (board_drawn rule s k) ≡ f (empty_board SIDE SIDE)
 unfolding board_drawn
 board-same f kept rule s zero = refl
-board-same f kept rule s (suc k) =
-    point-same rule (board_drawn rule s k) (middle_point (draw_at s k)) f (kept (board_drawn rule s k) (middle_point (draw_at s k)))
-    ∙ board-same f kept rule s k
+board-same f kept rule s (suc k) = point-same rule (board_drawn rule s k)
+    (middle_point (draw_at s k)) f (kept (board_drawn rule s k) (middle_point (draw_at s k))) ∙ board-same f kept rule s k
 
 pub board-wide : (rule : RuleKind) (s k : ℕ) → (board_drawn rule s k).width ≡ SIDE
 board-wide = board-same (λ b. b.width) (λ b p. refl)

@@ -1,7 +1,6 @@
 -- A brain is told a position for which it holds a table: the stones are read one by one and make its board, and at DONE a held game begins.
-use Rattle.std.proofs.Common.{Some, None, filter, count_by, ◌≡◌, refl, sym, ap, ◌∙◌, ℕ, ◌+◌, ◌*◌, ◌≤◌, Bool}
-use Rattle.std.proofs.Common.{true, false, cond, not, ◌&&◌, ◌||◌, List, [], ◌∷◌, ◌++◌, map, arith, rules, append_assoc}
-use Rattle.std.proofs.Common.{eqb, subst}
+use Rattle.std.proofs.Common.{Some, None, filter, count_by, ◌≡◌, refl, sym, ap, ◌∙◌, ℕ, ◌+◌, ◌*◌, ◌≤◌, Bool, true, false, cond, not, ◌&&◌}
+use Rattle.std.proofs.Common.{◌||◌, List, [], ◌∷◌, ◌++◌, map, arith, rules, append_assoc, eqb, subst}
 use Rattle.std.specs.List.{list_any}
 use Rattle.std.specs.Option.{option_or}
 use Rattle.std.proofs.lemmas.Bool.{or_right}
@@ -40,20 +39,17 @@ batch_read h w stones = record { wish = w; held = h; place = Fresh SIDE SIDE; ba
 -- ---- one stone
 
 -- a line of a stone on the board, where no stone is yet, adds the stone
-with_known : (own on taken : Bool) (stones : List BatchStone) (p : Point) → on ≡ true → taken ≡ false
-    → cond ((on && (eqb (cond own 1 2) 1 || eqb (cond own 1 2) 2)) && not taken)
+with_known : (own on taken : Bool) (stones : List BatchStone) (p : Point)
+    → on ≡ true → taken ≡ false → cond ((on && (eqb (cond own 1 2) 1 || eqb (cond own 1 2) 2)) && not taken)
     (let b : Batch = record { stones = stones ++ record { at = p; own = eqb (cond own 1 2) 1 } ∷ []; bad = false } in b)
-    (spoiled (record { stones = stones; bad = false }))
-    ≡ record { stones = stones ++ record { at = p; own = own } ∷ []; bad = false }
+    (spoiled (record { stones = stones; bad = false })) ≡ record { stones = stones ++ record { at = p; own = own } ∷ []; bad = false }
 with_known own on taken stones p e f = search rules
 
-step-stone : (h : HeldTable) (w : ℕ) (b : Grid) (stones : List BatchStone) (p : Point) → is_on (empty_board SIDE SIDE) p ≡ true
-    → has_stone_at stones p ≡ false
-    → brain_step (batch_read h w stones) (stone_line b p)
+step-stone : (h : HeldTable) (w : ℕ) (b : Grid) (stones : List BatchStone) (p : Point)
+    → is_on (empty_board SIDE SIDE) p ≡ true → has_stone_at stones p ≡ false → brain_step (batch_read h w stones) (stone_line b p)
     ≡ record { reaction = Silent; next = batch_read h w (stones ++ stone_at b p ∷ []) }
 unfolding row_of
-step-stone h w b stones p on free =
-    ap (λ (x : Batch). let s : Step =
+step-stone h w b stones p on free = ap (λ (x : Batch). let s : Step =
     record { reaction = Silent; next = record { wish = w; held = h; place = Fresh SIDE SIDE; batch = Some x } } in s)
     (with_known (holds b (mover b) p) (is_on (empty_board SIDE SIDE) p) (has_stone_at stones p) stones p on free)
 
@@ -84,16 +80,14 @@ module _ (h : HeldTable) (w : ℕ) (b : Grid) (wide : b.width ≡ SIDE) (high : 
         then : Before b.width (place b.width p + 1) stones
         then = before-more b.width (place b.width p) (place b.width p + 1) stones (omega arith) here
 
-        by_test : (r : Bool) → is_empty b p ≡ r
-            → ((more : List BatchStone) → Before b.width (place b.width p + 1) more
+        by_test : (r : Bool) → is_empty b p ≡ r → ((more : List BatchStone) → Before b.width (place b.width p + 1) more
             → told_all (batch_read h w more) (stone_lines b ps) ≡ batch_read h w (more ++ stones_at b ps))
             → told_all (batch_read h w stones)
             (map (stone_line b) (cond (not r) (p ∷ filter (λ x. not (is_empty b x)) ps) (filter (λ x. not (is_empty b x)) ps)))
             ≡ batch_read h w (stones ++ map (stone_at b)
             (cond (not r) (p ∷ filter (λ x. not (is_empty b x)) ps) (filter (λ x. not (is_empty b x)) ps)))
         by_test true e later = later stones then
-        by_test false e later =
-            ap (λ (t : Step). told_all t.next (stone_lines b ps))
+        by_test false e later = ap (λ (t : Step). told_all t.next (stone_lines b ps))
             (step-stone h w b stones p (on-side p on_p) (before-apart b.width p stones here))
             ∙ later (stones ++ stone_at b p ∷ []) (before-push b.width (place b.width p + 1) stones (stone_at b p) then (omega arith))
             ∙ ap (batch_read h w) (append_assoc stones (stone_at b p ∷ []) (stones_at b ps))
@@ -103,9 +97,8 @@ module _ (h : HeldTable) (w : ℕ) (b : Grid) (wide : b.width ≡ SIDE) (high : 
 pub told-position : (h : HeldTable) (rule : RuleKind) (b : Grid) → b.width ≡ SIDE → b.height ≡ SIDE
     → told_all (new_brain h) (position_lines rule b) ≡ batch_read h (wish_of rule) (stones_at b (points_of b))
 unfolding row_of On
-told-position h rule b wide high =
-    told-stones h (wish_of rule) b wide high (points_of b) (0 * b.width) [] (rows-rising b.width 0 b.height) (listed_on b)
-    (before-none b.width (0 * b.width))
+told-position h rule b wide high = told-stones h (wish_of rule) b wide high
+    (points_of b) (0 * b.width) [] (rows-rising b.width 0 b.height) (listed_on b) (before-none b.width (0 * b.width))
 
 -- what a brain is told leaves it lawful, and holding what it holds
 pub told-kept : (h : HeldTable) (s : State) (cs : List Asked) → IsKept h s → IsKept h (told_all s cs)

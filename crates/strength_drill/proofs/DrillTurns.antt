@@ -1,6 +1,6 @@
 -- A game of the drill, move by move: what the state of the brain says once it made a move by the held table, and after each TURN.
 use Rattle.std.proofs.Common.{◌≡◌, ◌⊎◌, inl, inr, refl, sym, ap, ◌∙◌, ℕ, ◌+◌, ◌*◌, ◌≤◌, Bool, true, false}
-use Rattle.std.proofs.Common.{cond, not, ◌&&◌, ◌∷◌, arith, Some, IsSomeAnd, rules}
+use Rattle.std.proofs.Common.{cond, not, ◌∷◌, arith, Some, IsSomeAnd, rules}
 use Rattle.strength_drill.proofs.Common.{Grid, is_empty, empties_of, IsPosition, outcome, mover, after, goes_on, RuleKind, Outcome, GoesOn}
 use Rattle.strength_drill.proofs.Common.{Point, Node, HeldTable, Turn, Move, Error, OpponentFoul, Says, Game, board_of, InGame, State, Step}
 use Rattle.strength_drill.proofs.Common.{rule_of, brain_step, SIDE, board_now, is_ended, moves_by, moves_of_brain, is_won}
@@ -66,8 +66,7 @@ module _ (h : HeldTable) (rule : RuleKind) (s : State) (turns : ℕ) (p : IsPlay
   game_now = with_choice p.game (by_node p.i p.node)
 
   pub attacks : (outcome rule board_before p.node.attack ≡ WinsNow) ⊎ (outcome rule board_before p.node.attack ≡ GoesOn)
-  attacks = wins_or_goes_on (outcome rule board_before p.node.attack) _
-      (rw p.rule_is at p.stands.wins)
+  attacks = wins_or_goes_on (outcome rule board_before p.node.attack) _ (rw p.rule_is at p.stands.wins)
 
   here : (o : Outcome) → outcome rule board_before p.node.attack ≡ o → outcome p.game.rule board_before p.node.attack ≡ o
   here o e = ap (λ (r : RuleKind). outcome r board_before p.node.attack) p.rule_is ∙ e
@@ -111,17 +110,16 @@ module _ (h : HeldTable) (rule : RuleKind) (s : State) (turns : ℕ) (p : IsPlay
       made-then = search (rules, opponent-turn, own-turn)
 
       fouled : (f : Foul) → there ≡ Fouls f → IsFouled (brain_step s (Turn q.x q.y)) (turns + 1)
-      fouled f e = rw (step-then (Fouls f) e)
-          (record {
-            says = refl;
-            over = record {
-              game = with_move game_now q true;
-              place = refl;
-              ended = refl;
-              won = ap (λ (r : Bool). cond r (is_win there) (is_foul there)) opponent-turn ∙ ap is_foul e;
-              made = made-then;
-            };
-          })
+      fouled f e = rw (step-then (Fouls f) e) (record {
+        says = refl;
+        over = record {
+          game = with_move game_now q true;
+          place = refl;
+          ended = refl;
+          won = ap (λ (r : Bool). cond r (is_win there) (is_foul there)) opponent-turn ∙ ap is_foul e;
+          made = made-then;
+        };
+      })
 
       answered : there ≡ GoesOn → (j : ℕ) → answer (answers_of p.node) q ≡ Some j
           → AcceptedWithin p.more p.game.rule h.table j (after (after board_before p.node.attack) q)
@@ -129,16 +127,15 @@ module _ (h : HeldTable) (rule : RuleKind) (s : State) (turns : ℕ) (p : IsPlay
       answered e j reply accepted =
           let g2 = with_move game_now q false in
           let next = next_stands h p.game p.i p.node p.more p.stands (here GoesOn on) q e j reply accepted in
-          let fewer = empties_of-put board_before (mover board_before) p.node.attack p.stands.lawful.board
-          (GoesOn-empty rule board_before p.node.attack on) in
-          let fewer_still = empties_of-put (after board_before p.node.attack) (mover (after board_before p.node.attack)) q lawful-then.board
-          empty in
+          let fewer = empties_of-put board_before
+          (mover board_before) p.node.attack p.stands.lawful.board (GoesOn-empty rule board_before p.node.attack on) in
+          let fewer_still =
+          empties_of-put (after board_before p.node.attack) (mover (after board_before p.node.attack)) q lawful-then.board empty in
           let few = p.few in
           rw (step-then GoesOn e ∙ ap
           (λ (c : Choice). let t : Step = record { reaction = Says (Move c.at); next = state_in h p.wish (with_choice g2 c) } in t)
           next.chooses) (record {
-            on = ap (λ (r : RuleKind). outcome r (after board_before p.node.attack) q) (sym p.rule_is)
-                ∙ e;
+            on = ap (λ (r : RuleKind). outcome r (after board_before p.node.attack) q) (sym p.rule_is) ∙ e;
             playing = record {
               wish = p.wish;
               game = g2;
@@ -162,8 +159,7 @@ module _ (h : HeldTable) (rule : RuleKind) (s : State) (turns : ℕ) (p : IsPlay
       pub reply-met : IsFouled (brain_step s (Turn q.x q.y)) (turns + 1) ⊎ IsAnswered h rule (after board_before p.node.attack) q
           (brain_step s (Turn q.x q.y)) (turns + 1)
       reply-met = by_outcome there refl ((parts h p.game p.i p.node p.more p.stands (here GoesOn on)).1 q) where
-        by_outcome : (o : Outcome) → there ≡ o → LosesOr o
-            (IsSomeAnd (answer (answers_of p.node) q)
+        by_outcome : (o : Outcome) → there ≡ o → LosesOr o (IsSomeAnd (answer (answers_of p.node) q)
             (λ j. AcceptedWithin p.more p.game.rule h.table j (after (after board_before p.node.attack) q)))
             → IsFouled (brain_step s (Turn q.x q.y)) (turns + 1) ⊎ IsAnswered h rule (after board_before p.node.attack) q
             (brain_step s (Turn q.x q.y)) (turns + 1)

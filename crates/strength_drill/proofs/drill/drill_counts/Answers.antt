@@ -31,8 +31,5 @@ returns c =
     let most = c.loop-i.auto.i-end in
     let least = c.loop-i-test.false in
     let end : c.loop-i.i ≡ POSITIONS = omega (arith, most, least) in
-    let counted : IsCounted c.args.number c.loop-i.counts = (
-      c.loop-i.draws.number,
-      rw end at c.loop-i.invariant.counted,
-    ) in
+    let counted : IsCounted c.args.number c.loop-i.counts = (c.loop-i.draws.number, rw end at c.loop-i.invariant.counted) in
     record { counted = counted; only = only-counts c.args.number c.loop-i.counts counted }

@@ -8,12 +8,7 @@ pub try_table-requires : goal.try_table-requires
 try_table-requires g c =
     let made : FourTable = c.in-Win.field-0 in
     let is = rw c.in-Win.is at c.requires.found in
-    record {
-      last_node = is.made.last_node;
-      in_table = is.made.win.written.in_compiler;
-      wide = c.requires.wide;
-      high = c.requires.high;
-    }
+    record { last_node = is.made.last_node; in_table = is.made.win.written.in_compiler; wide = c.requires.wide; high = c.requires.high }
 
 pub returns-in-Win-clause-comes : goal.returns-in-Win-clause-comes
 returns-in-Win-clause-comes g c =
@@ -36,5 +31,4 @@ returns-in-None-clause-comes g c =
 pub returns-in-Spent-clause-comes : goal.returns-in-Spent-clause-comes
 returns-in-Spent-clause-comes g c =
     let rule = g.R.Rule.KIND in
-    comes-spent rule c.args.position c.args.draws.now.number _ c.args.draws.now.number
-    (rw c.in-Spent.is at c.requires.found) refl refl
+    comes-spent rule c.args.position c.args.draws.now.number _ c.args.draws.now.number (rw c.in-Spent.is at c.requires.found) refl refl

@@ -1,4 +1,4 @@
-use Rattle.std.proofs.Common.{◌≡◌, ◌∙◌}
+use Rattle.std.proofs.Common.{◌∙◌}
 use Rattle.std.proofs.lemmas.Result.{IfOk-weaker}
 use Rattle.strength_drill.proofs.Common.{Grid, DEPTH, BUDGET, Counts, ComesOf, IsShare, found_within}
 use Rattle.strength_drill.proofs.DrillCounts.{share-as}

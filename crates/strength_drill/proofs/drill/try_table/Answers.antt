@@ -1,4 +1,4 @@
-use Rattle.std.proofs.Common.{◌≡◌, inl, ap}
+use Rattle.std.proofs.Common.{inl, ap}
 use Rattle.strength_drill.proofs.Common.{last, HeldTable}
 use Rattle.strength_drill.proofs.DrillCounts.{node-below, held-as, holdable-as, plays-as, win-within}
 use Rattle.strength_drill.proofs.drill.try_table.Goals as goal

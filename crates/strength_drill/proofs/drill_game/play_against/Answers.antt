@@ -1,4 +1,4 @@
-use Rattle.std.proofs.Common.{◌≡◌, ◌+◌, refl, sym, ap, ◌∙◌}
+use Rattle.std.proofs.Common.{◌≡◌, refl, sym, ap, ◌∙◌}
 use Rattle.strength_drill.proofs.Common.{Grid, after, Done, State, new_brain, brain_step, move_said, position_lines, told_all, drawn_move}
 use Rattle.gomocup_text.specs.declared.Command.{Command}
 use Rattle.strength_drill.proofs.DrillCourse.{told-as, opened-as, turn-as, course-first, course-won, course-one, course-ended, course-next}
@@ -43,8 +43,7 @@ returns-in-Wins-clause-played g c =
 pub returns-in_default-outcome : goal.returns-in_default-outcome
 returns-in_default-outcome g c =
     absurd (course-one c.args.brain.now.held g.R.Rule.KIND c.args.position.now c.args.draws.now.number c.loop-turns.brain
-    c.loop-turns.draws.number
-    c.loop-turns.position c.loop-turns.at c.loop-turns.turns c.loop-turns.invariant
+    c.loop-turns.draws.number c.loop-turns.position c.loop-turns.at c.loop-turns.turns c.loop-turns.invariant
     (λ e. c.in_default-outcome.not-Wins (c.outcome.ensures.outcome ∙ e))
     (λ e. c.in_default-outcome.not-GoesOn (c.outcome.ensures.outcome ∙ e)))
 
@@ -75,8 +74,7 @@ play-requires-in-loop-turns g c =
     let some = sym c.move_said-in-loop-turns.ensures.said ∙ c.in-Some-move_said.is in
     record {
       goes_on = course-on c.args.brain.now.held g.R.Rule.KIND c.args.position.now c.args.draws.now.number c.loop-turns.brain
-          c.loop-turns.draws.number
-          c.loop-turns.position c.loop-turns.at c.loop-turns.turns c.loop-turns.invariant on
+          c.loop-turns.draws.number c.loop-turns.position c.loop-turns.at c.loop-turns.turns c.loop-turns.invariant on
           c.play.new.self board c.draw.new.self.number c.draw.result c.draw.ensures.next c.draw.ensures.drawn c.drawn_move-q.result point
           c.step-in-loop-turns.new.self c.in_ok-reaction.reaction state reaction c.in-Some-move_said.next some;
     }

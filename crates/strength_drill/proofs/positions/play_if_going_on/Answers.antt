@@ -1,4 +1,4 @@
-use Rattle.std.proofs.Common.{◌≡◌, ◌<◌, ◌≤◌, sym, ap, ◌∙◌}
+use Rattle.std.proofs.Common.{◌≡◌, sym, ap, ◌∙◌}
 use Rattle.strength_drill.proofs.Common.{Grid, after, all_stones}
 use Rattle.strength_drill.proofs.DrillMaking.{point-many, point-not, point-on}
 use Rattle.strength_drill.proofs.positions.play_if_going_on.Goals as goal
@@ -6,10 +6,7 @@ use Rattle.strength_drill.proofs.positions.play_if_going_on.Goals as goal
 pub returns-then-all_stones-ge-MOST_STONES : goal.returns-then-all_stones-ge-MOST_STONES
 returns-then-all_stones-ge-MOST_STONES g c =
     let count : c.all_stones.result ≡ all_stones c.args.position.now = c.all_stones.ensures.stones ∙ ap all_stones c.board.ensures.board in
-    record {
-      played = sym (point-many g.R.Rule.KIND c.args.position.now c.args.p
-          (rw count at c.if-all_stones-ge-MOST_STONES.true));
-    }
+    record { played = sym (point-many g.R.Rule.KIND c.args.position.now c.args.p (rw count at c.if-all_stones-ge-MOST_STONES.true)) }
 
 pub returns-in-GoesOn : goal.returns-in-GoesOn
 returns-in-GoesOn g c =
