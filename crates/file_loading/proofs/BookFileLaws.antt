@@ -1,13 +1,10 @@
 -- The text of a book has one book, and one whose entries are accepted is not refused.
 use Rattle.std.proofs.Common.{◌≡◌, refl, ℕ, ◌-◌, List, arith}
 use Rattle.game_rules.proofs.Tests.{all_get}
-use Rattle.table_book.specs.declared.Book.{Book}
-use Rattle.table_book.specs.declared.error.HoldError.{HoldError}
-use Rattle.table_book.specs.declared.error.HoldError.TheVariants.{Refused, Spent as SpentEntry, Memory as NotHeld}
+use Rattle.file_loading.proofs.Common.{Book, HoldError, Refused, Status, AreAccepted, IsBookAt, IsRefusedBook, IsRefusedEntry}
+use Rattle.table_book.specs.declared.error.HoldError.TheVariants.{Spent as SpentEntry, Memory as NotHeld}
 use Rattle.table_book.specs.Holding.{IsAccepted, IsHoldFault}
 use Rattle.table_book.proofs.Soundness.{book-read-back}
-use Rattle.command_base.specs.declared.status.Status.{Status}
-use Rattle.file_loading.specs.BookFiles.{AreAccepted, IsBookAt, IsRefusedBook, IsRefusedEntry}
 
 -- bytes are the text of one book
 pub one-book : (book other : Book) (bytes : List ℕ) → IsBookAt book bytes → IsBookAt other bytes → other ≡ book

@@ -1,20 +1,17 @@
 -- Commands that are told a position once the tables of many files are accepted: their answers, and what their statuses 0 and 9 show.
 use Rattle.std.proofs.Common.{◌≡◌, ◌⊎◌, inl, inr, sym, subst, ℕ, List, Option, Some, IfSome, arith}
 use Rattle.position_files.specs.declared.PositionFile.{PositionFile}
-use Rattle.position_files.specs.declared.TableFile.{TableFile}
-use Rattle.renju_io.specs.Files.{Files}
+use Rattle.file_loading.proofs.Common.{TableFile, Files, Status, Done, RefusedText, RefusedTable, ShelfFault, Spent, TooLong, status_number}
+use Rattle.file_loading.proofs.Common.{Change, Run, IsDelivered, AreTableFiles, IsRefusedTable, IsSpentWork, IsUnheld, IsUnhinderedShelf}
+use Rattle.file_loading.proofs.Common.{TableFileSays}
 use Rattle.renju_io.specs.Told.{Takes}
-use Rattle.command_base.specs.declared.status.Status.{Status}
-use Rattle.command_base.specs.declared.status.Status.TheVariants.{Done, NotFound, RefusedText, RefusedTable, ShelfFault, Spent, TooLong}
-use Rattle.command_base.specs.Statuses.{status_number}
-use Rattle.command_base.specs.Runs.{Change, Run, IsDelivered, IsUnbegun}
+use Rattle.command_base.specs.declared.status.Status.TheVariants.{NotFound}
+use Rattle.command_base.specs.Runs.{IsUnbegun}
 use Rattle.command_base.specs.Told.{AnswersTold, EndsTold, IsYielded}
 use Rattle.command_base.specs.Positions.{IsPositionAt, PositionCommand, SaysOfPosition, of_position}
 use Rattle.command_base.proofs.ToldLaws.{IsWhole, answers-by, by-end, given-told}
 use Rattle.command_base.proofs.PositionLaws.{said-of-position}
-use Rattle.file_loading.specs.ManyFiles.{AreTableFiles}
 use Rattle.file_loading.specs.RunsByFiles.{IsRunByFiles, SaysByFiles, ShowsByFiles, TellsUnfit}
-use Rattle.file_loading.proofs.Common.{IsRefusedTable, IsSpentWork, IsUnheld, IsUnhinderedShelf, TableFileSays}
 use Rattle.file_loading.proofs.ManyFileLaws.{fit-not_refused, same-files}
 
 -- ---- answers
@@ -83,9 +80,8 @@ module _ (Says : List TableFile → PositionFile → Status → List ℕ → Typ
   abbrev Shows : List ℕ → Type 0
   Shows bytes = ShowsByFiles (SaidSo Says run.status) work names shelf bytes run
 
-  by-says : (by : SaysByFiles Says work names run) (bytes : List ℕ) (status : Status) (text : List ℕ)
-      → run.status ≡ status_number status → Takes run.output.before text run.output.after
-      → SaysOfPosition (Says by.files) bytes status text → Shows bytes
+  by-says : (by : SaysByFiles Says work names run) (bytes : List ℕ) (status : Status) (text : List ℕ) → run.status ≡ status_number status
+      → Takes run.output.before text run.output.after → SaysOfPosition (Says by.files) bytes status text → Shows bytes
   by-says by bytes status text ends whole (inl refused) =
       absurd (silent-by status RefusedText refused.ends (λ s. grind arith) (subst Speaks ends speaks))
   by-says by bytes status text ends whole (inr said) = record {
@@ -101,12 +97,10 @@ module _ (Says : List TableFile → PositionFile → Status → List ℕ → Typ
   shown-by : SaysByFiles Says work names run ⊎ TellsUnfit work names run ⊎ IsUnbegun run.input run.output run.status → Shows input
   shown-by (inl by) = by-ends (by-end (SaysOfPosition (Says by.files)) run by.ends) where
     by-ends : IsWhole (SaysOfPosition (Says by.files)) run ⊎ IsYielded run.status → Shows input
-    by-ends (inl w) =
-        subst (λ (o : Option (List ℕ)). IfSome o Shows) given
+    by-ends (inl w) = subst (λ (o : Option (List ℕ)). IfSome o Shows) given
         (given-told Shows run.input.before w.bytes w.given (by-says by w.bytes w.status w.text w.ends w.whole w.says))
     by-ends (inr yielded) = absurd (yields-silent run.status yielded speaks)
-  shown-by (inr (inl tells)) =
-      absurd (delivered-silent tells.status tells.text run.output run.status
+  shown-by (inr (inl tells)) = absurd (delivered-silent tells.status tells.text run.output run.status
       (unheld-silent work run.shelf tells.why.stop.name tells.status tells.why.line tells.why.why) tells.delivered speaks)
   shown-by (inr (inr unbegun)) = absurd (subst (λ (n : ℕ). Speaks n → ⊥) (sym unbegun.ends) (λ s. grind arith) speaks)
 

@@ -1,23 +1,18 @@
 -- What a FILE gives to be held: it is one thing, of which nothing is told; and which statuses are told of others.
-use Rattle.std.proofs.Common.{◌≡◌, inl, inr, refl, sym, ap, subst, ◌∙◌, ◌⊎◌, ℕ, ◌<◌, ◌≤◌, List, [], ◌∷◌}
-use Rattle.std.proofs.Common.{length, map, arith, ◌≢◌, Option, Some, None, IfSome, IsSomeAnd}
+use Rattle.std.proofs.Common.{◌≡◌, inl, inr, refl, sym, ap, subst, ◌∙◌, ◌⊎◌, ℕ, ◌<◌, ◌≤◌, List, [], ◌∷◌, length, map, arith, ◌≢◌, Option}
+use Rattle.std.proofs.Common.{Some, None, IfSome, IsSomeAnd}
 use Rattle.std.proofs.lemmas.Option.{same_Some}
 use Rattle.strategy_checker.specs.HeldRoots.{HeldTable}
-use Rattle.position_files.specs.declared.TableFile.{TableFile}
-use Rattle.position_files.proofs.ReadBack.{table-read-back}
-use Rattle.renju_io.specs.Files.{Files, file_under}
-use Rattle.renju_io.specs.declared.TheConstants.{MAX_INPUT_BYTES}
-use Rattle.command_base.specs.declared.status.Status.{Status}
-use Rattle.command_base.specs.declared.status.Status.TheVariants.{Done, ReadFault, ShelfFault, WriteFault, TooLong, RefusedText}
-use Rattle.command_base.specs.declared.status.Status.TheVariants.{RefusedTable, Spent}
-use Rattle.brain_session.specs.declared.TheConstants.{BRAIN_WORK}
-use Rattle.command_base.specs.Statuses.{status_number}
-use Rattle.command_base.specs.Texts.{too_long_line}
-use Rattle.command_base.specs.Runs.{Change, Run, HasFailed, IsDelivered, HasNoFault}
+use Rattle.file_loading.proofs.Common.{TableFile, Files, MAX_INPUT_BYTES, Status, Done, ShelfFault, WriteFault, TooLong, RefusedText}
+use Rattle.file_loading.proofs.Common.{RefusedTable, Spent, BRAIN_WORK, status_number, Change, Run, HasFailed, IsDelivered, HasNoFault}
 use Rattle.file_loading.proofs.Common.{IsTableAt, IsRefusedTable, IsSpentWork, held_by, named_entry, of_book, of_table, HeldFile, NamedRoot}
 use Rattle.file_loading.proofs.Common.{IsFit, IsHeldText, IsLoaded, BookFileSays, FileSays, TableFileSays, IsUnheld, IsLoadedAs}
 use Rattle.file_loading.proofs.Common.{IsLoadedBookText, IsLoadedFrom, IsLoadedHeld, IsLoadedText, AreAccepted, IsBookAt, IsRefusedEntry}
-use Rattle.file_loading.proofs.Common.{hold_refusal_status}
+use Rattle.file_loading.proofs.Common.{hold_refusal_status, Book, HoldError, Refused}
+use Rattle.position_files.proofs.ReadBack.{table-read-back}
+use Rattle.renju_io.specs.Files.{file_under}
+use Rattle.command_base.specs.declared.status.Status.TheVariants.{ReadFault}
+use Rattle.command_base.specs.Texts.{too_long_line}
 use Rattle.file_loading.specs.declared.loading.Holdable.{Holdable}
 use Rattle.file_loading.specs.declared.loading.Holdable.TheVariants.{Table, TableOrBook}
 use Rattle.file_loading.specs.declared.loading.Loaded.{Loaded}
@@ -26,20 +21,17 @@ use Rattle.command_base.proofs.ToldLaws.{longer-than, told-some}
 use Rattle.file_loading.proofs.TableFileLaws.{one-table}
 use Rattle.file_loading.proofs.BookFileLaws.{book-not_refused, entries-not_refused, one-book}
 use Rattle.strategy_checker.specs.declared.held.HeldRoot.{HeldRoot}
-use Rattle.table_book.specs.declared.Book.{Book}
 use Rattle.table_book.specs.declared.Entry.{Entry}
 use Rattle.table_book.specs.Holding.{held_entry}
 use Rattle.table_book.specs.Books.{BeginsBook}
 use Rattle.table_book.proofs.Beginnings.{book-begins, table-no-book}
-use Rattle.table_book.specs.declared.error.HoldError.{HoldError}
-use Rattle.table_book.specs.declared.error.HoldError.TheVariants.{Refused, Spent as SpentEntry, Memory as NotHeld}
+use Rattle.table_book.specs.declared.error.HoldError.TheVariants.{Spent as SpentEntry, Memory as NotHeld}
 
 -- ---- a FILE that is too long
 
 -- a file under a name that is too long
 long-under : (name : List ℕ) (files : Files) (found : Option (List ℕ)) → file_under name files ≡ found
-    → IsSomeAnd found (λ bytes. MAX_INPUT_BYTES < length bytes)
-    → (bytes : List ℕ) × (found ≡ Some bytes) × (MAX_INPUT_BYTES < length bytes)
+    → IsSomeAnd found (λ bytes. MAX_INPUT_BYTES < length bytes) → (bytes : List ℕ) × (found ≡ Some bytes) × (MAX_INPUT_BYTES < length bytes)
 long-under name files None is h = absurd h
 long-under name files (Some bytes) is h = (bytes, refl, h)
 
@@ -75,14 +67,12 @@ table-not_told work file bytes at fit status text (inr said) =
 pub book-not_told : (book : Book) (bytes : List ℕ) → IsBookAt book bytes → AreAccepted BRAIN_WORK book → (status : Status) (text : List ℕ)
     → BookFileSays bytes status text → ⊥
 book-not_told book bytes at fit status text (inl refused) = book-not_refused book bytes at status text refused
-book-not_told book bytes at fit status text (inr said) =
-    entries-not_refused BRAIN_WORK book status text fit
+book-not_told book bytes at fit status text (inr said) = entries-not_refused BRAIN_WORK book status text fit
     (subst (λ (b : Book). IsRefusedEntry BRAIN_WORK b status text) (one-book book said.0 bytes at said.1) said.2)
 
 -- what bytes give is not told of
-pub held-not_told : (file : HeldFile) (bytes : List ℕ) → IsHeldText file bytes → (status : Status) (text : List ℕ)
-    → FileSays bytes status text
-    → ⊥
+pub held-not_told : (file : HeldFile) (bytes : List ℕ)
+    → IsHeldText file bytes → (status : Status) (text : List ℕ) → FileSays bytes status text → ⊥
 held-not_told file bytes (inl table) status text (inl says) = table-no-book table.file bytes table.at.text says.0
 held-not_told file bytes (inl table) status text (inr says) =
     table-not_told BRAIN_WORK table.file bytes table.at table.fit status text says.1
@@ -179,8 +169,7 @@ pub table_told-other : (work : ℕ) (bytes : List ℕ) (status : Status) (text :
     → IsOther (status_number status)
 table_told-other work bytes status text (inl refused) = other-by status RefusedText refused.ends (λ e. absurd (cc), λ e. absurd (cc))
 table_told-other work bytes status text (inr said) = by-verdict said.0 said.2 where
-  by-verdict : (file : TableFile) → IsRefusedTable file status text ⊎ IsSpentWork work file status text
-      → IsOther (status_number status)
+  by-verdict : (file : TableFile) → IsRefusedTable file status text ⊎ IsSpentWork work file status text → IsOther (status_number status)
   by-verdict file (inl refused) = other-by status RefusedTable refused.ends (λ e. absurd (cc), λ e. absurd (cc))
   by-verdict file (inr spent) = other-by status Spent spent.ends (λ e. absurd (cc), λ e. absurd (cc))
 

@@ -4,16 +4,10 @@ use Rattle.std.proofs.Common.{drop, get_or, map, arith, rules, Result, Ok, Err, 
 use Rattle.std.specs.List.{AllByRecursion}
 use Rattle.std.proofs.lemmas.Option.{same_Some}
 use Rattle.std.proofs.lemmas.List.{length-map, length-take-le, map_more, take_all}
-use Rattle.position_files.specs.declared.TableFile.{TableFile}
-use Rattle.renju_io.specs.Files.{Files}
-use Rattle.renju_io.specs.declared.TheConstants.{MAX_INPUT_BYTES}
-use Rattle.command_base.specs.declared.status.Status.{Status}
-use Rattle.command_base.specs.declared.status.Status.TheVariants.{ShelfFault, WriteFault}
-use Rattle.command_base.specs.Statuses.{status_number}
-use Rattle.command_base.specs.declared.answer.Answer.{Answer}
-use Rattle.command_base.specs.Runs.{Change, Run, HasFailed, HasNoFault, IsDelivered}
-use Rattle.file_loading.proofs.Common.{IsFileName, IsLoaded, IsTableFile, IsUnheld, TableFileSays}
-use Rattle.file_loading.specs.ManyFiles.{AreKept, AreLoaded, AreTableFiles, IsFileRefused, IsFittedFile, IsFittedOf, StopsAt, TellsOfFile, of_file}
+use Rattle.file_loading.proofs.Common.{TableFile, Files, MAX_INPUT_BYTES, Status, ShelfFault, WriteFault, status_number, Answer, Change}
+use Rattle.file_loading.proofs.Common.{Run, HasFailed, HasNoFault, IsDelivered, IsFileName, IsLoaded, IsTableFile, IsUnheld, TableFileSays}
+use Rattle.file_loading.proofs.Common.{AreTableFiles}
+use Rattle.file_loading.specs.ManyFiles.{AreKept, AreLoaded, IsFileRefused, IsFittedFile, IsFittedOf, StopsAt, TellsOfFile, of_file}
 use Rattle.file_loading.specs.declared.fitting.Fitted.{Fitted}
 use Rattle.file_loading.specs.declared.fitting.Fitted.TheVariants.{Fits, Tells}
 use Rattle.file_loading.proofs.TableFileLaws.{one-table}
@@ -48,11 +42,8 @@ module _ (old new : Change (Option Files)) (same : old.before ≡ new.before) (f
   unheld-from Says name status text (inr (inl long)) =
       let loaded = loaded-from name long.bytes long.loaded in
       inr (inl (record { bytes = long.bytes; loaded = loaded; long = long.long; ends = long.ends; line = long.line }))
-  unheld-from Says name status text (inr (inr fault)) = inr (inr (record {
-    failed = rw (← faults) (rw after at fault.failed);
-    ends = fault.ends;
-    line = fault.line;
-  }))
+  unheld-from Says name status text (inr (inr fault)) =
+      inr (inr (record { failed = rw (← faults) (rw after at fault.failed); ends = fault.ends; line = fault.line }))
 
   pub fits-from : (work : ℕ) (name : List ℕ) (file : TableFile) → IsTableFile work old.before name file × HasNoFault old
       → IsTableFile work new.before name file × HasNoFault new
@@ -156,12 +147,11 @@ module _ {X : Type 0} (f : X → List ℕ) (xs : List X) (i : ℕ) (x : X) (name
   pub up-to-more : (shelf : Option Files) (Old New : List TableFile → Type 0) (file : TableFile)
       → AcceptedUpTo work shelf (map f (take i xs)) Old → IsTableFile work shelf name file
       → ((files : List TableFile) → Old files → New (files ++ file ∷ [])) → AcceptedUpTo work shelf (map f (take (i + 1) xs)) New
-  up-to-more shelf Old New file h is more =
-      rw (map_more f xs i x l ∙ ap (λ (w : List ℕ). map f (take i xs) ++ w ∷ []) here) (record {
-        files = h.files ++ file ∷ [];
-        accepted = files-more work shelf (map f (take i xs)) h.files name file h.accepted is;
-        holds = more h.files h.holds;
-      })
+  up-to-more shelf Old New file h is more = rw (map_more f xs i x l ∙ ap (λ (w : List ℕ). map f (take i xs) ++ w ∷ []) here) (record {
+    files = h.files ++ file ∷ [];
+    accepted = files-more work shelf (map f (take i xs)) h.files name file h.accepted is;
+    holds = more h.files h.holds;
+  })
 
   -- where one is not, or is the last that is taken
   abbrev pub stop-at : (shelf : Option Files) (Old : List TableFile → Type 0) → AcceptedUpTo work shelf (map f (take i xs)) Old
@@ -210,5 +200,4 @@ pub refused-sound : (work : ℕ) (names : List (List ℕ)) (shelf : Change (Opti
     → number ≢ status_number ShelfFault → number ≢ status_number WriteFault → HasNoFault shelf
 refused-sound work names shelf status text output number refused (inr part) other whole = absurd (whole part.0)
 refused-sound work names shelf status text output number refused (inl took) other whole =
-    unheld-sound (TableFileSays work) shelf refused.stop.name status refused.line refused.why
-    (λ is. other (took.0 ∙ ap status_number is))
+    unheld-sound (TableFileSays work) shelf refused.stop.name status refused.line refused.why (λ is. other (took.0 ∙ ap status_number is))

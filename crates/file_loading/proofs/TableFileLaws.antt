@@ -4,10 +4,8 @@ use Rattle.strategy_graph.specs.Roots.{AcceptedRoot, LeadsRoot, root_arrivals}
 use Rattle.strategy_checker.specs.HeldErrors.{IfRootRefused, IfRootSpent}
 use Rattle.strategy_checker.specs.declared.error.HeldError.{HeldError}
 use Rattle.strategy_checker.specs.declared.error.HeldError.TheVariants.{Refused as RefusedRoot, Spent as SpentRoot, Memory as NotHeld}
-use Rattle.position_files.specs.declared.TableFile.{TableFile}
+use Rattle.file_loading.proofs.Common.{TableFile, Status, IsRefusedTable, IsSpentWork, IsTableAt, IsToldOf}
 use Rattle.position_files.proofs.ReadBack.{table-read-back}
-use Rattle.command_base.specs.declared.status.Status.{Status}
-use Rattle.file_loading.specs.TableFiles.{IsRefusedTable, IsSpentWork, IsTableAt, IsToldOf}
 
 -- bytes are the text of one table at a lawful position with its number of moves
 pub one-table : (file other : TableFile) (bytes : List ℕ) → IsTableAt file bytes → IsTableAt other bytes → other ≡ file

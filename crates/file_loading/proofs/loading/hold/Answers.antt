@@ -1,8 +1,7 @@
 -- The root is told of at the table that is held, which is that of the text.
 use Rattle.std.proofs.Common.{◌⊎◌, List, subst}
 use Rattle.strategy_graph.specs.declared.Node.{Node}
-use Rattle.brain_session.specs.declared.TheConstants.{BRAIN_WORK}
-use Rattle.file_loading.specs.TableFiles.{IsRefusedTable, IsSpentWork}
+use Rattle.file_loading.proofs.Common.{BRAIN_WORK, IsRefusedTable, IsSpentWork}
 use Rattle.file_loading.proofs.TableFileLaws.{told-root}
 use Rattle.file_loading.proofs.loading.hold.Goals as goal
 

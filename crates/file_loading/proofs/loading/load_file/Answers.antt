@@ -1,8 +1,6 @@
 use Rattle.std.proofs.Common.{inr, ap, Err}
 use Rattle.std.proofs.lemmas.Result.{IfOk-weaker}
-use Rattle.command_base.specs.declared.answer.Answer.{Answer}
-use Rattle.command_base.specs.Runs.{change}
-use Rattle.file_loading.proofs.Common.{IsLoaded, IsLoadedAs, IsLoadedFrom}
+use Rattle.file_loading.proofs.Common.{Answer, change, IsLoaded, IsLoadedAs, IsLoadedFrom}
 use Rattle.file_loading.proofs.HeldFileLaws.{loaded-from, unheld-long}
 use Rattle.file_loading.proofs.loading.load_file.Goals as goal
 
@@ -11,12 +9,9 @@ returns-in-Ok-clause-loaded g c =
     let shelf = change g.F.Shelf.files g.F.Shelf.faults g.F.Shelf.asked c.args.shelf.now c.load.new.self in
     let loaded : IsLoaded shelf c.args.file.now c.as_slice.result.now =
     rw c.as_slice.ensures.value (record { found = c.in-Ok.ensures.found; sound = c.in-Ok.ensures.uncounted }) in
-    IfOk-weaker c.load_text.result (IsLoadedAs c.args.holdable c.as_slice.result.now)
-    (IsLoadedFrom c.args.holdable shelf c.args.file.now)
+    IfOk-weaker c.load_text.result (IsLoadedAs c.args.holdable c.as_slice.result.now) (IsLoadedFrom c.args.holdable shelf c.args.file.now)
     (λ text. loaded-from c.args.holdable shelf c.args.file.now c.as_slice.result.now loaded
-    (rw c.as_slice.ensures.value c.in-Ok.ensures.short)
-    text)
-    c.load_text.ensures.loaded
+    (rw c.as_slice.ensures.value c.in-Ok.ensures.short) text) c.load_text.ensures.loaded
 
 pub returns-in-Err-Failed-clause-loaded : goal.returns-in-Err-Failed-clause-loaded
 returns-in-Err-Failed-clause-loaded g c = inr (inr (record {
