@@ -111,6 +111,7 @@ fn some_double<R: Rule>(board: &mut Board, side: Side, points: &[Point]) -> bool
 
 /// Whether a double point of the side, which has no five point, is on the axis as near to `p` as may be where at most so many stones
 /// are around it, and its stone makes a five point on the axis: one alone only in these windows. The board is as before.
+#[inline(always)]
 fn double_on<R: Rule>(
     board: &mut Board,
     side: Side,
