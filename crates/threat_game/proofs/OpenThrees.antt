@@ -21,7 +21,7 @@ use Rattle.game_rules.proofs.OneLine.{empty-before}
 use Rattle.stone_board.specs.Lines.{line_of, place_on, place_towards, places_left, TellsLine}
 use Rattle.stone_board.specs.Steps.{kept_on}
 use Rattle.stone_board.proofs.LineBits.{board-near}
-use Rattle.stone_board.proofs.LineStones.{along-places, place_low, stone_bit}
+use Rattle.stone_board.proofs.LineStones.{along-places, empty_bit, place_low, stone_bit}
 use Rattle.stone_board.proofs.Ones.{bit_shr}
 use Rattle.row_shapes.specs.FiveEnds.{end_five, with_more}
 use Rattle.row_shapes.specs.declared.fives.FivePoints.TheVariants.{None as NoPoint}
@@ -30,7 +30,7 @@ use Rattle.open_windows.specs.OpenWindows.{is_open_at}
 use Rattle.open_windows.proofs.NewFives.{many}
 use Rattle.open_windows.proofs.OpenRuns.{Inside, stone_there, open_there}
 use Rattle.open_windows.proofs.Points.{count_five, open-point, three_of_five}
-use Rattle.threat_game.specs.OpenThrees.{AreStarts, IsOpenThree, NoneNear}
+use Rattle.threat_game.specs.OpenThrees.{AreStarts, IsOpenThree, IsPassed, NoneNear}
 use Rattle.threat_game.specs.NearDoubles.{is_double_on, is_some_point, makes_on}
 use Rattle.threat_game.proofs.NearDoubles.{at-none, at-some, taken-no_double}
 
@@ -226,10 +226,10 @@ module _ (b : Grid) (d : Axis) (p q : Point) (ok : IsBoard b) (on : is_on b p �
       let steps = (along-places d p q 0 k (board-near b p ok on) (board-near b q ok on_q) at).place in
       (omega (arith, steps), omega (arith, steps))
 
-module _ (rule : RuleKind) (b : Grid) (s : Side) (d : Axis) (p : Point) (starts : ℕ) (on : is_on b p ≡ true)
-    (are : AreStarts b s d (line_of d p) starts) where
+module _ (rule : RuleKind) (b : Grid) (s : Side) (d : Axis) (p : Point) (own starts : ℕ) (on : is_on b p ≡ true)
+    (tells : TellsLine b s d (line_of d p) own) (are : AreStarts b s d (line_of d p) starts) where
   -- a point near which no such five places begin is no double point by its stone on the line
-  pub far-away : (w : Way) (k : ℕ) → (k ≤ places_left w (place_on d p) → NoneNear starts (place_towards w (place_on d p) k))
+  pub far-away : (w : Way) (k : ℕ) → (k ≤ places_left w (place_on d p) → IsPassed own starts (place_towards w (place_on d p) k))
       → is_double_on rule b s d (towards w d p k) ≡ false
   far-away w k far = by_kept (kept_on b (towards w d p k)) refl where
     by_kept : (o : Option Point) → kept_on b (towards w d p k) ≡ o → is_double_on rule b s d (towards w d p k) ≡ false
@@ -240,9 +240,11 @@ module _ (rule : RuleKind) (b : Grid) (s : Side) (d : Axis) (p : Point) (starts 
       by_test true e =
           let at = kept-is b _ q there in
           let place = step-place b d p q are.board on at.1 k w at.0 in
-          ap (λ r. r && is_double_point rule b s q) (are.none rule q e (step-line b d p q are.board on at.1 k w at.0)
-          (subst (NoneNear starts) place.0 (far place.1)))
+          let line = step-line b d p q are.board on at.1 k w at.0 in
+          let clear : bit_at own (place_towards w (place_on d p) k) ≡ 0 =
+          ap (bit_at own) place.0 ∙ empty_bit b s d (line_of d p) own are.board tells q line e in
+          ap (λ r. r && is_double_point rule b s q) (are.none rule q e line (subst (NoneNear starts) place.0 (far place.1 clear)))
 
   -- nor is any point of a line on which none begin
   pub none-away : starts ≡ 0 → (w : Way) (k : ℕ) → is_double_on rule b s d (towards w d p k) ≡ false
-  none-away none w k = far-away w k (λ left i back near at. ap (λ m. bit_at m i) none ∙ bit_at-zero i)
+  none-away none w k = far-away w k (λ left clear i back near at. ap (λ m. bit_at m i) none ∙ bit_at-zero i)

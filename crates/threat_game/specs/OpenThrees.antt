@@ -18,6 +18,10 @@ pub record IsOpenThree (own theirs i : ℕ) : Type 0 where
 abbrev pub NoneNear : ℕ → ℕ → Type 0
 NoneNear starts place = (i back : ℕ) → back < 5 → i + back ≡ place → bit_at starts i ≡ 0
 
+-- the same where the place holds no stone, by its bits
+abbrev pub IsPassed : ℕ → ℕ → ℕ → Type 0
+IsPassed own starts place = bit_at own place ≡ 0 → NoneNear starts place
+
 -- a stone of the side on an empty point of line n of the axis makes no five point there, whatever the rule, where the point's place and
 -- the four before it have no bit set
 pub record AreStarts (b : Grid) (s : Side) (d : Axis) (n starts : ℕ) : Type 0 where

@@ -12,7 +12,7 @@ ghost use Rattle.std.specs.List.{list_any};
 ghost use Rattle.std.specs.Int.{bit_at};
 ghost use Rattle.game_rules.specs.Grid.{is_empty, is_on, put};
 ghost use Rattle.game_rules.specs.Ways.{towards as towards_lem};
-ghost use Rattle.stone_board.specs.Lines.{line_of, place_towards, places_left};
+ghost use Rattle.stone_board.specs.Lines.{line_of, place_towards, places_left, TellsLine};
 ghost use Rattle.game_rules.specs.Games.{has_five as has_five_lem, is_double_point};
 ghost use Rattle.threat_moves.specs.ThreeMoves.{has_double_point};
 ghost use Rattle.row_shapes.specs.FivePoints.{is_several};
@@ -20,7 +20,7 @@ ghost use Rattle.row_shapes.specs.FiveEnds.{with_axis as with_axis_lem};
 ghost use Rattle.open_windows.specs.PointSets.{TellsWindows, has_point};
 ghost use Rattle.threat_game.specs.NearDoubles.{AreCrossings, AreNearStones, DoublesAreNear, is_double_on, makes_on};
 ghost use Rattle.threat_game.specs.NearDoubles.{reach as reach_lem, points_of_two};
-ghost use Rattle.threat_game.specs.OpenThrees.{AreStarts, IsOpenThree, NoneNear};
+ghost use Rattle.threat_game.specs.OpenThrees.{AreStarts, IsOpenThree, IsPassed, NoneNear};
 
 use crate::near_stones::NearStones;
 use open_windows::PointSet;
@@ -28,11 +28,12 @@ use row_shapes::{FivePoints, Rule, with_axis};
 use stone_board::{Axis, Board, MAX_SIDE, Point, Side, Way, place_on};
 use threat_moves::is_new_double_point;
 
-/// The line of an axis through a point: the places on it from which an open window with three stones of a side begins, as bits.
+/// The line of an axis through a point: the stones of a side on it, and the places from which an open window with three begins, as bits.
 #[derive(Clone, Copy)]
 struct Line {
     axis: Axis,
     point: Point,
+    own: u32,
     starts: u32,
 }
 
@@ -132,6 +133,7 @@ fn double_on<R: Rule>(
     if far == 0 {
         return false;
     }
+    let own = board.line_through(side, axis, p);
     let starts = line_starts(board, side, axis, p);
     if starts == 0 {
         return false;
@@ -139,6 +141,7 @@ fn double_on<R: Rule>(
     let line = Line {
         axis,
         point: p,
+        own,
         starts,
     };
     for k in 1..1 + far {
@@ -179,17 +182,26 @@ fn three_starts(own: u32, theirs: u32) -> u32
     (three | taken) ^ taken
 }
 
-/// Whether one of these places is the one so many steps on from this, or at most four before it.
+/// Whether the place so many steps on from this one on the line may be empty, and a window begins there or at most four before it.
 #[inline(always)]
-fn is_near(starts: u32, way: Way, place: u8, k: u8) -> bool
+fn is_near(line: Line, way: Way, place: u8, k: u8) -> bool
     requires place { place < MAX_SIDE }
     requires near { k < MAX_SIDE }
-    ensures none { result ≡ false → k ≤ places_left way place → NoneNear starts (place_towards way place k) }
+    ensures none { result ≡ false → k ≤ places_left way place → IsPassed line.own line.starts (place_towards way place k) }
 {
     match way {
-        Way::Ahead => begins_near(starts, place + k),
-        Way::Behind => k <= place && begins_near(starts, place - k),
+        Way::Ahead => is_free_near(line, place + k),
+        Way::Behind => k <= place && is_free_near(line, place - k),
     }
+}
+
+/// Whether the place on the line may be empty, and a window begins there or at most four before it.
+#[inline(always)]
+fn is_free_near(line: Line, place: u8) -> bool
+    requires place { place < 2 * MAX_SIDE }
+    ensures none { result ≡ false → IsPassed line.own line.starts place }
+{
+    begins_near(line.starts, place) && u64::from(line.own) >> place & 1 == 0
 }
 
 /// Whether one of these places is this one, or at most four before it.
@@ -229,12 +241,13 @@ fn double_towards<R: Rule>(
     requires on { IsTrue (is_on board.old line.point) }
     requires near { k < MAX_SIDE }
     requires none { has_five_lem R.KIND board.old side ≡ false }
+    requires own { TellsLine board.old side line.axis (line_of line.axis line.point) line.own }
     requires starts { AreStarts board.old side line.axis (line_of line.axis line.point) line.starts }
     requires crossings { AreCrossings R.KIND board.old side line.point windows.now }
     ensures double { result ≡ is_double_on R.KIND board.old side line.axis (towards_lem way line.axis line.point k) }
     ensures same { board.new ≡ board.old }
 {
-    if !is_near(line.starts, way, place_on(line.axis, line.point), k) {
+    if !is_near(line, way, place_on(line.axis, line.point), k) {
         return false;
     }
     match board.step_towards(way, line.axis, line.point, k) {

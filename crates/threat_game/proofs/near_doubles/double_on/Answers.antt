@@ -1,6 +1,6 @@
 use Rattle.std.proofs.Common.{◌≡◌, true, sym, ◌∙◌, subst, arith}
 use Rattle.game_rules.specs.Grid.{Grid}
-use Rattle.stone_board.specs.Lines.{line_of}
+use Rattle.stone_board.specs.Lines.{line_of, TellsLine}
 use Rattle.threat_moves.specs.ThreeMoves.{has_double_point}
 use Rattle.threat_game.specs.NearDoubles.{AreCrossings}
 use Rattle.threat_game.specs.OpenThrees.{AreStarts}
@@ -14,8 +14,18 @@ returns-then-far-eq0-clause-none g c = λ off w k low high.
 
 pub returns-then-starts-eq0-clause-none : goal.returns-then-starts-eq0-clause-none
 returns-then-starts-eq0-clause-none g c = λ off w k low high.
-    none-away g.R.Rule.KIND c.args.board.now c.args.side c.args.axis c.args.p c.line_starts-starts.result c.requires.on
-    c.line_starts-starts.ensures.starts c.if-starts-eq0.true w k
+    none-away g.R.Rule.KIND c.args.board.now c.args.side c.args.axis c.args.p c.line_through-own.result c.line_starts-starts.result
+    c.requires.on c.line_through-own.ensures.tells c.line_starts-starts.ensures.starts c.if-starts-eq0.true w k
+
+pub double_towards-requires-clause-own : goal.double_towards-requires-clause-own
+double_towards-requires-clause-own g c =
+    subst (λ (b : Grid). TellsLine b c.args.side c.args.axis (line_of c.args.axis c.args.p) c.line_through-own.result)
+    (sym c.loop-k.invariant.0) c.line_through-own.ensures.tells
+
+pub double_towards-requires-in-loop-k-clause-own : goal.double_towards-requires-in-loop-k-clause-own
+double_towards-requires-in-loop-k-clause-own g c =
+    subst (λ (b : Grid). TellsLine b c.args.side c.args.axis (line_of c.args.axis c.args.p) c.line_through-own.result)
+    (sym (c.double_towards.ensures.same ∙ c.loop-k.invariant.0)) c.line_through-own.ensures.tells
 
 pub double_towards-requires-clause-starts : goal.double_towards-requires-clause-starts
 double_towards-requires-clause-starts g c =

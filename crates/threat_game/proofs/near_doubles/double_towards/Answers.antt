@@ -2,7 +2,7 @@ use Rattle.std.proofs.Common.{ℕ, ◌≤◌, sym, subst, ◌∙◌}
 use Rattle.game_rules.specs.Ways.{towards}
 use Rattle.stone_board.specs.Lines.{places_left, place_towards}
 use Rattle.stone_board.proofs.LineBits.{board-near}
-use Rattle.threat_game.specs.OpenThrees.{NoneNear}
+use Rattle.threat_game.specs.OpenThrees.{IsPassed}
 use Rattle.threat_game.proofs.NearDoubles.{at-none, at-some}
 use Rattle.threat_game.proofs.OpenThrees.{far-away}
 use Rattle.threat_game.proofs.CrossDoubles.{step-same}
@@ -22,9 +22,9 @@ returns-in-Some-clause-double g c =
 
 pub returns-then-not-is_near-clause-double : goal.returns-then-not-is_near-clause-double
 returns-then-not-is_near-clause-double g c =
-    sym (far-away g.R.Rule.KIND c.args.board.now c.args.side c.args.line.axis c.args.line.point c.args.line.starts c.requires.on
-    c.requires.starts
-    c.args.way c.args.k (subst (λ (n : ℕ). c.args.k ≤ places_left c.args.way n → NoneNear c.args.line.starts
+    sym (far-away g.R.Rule.KIND c.args.board.now c.args.side c.args.line.axis c.args.line.point c.args.line.own c.args.line.starts
+    c.requires.on c.requires.own c.requires.starts c.args.way c.args.k
+    (subst (λ (n : ℕ). c.args.k ≤ places_left c.args.way n → IsPassed c.args.line.own c.args.line.starts
     (place_towards c.args.way n c.args.k)) c.place_on.ensures.place (c.is_near.ensures.none c.if-not-is_near.true)))
 
 pub place_on-requires-clause-column : goal.place_on-requires-clause-column
