@@ -4,7 +4,7 @@
 //! that a step of four rows needs no test.
 #![tactic(auto)]
 
-ghost use Rattle.std.specs.Prelude.{◌≡◌, ◌≤◌, ◌<◌, ◌-◌, ◌^◌};
+ghost use Rattle.std.specs.Prelude.{◌≡◌, ◌≤◌, ◌<◌, ◌-◌, ◌^◌, replicate};
 ghost use Rattle.game_rules.specs.Grid.{IsBoard};
 ghost use Rattle.game_rules.specs.Shapes.{stone_at};
 ghost use Rattle.open_windows.specs.OpenWindows.{is_open_at};
@@ -25,29 +25,27 @@ pub(crate) fn full_row(width: u8) -> u32
     u32::MAX >> (MAX_SIDE - width)
 }
 
-/// The stones of the side.
-pub(crate) fn own_rows(board: &Board, side: Side) -> [u32; ROWS]
-    ensures rows { TellsRows (stone_at board.now side) result }
+/// Tells the stones of the side.
+pub(crate) fn own_rows(board: &Board, side: Side, rows: &mut [u32; ROWS])
+    requires zero { rows.old ≡ replicate ROWS 0 }
+    ensures rows { TellsRows (stone_at board.now side) rows.new }
     ensures board { IsBoard board.now }
 {
     let full = full_row(board.width());
-    let mut rows = [0; ROWS];
     for y in 0..board.height() {
         rows[y as usize + 4] = board.line(side, Axis::Row, y) & full;
     }
-    rows
 }
 
-/// The points on which the other side has no stone.
-pub(crate) fn open_rows(board: &Board, side: Side) -> [u32; ROWS]
-    ensures rows { TellsRows (is_open_at board.now side) result }
+/// Tells the points on which the other side has no stone.
+pub(crate) fn open_rows(board: &Board, side: Side, rows: &mut [u32; ROWS])
+    requires zero { rows.old ≡ replicate ROWS 0 }
+    ensures rows { TellsRows (is_open_at board.now side) rows.new }
 {
     let full = full_row(board.width());
-    let mut rows = [0; ROWS];
     for y in 0..board.height() {
         rows[y as usize + 4] = !board.line(side.other(), Axis::Row, y) & full;
     }
-    rows
 }
 
 /// The number whose bit tells of the point so many steps ahead on the axis.

@@ -1,7 +1,7 @@
 //! The points of open windows.
 #![tactic(auto)]
 
-ghost use Rattle.std.specs.Prelude.{◌≡◌, ◌≤◌, ◌<◌, ℕ};
+ghost use Rattle.std.specs.Prelude.{◌≡◌, ◌≤◌, ◌<◌, ℕ, replicate};
 ghost use Rattle.std.specs.Int.{bit_at};
 ghost use Rattle.game_rules.specs.Grid.{Grid, IsBoard};
 ghost use Rattle.game_rules.specs.Shapes.{stone_at};
@@ -22,12 +22,18 @@ pub fn window_points(board: &Board, side: Side, least: u32) -> PointSet
     ensures points { TellsWindows board.now side least result }
 {
     let height = board.height();
-    let own = own_rows(board, side);
-    let clear = open_rows(board, side);
-    let row = starts(&own, &clear, Axis::Row, least, height);
-    let column = starts(&own, &clear, Axis::Column, least, height);
-    let down = starts(&own, &clear, Axis::Down, least, height);
-    let up = starts(&own, &clear, Axis::Up, least, height);
+    let mut own = [0; ROWS];
+    let mut clear = [0; ROWS];
+    let mut row = [0; ROWS];
+    let mut column = [0; ROWS];
+    let mut down = [0; ROWS];
+    let mut up = [0; ROWS];
+    own_rows(board, side, &mut own);
+    open_rows(board, side, &mut clear);
+    starts(&own, &clear, Axis::Row, least, height, &mut row);
+    starts(&own, &clear, Axis::Column, least, height, &mut column);
+    starts(&own, &clear, Axis::Down, least, height, &mut down);
+    starts(&own, &clear, Axis::Up, least, height, &mut up);
     let mut rows = [0; SIDE];
     for y in 0..height as usize {
         let i = y + 4;
@@ -42,21 +48,27 @@ pub fn window_points(board: &Board, side: Side, least: u32) -> PointSet
     PointSet { rows }
 }
 
-/// The points from which such a window begins on the axis, on a board of this height.
+/// Tells the points from which such a window begins on the axis, on a board of this height. Nothing is told before.
 #[inline(always)]
-fn starts(own: &[u32; ROWS], clear: &[u32; ROWS], axis: Axis, least: u32, height: u8) -> [u32; ROWS]
+fn starts(
+    own: &[u32; ROWS],
+    clear: &[u32; ROWS],
+    axis: Axis,
+    least: u32,
+    height: u8,
+    found: &mut [u32; ROWS],
+)
     requires some { 2 ≤ least }
     requires few { least ≤ 4 }
     requires fits { height ≤ MAX_SIDE }
+    requires zero { found.old ≡ replicate ROWS 0 }
     ensures starts { (b : Grid) (s : Side) → IsBoard b → b.height ≡ height → TellsRows (stone_at b s) own.now
-        → TellsRows (is_open_at b s) clear.now → TellsRows (is_window b s least axis) result }
+        → TellsRows (is_open_at b s) clear.now → TellsRows (is_window b s least axis) found.new }
 {
-    let mut found = [0; ROWS];
     let end = 4 + height as usize;
     for i in 4..end {
         found[i] = start_at(own, clear, axis, i, least);
     }
-    found
 }
 
 /// The same of those in one row.

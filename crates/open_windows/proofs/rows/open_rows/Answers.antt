@@ -1,4 +1,4 @@
-use Rattle.std.proofs.Common.{refl, subst, ap, ◌+◌, ◌-◌, ◌^◌, arith, ◌∙◌, ◌<◌, ◌≡◌, ℕ, bit_and}
+use Rattle.std.proofs.Common.{List, refl, sym, subst, ap, ◌+◌, ◌-◌, ◌^◌, arith, ◌∙◌, ◌<◌, ◌≡◌, ℕ, bit_and}
 use Rattle.std.specs.Int.{bit_at, bit_not, w32}
 use Rattle.game_rules.specs.declared.Side.{Side}
 use Rattle.game_rules.specs.declared.Axis.TheVariants.{Row}
@@ -10,7 +10,9 @@ use Rattle.open_windows.proofs.RowBits.{tells-none, tells-more}
 use Rattle.open_windows.proofs.rows.open_rows.Goals as goal
 
 pub loop-y-init : goal.loop-y-init
-loop-y-init c = tells-none (is_open_at c.args.board.now c.args.side) refl
+loop-y-init c =
+    subst (λ (rows : List ℕ). TellsTo (is_open_at c.args.board.now c.args.side) rows 4) (sym c.requires.zero)
+    (tells-none (is_open_at c.args.board.now c.args.side) refl)
 
 pub loop-y-preserved : goal.loop-y-preserved
 loop-y-preserved c =

@@ -1,4 +1,4 @@
-use Rattle.std.proofs.Common.{refl, subst, ap, ◌+◌, ◌-◌, ◌^◌, arith, ◌∙◌, ◌<◌, ◌≡◌, ℕ, bit_and}
+use Rattle.std.proofs.Common.{List, refl, sym, subst, ap, ◌+◌, ◌-◌, ◌^◌, arith, ◌∙◌, ◌<◌, ◌≡◌, ℕ, bit_and}
 use Rattle.std.specs.Int.{bit_at}
 use Rattle.game_rules.specs.Shapes.{stone_at}
 use Rattle.open_windows.specs.Rows.{TellsTo}
@@ -7,7 +7,9 @@ use Rattle.open_windows.proofs.RowBits.{tells-none, tells-more}
 use Rattle.open_windows.proofs.rows.own_rows.Goals as goal
 
 pub loop-y-init : goal.loop-y-init
-loop-y-init c = tells-none (stone_at c.args.board.now c.args.side) refl
+loop-y-init c =
+    subst (λ (rows : List ℕ). TellsTo (stone_at c.args.board.now c.args.side) rows 4) (sym c.requires.zero)
+    (tells-none (stone_at c.args.board.now c.args.side) refl)
 
 pub loop-y-preserved : goal.loop-y-preserved
 loop-y-preserved c =

@@ -1,12 +1,15 @@
-use Rattle.std.proofs.Common.{◌+◌, ◌∙◌, ◌<◌, refl, ap, arith}
+use Rattle.std.proofs.Common.{ℕ, ◌+◌, ◌∙◌, ◌<◌, List, refl, sym, subst, ap, arith}
 use Rattle.open_windows.specs.OpenWindows.{is_window}
+use Rattle.open_windows.specs.Rows.{TellsTo}
 use Rattle.open_windows.proofs.BoardRows.{below}
 use Rattle.open_windows.proofs.RowBits.{at_row, tells-none, tells-more, tells-all}
 use Rattle.open_windows.proofs.WindowBits.{start-window, window-none, window-on}
 use Rattle.open_windows.proofs.windows.starts.Goals as goal
 
 pub loop-i-init : goal.loop-i-init
-loop-i-init c = λ b s mine others. tells-none (is_window b s c.args.least c.args.axis) (window-none b s c.args.least c.args.axis)
+loop-i-init c = λ b s mine others.
+    subst (λ (rows : List ℕ). TellsTo (is_window b s c.args.least c.args.axis) rows 4) (sym c.requires.zero)
+    (tells-none (is_window b s c.args.least c.args.axis) (window-none b s c.args.least c.args.axis))
 
 pub loop-i-preserved : goal.loop-i-preserved
 loop-i-preserved c = λ b s mine others.

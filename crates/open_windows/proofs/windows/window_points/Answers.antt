@@ -18,9 +18,9 @@ loop-y-preserved c =
     let s : Side = c.args.side in
     let least : ℕ = c.args.least in
     let y : ℕ = c.loop-y.y in
-    let ok = c.own_rows-own.ensures.board in
-    let mine = c.own_rows-own.ensures.rows in
-    let others = c.open_rows-clear.ensures.rows in
+    let ok = c.own_rows.ensures.board in
+    let mine = c.own_rows.ensures.rows in
+    let others = c.open_rows.ensures.rows in
     let test = c.loop-y-test.true in
     let high = c.height-height.ensures.height in
     let fits = ok.height_fits in
@@ -37,15 +37,16 @@ loop-y-preserved c =
       c.covered-in-loop-y-3.ensures.covered,
     )
     (all-covered (is_window b s least) (window-none b s least) (y + 4) x (omega arith) (omega (arith, within)) column
-    c.starts-row.result c.starts-column.result c.starts-down.result c.starts-up.result (c.starts-row.ensures.starts b s ok (sym high) mine others)
-    (c.starts-column.ensures.starts b s ok (sym high) mine others) (c.starts-down.ensures.starts b s ok (sym high) mine others)
-    (c.starts-up.ensures.starts b s ok (sym high) mine others)) in
-    point-bit b s least (y + 4) x (omega arith) (omega (arith, within)) c.own_rows-own.result c.open_rows-clear.result mine others _ near)
+    c.starts.new.found c.starts-2.new.found c.starts-3.new.found c.starts-4.new.found
+    (c.starts.ensures.starts b s ok (sym high) mine others)
+    (c.starts-2.ensures.starts b s ok (sym high) mine others) (c.starts-3.ensures.starts b s ok (sym high) mine others)
+    (c.starts-4.ensures.starts b s ok (sym high) mine others)) in
+    point-bit b s least (y + 4) x (omega arith) (omega (arith, within)) c.own_rows.new.rows c.open_rows.new.rows mine others _ near)
 
 pub returns : goal.returns
 returns c = record {
   points = record {
-    board = c.own_rows-own.ensures.board;
+    board = c.own_rows.ensures.board;
     points = λ p on.
         let low = on_y c.args.board.now p on in
         let high = c.height-height.ensures.height in
