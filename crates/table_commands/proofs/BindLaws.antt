@@ -1,12 +1,9 @@
 -- The command `bind`: how far its files are bound, its answers, and what its runs show.
-use Rattle.std.proofs.Common.{◌≡◌, ◌⊎◌, inl, inr, refl, ap, ◌∙◌, ℕ, ◌<◌, List, [], ◌∷◌, ◌++◌, length, arith}
-use Rattle.std.proofs.Common.{Option, Some, IfSome, rules}
+use Rattle.std.proofs.Common.{◌≡◌, ◌⊎◌, inl, inr, refl, ap, ◌∙◌, ℕ, ◌<◌, List, [], ◌∷◌, ◌++◌, length, arith, Option, Some, IfSome, rules}
 use Rattle.strategy_graph.specs.declared.TheConstants.{MAX_NODES}
 use Rattle.strategy_compiler.proofs.Common.{HoldMore}
-use Rattle.brain_session.specs.declared.TheConstants.{BRAIN_WORK}
-use Rattle.table_commands.proofs.Common.{TableFile, Files, Book, Status, Done, status_number, Run, IsTableFile}
-use Rattle.table_commands.proofs.Common.{AreNames, AreTableFiles, BindSays, HasBound, IsBind, IsUnhinderedBind, ShowsBound}
-use Rattle.table_commands.proofs.Common.{IsFullAt, TellsBook}
+use Rattle.table_commands.proofs.Common.{BRAIN_WORK, TableFile, Files, Book, Status, Done, status_number, Run, IsTableFile, AreNames}
+use Rattle.table_commands.proofs.Common.{AreTableFiles, BindSays, HasBound, IsBind, IsUnhinderedBind, ShowsBound, IsFullAt, TellsBook}
 use Rattle.table_book.specs.Books.{IsTextOfBook, IsWellFormed}
 use Rattle.table_book.specs.declared.TheConstants.{MAX_ENTRIES}
 use Rattle.table_book.specs.Binding.{IsBound}
@@ -25,9 +22,8 @@ use Rattle.file_loading.proofs.ManyFileLaws.{files-count, fit-not_refused, one-f
 module _ (shelf : Files) where
   -- the tables before one among others, and that one
   front-tables : (before later : List (List ℕ)) (name : List ℕ) (files fronts : List TableFile) (file : TableFile)
-      → AreTableFiles BRAIN_WORK (Some shelf) (before ++ name ∷ later) files
-      → AreTableFiles BRAIN_WORK (Some shelf) before fronts → IsTableFile BRAIN_WORK (Some shelf) name file
-      → (rest : List TableFile) × (files ≡ (fronts ++ file ∷ []) ++ rest)
+      → AreTableFiles BRAIN_WORK (Some shelf) (before ++ name ∷ later) files → AreTableFiles BRAIN_WORK (Some shelf) before fronts
+      → IsTableFile BRAIN_WORK (Some shelf) name file → (rest : List TableFile) × (files ≡ (fronts ++ file ∷ []) ++ rest)
   front-tables [] later name [] fronts file h k is = absurd h
   front-tables [] later name (f ∷ files) [] file h k is =
       let same = one-file BRAIN_WORK shelf name file f is h.0 in (files, λ i. same i ∷ files)
@@ -54,8 +50,7 @@ full-at files file book status text more ends told bound =
 
 module _ (names : List (List ℕ)) (shelf : Change (Option Files)) (binder : Book) where
   -- a file is not bound, or the book is full
-  pub says-told : (answer : Answer)
-      → AreLoaded (λ files. IsBound files binder) IsFullAt BRAIN_WORK names shelf (Some answer)
+  pub says-told : (answer : Answer) → AreLoaded (λ files. IsBound files binder) IsFullAt BRAIN_WORK names shelf (Some answer)
       → BindSays names shelf answer.status answer.text
   says-told answer (inl h) = inr (inl (record { refused = h.0; few = bound-few h.0.stop.files binder h.1 }))
   says-told answer (inr full) = inr (inr full)

@@ -1,6 +1,5 @@
 -- The command `book`: its words, its answers, and what its status 0 shows.
-use Rattle.std.proofs.Common.{◌≡◌, inl, inr, sym, subst, ◌∙◌, ◌⊎◌, ℕ, ◌-◌, ◌≤◌, List, [], ◌∷◌, IfSome}
-use Rattle.std.proofs.Common.{rules}
+use Rattle.std.proofs.Common.{◌≡◌, inl, inr, sym, subst, ◌⊎◌, ℕ, List, [], ◌∷◌, IfSome, rules}
 use Rattle.std.specs.List.{AllByRecursion}
 use Rattle.game_rules.proofs.Tests.{all_get}
 use Rattle.table_commands.proofs.Common.{Node, Takes, Book, Status, Done, RefusedText, RefusedTable, status_number, Run, IsTold, AreWithin}

@@ -1,4 +1,5 @@
 -- The words of table_commands, all in one place for the files of laws.
+pub use Rattle.brain_session.specs.declared.TheConstants.{BRAIN_WORK}
 pub use Rattle.command_base.specs.Runs.{Run}
 pub use Rattle.command_base.specs.Statuses.{status_number}
 pub use Rattle.command_base.specs.Told.{IsTold}
@@ -12,8 +13,8 @@ pub use Rattle.renju_io.specs.Files.{Files}
 pub use Rattle.renju_io.specs.Told.{Takes}
 pub use Rattle.strategy_graph.specs.declared.Node.{Node}
 pub use Rattle.table_book.specs.declared.Book.{Book}
-pub use Rattle.table_commands.specs.Binds.{AreFew, AreNames, BindSays, HasBound, IsBind, IsFullAt, IsUnhinderedBind}
-pub use Rattle.table_commands.specs.Binds.{ShowsBinding, ShowsBound, TellsBook, bind_words}
+pub use Rattle.table_commands.specs.Binds.{AreFew, AreNames, BindSays, HasBound, IsBind, IsFullAt, IsUnhinderedBind, ShowsBinding}
+pub use Rattle.table_commands.specs.Binds.{ShowsBound, TellsBook, bind_words}
 pub use Rattle.table_commands.specs.Books.{AreWithin, BookSays, EntriesSay, IsWonBook, IsWonEntry, ShowsBook, book_command}
 pub use Rattle.table_commands.specs.Checks.{CheckSays, IsAcceptedInput, IsAcceptedTable, ShowsWin, TableSays, accepted_line, check_command}
 pub use Rattle.table_commands.specs.Images.{ImageSays, ImagedFileSays, IsImage, IsImagedInput, ShowsImage, image_command, symmetry_word}

@@ -36,9 +36,8 @@ module _ (s : Symmetry) (file : TableFile) (w h : ℕ) (wide : w ≡ file.board.
   pub image-fit : (answer r : Bool) → answer ≡ fits s w h → answer ≡ r → fits s file.board.width file.board.height ≡ r
   image-fit answer r told is = (λ i. fits s (sym wide i) (sym high i)) ∙ sym told ∙ is
 
-  pub image-made : (board : Grid) (table : List Node) (root : Root) → board ≡ board_image s file.board → table
-      ≡ table_image s w h file.table
-      → root ≡ root_image s w h file.root
+  pub image-made : (board : Grid) (table : List Node) (root : Root)
+      → board ≡ board_image s file.board → table ≡ table_image s w h file.table → root ≡ root_image s w h file.root
       → record { kind = file.kind; board = board; table = table; root = root; moves = file.moves } ≡ file_image s file
   image-made board table root boards tables roots = search rules
 
@@ -50,10 +49,9 @@ image-writable s file made bytes read fit is =
     rw is (image-named s file.board fit file.table read.on_board, image-root s file.board fit file.table file.root file.moves read.root)
 
 -- what is written is the text of the image
-pub image-written : (s : Symmetry) (file made : TableFile) (bytes text : List ℕ) → IsTextOfTable file bytes
-    → IsPosition file.kind file.board
-    → file.moves ≡ root_depth file.table file.root → fits s file.board.width file.board.height ≡ true → made ≡ file_image s file
-    → IsTextOfTable made text → IsImage s file Done text
+pub image-written : (s : Symmetry) (file made : TableFile) (bytes text : List ℕ)
+    → IsTextOfTable file bytes → IsPosition file.kind file.board → file.moves ≡ root_depth file.table file.root
+    → fits s file.board.width file.board.height ≡ true → made ≡ file_image s file → IsTextOfTable made text → IsImage s file Done text
 image-written s file made bytes text read lawful moves fit is written = record {
   fitting = fit;
   ends = refl;

@@ -1,17 +1,15 @@
 -- The command `referee`: its words, its answers, and what its runs show.
 use Rattle.std.proofs.Common.{rules, ◌≡◌, inl, inr, sym, ap, subst, ◌∙◌, ◌⊎◌, ℕ, List, Some, IfSome}
 use Rattle.strategy_graph.proofs.Common.{AcceptedRoot}
-use Rattle.brain_session.specs.declared.TheConstants.{BRAIN_WORK}
+use Rattle.table_commands.proofs.Common.{BRAIN_WORK, TableFile, Files, Takes, Status, Done, status_number, Run, IsTold, IsFit, IsTableFile}
+use Rattle.table_commands.proofs.Common.{TableFileSays, ComparesSays, HasGameFault, HeldSays, IsGameAt, IsRefereeWith, RefereeSays}
+use Rattle.table_commands.proofs.Common.{RefereesByFile, IsJudgedInput, ShowsGame, TellsTable, compares_command, of_game, referee_command}
+use Rattle.table_commands.proofs.Common.{replay_line, verdict_on}
 use Rattle.game_referee.specs.declared.ReplayAnswer.TheVariants.{Follows}
 use Rattle.game_referee.specs.Followers.{GoesByRoot, IsPlayed, NeverLoses, side_of}
 use Rattle.game_referee.specs.Replays.{replay}
 use Rattle.game_referee.proofs.Following.{follower-never-loses, games-go-by-root}
 use Rattle.position_files.specs.declared.GameFile.{GameFile}
-use Rattle.table_commands.proofs.Common.{TableFile, Files, Takes, Status, Done, status_number, Run, IsTold, IsFit, IsTableFile}
-use Rattle.table_commands.proofs.Common.{TableFileSays}
-use Rattle.table_commands.proofs.Common.{ComparesSays, HasGameFault, HeldSays, IsGameAt, IsRefereeWith, RefereeSays, RefereesByFile}
-use Rattle.table_commands.proofs.Common.{IsJudgedInput, ShowsGame, TellsTable, compares_command, of_game, referee_command, replay_line}
-use Rattle.table_commands.proofs.Common.{verdict_on}
 use Rattle.position_files.proofs.ReadBack.{game-read-back}
 use Rattle.command_base.specs.Runs.{IsAskedOnly, IsUnbegun}
 use Rattle.strategy_checker.specs.HeldRoots.{HeldTable}
@@ -77,9 +75,8 @@ answers-end : (name : List ℕ) (run : Run)
     → RefereesByFile name run ⊎ TellsFile (TableFileSays BRAIN_WORK) name run ⊎ IsUnbegun run.input run.output run.status
     → (file : TableFile) → IsUnhinderedShelf (λ files. IsTableFile BRAIN_WORK (Some files) name file) run
     → AnswersTold (compares_command name file) run
-answers-end name run (inl by) file free bytes un =
-    answers-by (compares_command name file) (compares-answers name file) run bytes un
-    (by-file name run free.files free.told file free.fit by)
+answers-end name run (inl by) file free bytes un = answers-by
+    (compares_command name file) (compares-answers name file) run bytes un (by-file name run free.files free.told file free.fit by)
 answers-end name run (inr (inl tells)) file free bytes un =
     absurd (free.shelf_sound (not-told name run free.files free.told free.fit.bytes free.fit.found (TableFileSays BRAIN_WORK) free.fit.fits
     (table-not_told BRAIN_WORK file free.fit.bytes free.fit.at free.fit.fit) tells.status tells.text tells.why))
@@ -164,9 +161,7 @@ module _ (name : List ℕ) (run : Run) (done : run.status ≡ status_number Done
     by-ends : IsWhole (ComparesSays by.file) run ⊎ IsYielded run.status → IfSome run.input.before (λ input. ShowsGame name files input run)
     by-ends (inl whole) = by-whole by whole
     by-ends (inr yielded) = absurd (not-yielded run.status done yielded)
-  shown-by (inr (inl tells)) =
-      absurd (not-other run.status (inl done)
-      (delivered-other tells.status tells.text run.output run.status
+  shown-by (inr (inl tells)) = absurd (not-other run.status (inl done) (delivered-other tells.status tells.text run.output run.status
       (unheld-other (TableFileSays BRAIN_WORK) (table_told-other BRAIN_WORK) run.shelf name tells.status tells.text tells.why)
       tells.delivered))
   shown-by (inr (inr unbegun)) = let e = sym done ∙ unbegun.ends in absurd (cc)

@@ -6,8 +6,7 @@ use Rattle.table_commands.proofs.ImageLaws.{image-fit, image-made, image-writabl
 use Rattle.table_commands.proofs.image.image_of.Goals as goal
 
 pub image_table-requires-clause-on_board : goal.image_table-requires-clause-on_board
-image_table-requires-clause-on_board c =
-    rw (c.width-width.ensures.width, c.height-height.ensures.height)
+image_table-requires-clause-on_board c = rw (c.width-width.ensures.width, c.height-height.ensures.height)
     (names_sized c.args.file.now.board c.args.file.now.table c.requires.text.1.on_board)
 
 pub image_root-requires-clause-on_board : goal.image_root-requires-clause-on_board

@@ -1,14 +1,12 @@
 use Rattle.std.proofs.Common.{inl, inr, refl}
-use Rattle.brain_session.specs.declared.TheConstants.{BRAIN_WORK}
-use Rattle.file_loading.specs.HeldFiles.{TableFileSays}
+use Rattle.table_commands.proofs.Common.{BRAIN_WORK, TableFileSays}
 use Rattle.command_base.proofs.ToldLaws.{unread-devices}
 use Rattle.file_loading.proofs.HeldFileLaws.{told-sound}
 use Rattle.table_commands.proofs.RefereeLaws.{referees-by-file}
 use Rattle.table_commands.proofs.referee.referee_with.Goals as goal
 
 pub returns-in-Ok-Holds-clause-referees : goal.returns-in-Ok-Holds-clause-referees
-returns-in-Ok-Holds-clause-referees g c = λ words.
-    referees-by-file c.args.file.now _ c.in-Ok-Holds.held c.load_file.ensures.once
+returns-in-Ok-Holds-clause-referees g c = λ words. referees-by-file c.args.file.now _ c.in-Ok-Holds.held c.load_file.ensures.once
     (rw c.in-Ok-Holds.field-0-is at c.in-Ok-Holds.ensures.loaded) c.tell.ensures.ends
 
 pub returns-in-Ok-Tells-clause-referees : goal.returns-in-Ok-Tells-clause-referees

@@ -11,6 +11,5 @@ add-requires c = record {
 }
 
 pub returns-in-Err-Full-clause-tells : goal.returns-in-Err-Full-clause-tells
-returns-in-Err-Full-clause-tells c = λ files bound.
-    full-at files c.args.file _ _ _ (c.in-Err-Full.ensures.full (ap Err c.in-Err-Full.field-0-is)) c.full.ensures.status
-    c.full.ensures.text bound
+returns-in-Err-Full-clause-tells c = λ files bound. full-at files c.args.file _ _ _
+    (c.in-Err-Full.ensures.full (ap Err c.in-Err-Full.field-0-is)) c.full.ensures.status c.full.ensures.text bound
