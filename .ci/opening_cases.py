@@ -91,7 +91,7 @@ def liked(ask, held, by, table):
     expect("openings.py: the part of its stone's point", "7,2 like-1-8,8-20000 0 " in tried("corner"), True)
     expect("openings.py: nothing is searched", "quiet" in tried("corner"), False)
     # White's 5,0 is answered by 3,4, and no reply to that is answered by another move than 3,3.
-    from boards import Node, named, read, spelled
+    from boards import Node, read
 
     like = read(table.encode())
     place = like.root().answer((5, 0))
@@ -100,14 +100,14 @@ def liked(ask, held, by, table):
     Path(folder, "bare.txt").write_text(like.text())
     words = ["--jobs", "1", "--deeper", "1", "--most", "20000", "--like", "bare.txt"]
     status, _, errors = ask(*words, "bare", "2,3", "-", text=QUIET, env=by("late"))
-    is_told = f"5,0 (f9) is taken apart by {spelled(node.attack)} ({named(node.attack, 9)})\n" in errors
+    is_told = "5,0 (f9) is taken apart\n" in errors
     expect("openings.py: a part that is mended", (status, "5,0 like-1-5,0-20000 0 " in tried("bare"), is_told), (0, True, False))
-    # Black's 8,0 wins nowhere, and is given up once three replies are left.
+    # Black's 8,0 wins nowhere, and where nothing is found no attack is gone on with.
     like.nodes[place] = Node((8, 0), False, node.rest, [])
     Path(folder, "bad.txt").write_text(like.text())
     status, _, errors = ask(*words[:-1], "bad.txt", "bad", "2,3", "-", text=QUIET, env=by("spent"))
-    expect("openings.py: a first move that is none", (status, "5,0 (f9) is taken apart by 8,0 (i9)\n" in errors), (5, True))
-    expect("openings.py: it is given up", tried("bad/deeper/5,0-8,0").count("quiet-40-20000 5"), 3)
+    is_told, is_lost = "5,0 (f9) is taken apart\n" in errors, "5,0 attacks-1 4 " in tried("bad")
+    expect("openings.py: a first move that is none", (status, is_told, is_lost), (5, True, True))
     Path(folder, "start.txt").write_text(FOUR_AND_REPLY)
     Path(folder, "two.txt").write_text(TABLE)
     for name, words, said in [
@@ -166,6 +166,75 @@ def mended():
     expect("mending.py: dear searches", told, [plain, plain, [(2, 2), (3, 2), *plain], [(2, 3), (3, 3), *plain], plain])
 
 
+def attacked():
+    """Where no search wins an attack does, and after a reply that it leaves another one."""
+    import attacking
+    from attacking import ATTACKS, HOPELESS, SEARCHES, Attack, Attacking, Turn, candidates, replies_near
+    from boards import answered, read, spelled
+
+    start, sizes = read(QUIET.encode()), []
+    head = lambda text: "".join(["renju-position 1\n", *text.splitlines(keepends=True)[1:5]])
+
+    def join(position, attack, texts):
+        sizes.append(len(texts))
+        with tempfile.TemporaryDirectory() as folder:
+            files = [f"{folder}/{number}" for number, _ in enumerate(texts)]
+            for path, text in zip(files, texts):
+                Path(path).write_text(text)
+            return asked(["join", spelled(attack), *files], position.text())
+
+    def attack(hints, attacks, is_lost, join=join):
+        """How many attacks were tried, and the first move of what was found, where no search or table wins at some positions."""
+
+        def search(text, nodes):
+            told, status = answered(["quiet", "12", nodes], text)
+            return told if status == 0 and not is_lost(text) else None
+
+        check = lambda text: not is_lost(head(text)) and answered(["check", 1_000_000], text)[1] == 0
+        found = Attacking(search, check, join, 1_000)
+        table = found.table(start, hints, attacks)
+        return found.tried, table and answered(["check", 1_000_000], table)[1] == 0 and read(table.encode()).root().attack
+
+    is_start = lambda text: text == QUIET
+    # White has four of a row, and Black's 2,3 is their five point.
+    expect("attacking.py: an attack", attack([(8, 8)], 1, is_start), (1, (2, 3)))
+    expect("attacking.py: no attack", attack([], 0, is_start), (0, None))
+    # An attack that wins nothing once the other side has passed isn't gone on with.
+    lone, texts = read(position("freestyle", 15, "7,7", "0,0").encode()), []
+    nothing = Attacking(lambda text, nodes: texts.append(text), None, join, 1_000)
+    told = nothing.table(lone, [], 2 * ATTACKS), nothing.tried, len({*texts})
+    expect("attacking.py: passes that aren't won", told, (None, *2 * [len(candidates(lone, []))]))
+    # White's 5,0 is left, and is taken apart once its searches were in vain.
+    left = start.after((2, 3)).after((5, 0))
+    tried, found = attack([], 3 * ATTACKS, lambda text: text in (QUIET, left.text()))
+    expect("attacking.py: a reply that is left", (1 < tried, found), (True, (2, 3)))
+    # 8,8 isn't asked before it is told that it has no answer.
+    sizes.clear()
+    first = lambda *words: join(*words) and ("no answer 8,8\n" if not sizes[1:] else join(*words))
+    attacking.replies_near = lambda *words: [it for it in replies_near(*words) if it != (8, 8)]
+    expect("attacking.py: a reply without an answer", (*attack([], 1, is_start, first), sizes[-1] - sizes[0]), (1, (2, 3), 1))
+    attacking.replies_near = replies_near
+    expect("attacking.py: no room", attack([], 1, is_start, lambda *words: "table full\n"), (1, None))
+    turn = Turn(start)
+    numbers = [turn.number()]
+    for turn.searches in range(1, len(SEARCHES) + 1):
+        numbers.append(turn.number())
+    for turn.untried in ([(2, 3)], []):
+        numbers.append(turn.number())
+    turn.attacks.append(Attack(turn, (2, 3)))
+    turn.attacks[0].left = {(5, 0): Turn(left), (0, 5): Turn(start.after((2, 3)).after((0, 5)))}
+    numbers.append(turn.number())
+    turn.table = QUIET
+    most = SEARCHES[-1][1]
+    expect("attacking.py: proof numbers", [*numbers, turn.number()], [1, *(it for _, it in SEARCHES), most, HOPELESS, 2, 0])
+    # White's four in a row has one end, or two.
+    row = "renju-position 1\nrule freestyle\nsize 15\nblack {}\nwhite 4,7 5,7 6,7 7,7\n".format
+    expect("attacking.py: a five point", candidates(read(row("0,0 2,0 4,0 3,7").encode()), [(9, 9)]), [(8, 7)])
+    expect("attacking.py: two of them", candidates(read(row("0,0 2,0 4,0 6,0").encode()), []), [])
+    expect("attacking.py: a foul", (7, 7) in candidates(read(FOUL.encode()), [(7, 7)]), False)
+    expect("attacking.py: a hint", candidates(lone, [(14, 14)])[0], (14, 14))
+
+
 def parts():
     """The part of a table after replies."""
     # After 4,7 Black has four in a row: White's 3,7 is answered by 8,7, and any other reply by 3,7.
@@ -197,11 +266,11 @@ def opened(ask, held, by, covered, begun):
     expect("openings.py: what command lines wrote", (len(lines), status, told, is_told), (len(left) + 1, 0, covered, True))
     expect("openings.py: what is left of it", sorted(folder.glob("*.answer")), sorted([spoilt, empty]))
     expect("openings.py: what was spent", f"{left[0]} quiet-3-2 5 0.0\n" in Path(folder.parent, "tried.txt").read_text(), True)
-    status, told, errors = ask("--deeper", "2", "--nodes", "1", "--most", "1", "deep", "2,3", "-", text=QUIET)
+    status, told, errors = ask("--jobs", "1", "--deeper", "5", "--nodes", "1", "--most", "1", "deep", "2,3", "-", text=QUIET)
     # White's 7,3 makes a four of its column that 7,4 blocks, and the other way round.
-    blocks = ["7,3 (h6) is taken apart by 7,4 (h5)", "7,4 (h5) is taken apart by 7,3 (h6)"]
+    fours = ["7,3 (h6) is taken apart", "7,4 (h5) is taken apart"]
     table = Path(folder.parents[1], "deep", "table.txt").read_text()
-    expect("openings.py: replies that are taken apart in turn", (status, errors.splitlines()[1:3]), (0, blocks))
+    expect("openings.py: replies that are taken apart", (status, errors.splitlines()[1:3]), (0, fours))
     expect("openings.py: their table", asked(["check", "1000000"], table), re.compile(r"accepted in \d+ moves, .*\n"))
     words = [EXAMPLES / "openings.py", "i", "2,3", "few/position.txt"]
     stuck = subprocess.Popen(words, cwd=folder.parents[1], env=by("stuck"), stdout=subprocess.PIPE, stderr=subprocess.PIPE)
@@ -235,4 +304,4 @@ def unopened():
         expect("openings.py: what was there", (sorted(os.listdir(folder)), os.listdir(f"{folder}/mine")), (["mine", "o"], ["opening.txt"]))
 
 
-GROUPS = (openings, unopened, parts, mended)
+GROUPS = (openings, unopened, parts, mended, attacked)

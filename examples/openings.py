@@ -2,7 +2,7 @@
 """Takes an opening apart: of a position and an attack it looks for a win after each reply, with all processors, keeps what is found in
 a folder, and has `renju join` make one table of them in the end, FOLDER/table.txt.
 
-    openings.py [--depth D] [--nodes N] [--most M] [--deeper L] [--like FILE] [--jobs J] [--memory MB] [--cover] FOLDER [X,Y FILE]
+    openings.py [--depth D] [--nodes N] [--most M] [--deeper A] [--like FILE] [--jobs J] [--memory MB] [--cover] FOLDER [X,Y FILE]
     openings.py --lines [--depth D] [--nodes N] FOLDER [X,Y FILE]
 
 A folder begins with X,Y, the attack, and FILE, or - for standard input, a text that examples/position.py takes, or a table, whose
@@ -17,17 +17,15 @@ again with ten times as many each time, up to M. Of replies that a symmetry of t
 MB of memory, or all runs at once half of the machine's, and where it runs out the reply is left.
 
 Each --like FILE is a table of a like position, whose first move is the attack too: one with a stone elsewhere, which was won before.
-It is kept in FOLDER/like, and what it answers to a reply, its part, is tried there before all others; then what it answers to the point
-that stands to its stone as the reply does to the stone here, and at a reply beside its stone what it answers to the stone here. Where
-`renju check` refuses a part it tells a line of moves that leads to the fault: `renju quiet D NODES` is asked at the positions of that
-line, then with ten times as many NODES from the end of the line on, and with M at its beginning, which comes first where faults are
-many. A win takes the place of what the part has there, until the part is accepted, or a line has no position that is won so. At each
-reply one part is tried, and then the others at those that are left.
+It is kept in FOLDER/like, and what it answers to a reply, its part, is tried there before all others. Where `renju check` refuses a part
+it tells a line of moves that leads to the fault: `renju quiet D N` is asked at the positions of that line, and a win takes the place of
+what the part has there, until the part is accepted, or a line has no position that is won so. Replies that are left in the end are
+mended with more faults, and with ten times as many nodes from the end of the line on, and fifty times as many at its beginning, which
+comes first where faults are many; and so is what the table answers to the point that stands to its stone as the reply does to the stone
+here, and at a reply beside its stone what it answers to the stone here.
 
-With --deeper L a reply that is left is taken apart in turn, in a folder of FOLDER/deeper, and of its own replies those that are left
-too, down to L levels: by the first moves of like tables' parts, and by the first moves of tables found at other replies, or where the
-reply makes a four by what blocks that, some of them before a search with more NODES. An attack is given up where many of the first
-replies to it are left, and the tables that begin with it are its like tables.
+With --deeper A a reply that ten times as many nodes don't win is taken apart by at most A attacks, as examples/attacking.py tells. What
+an interrupt ends of that begins anew.
 
 --lines prints a command line of the shell for each reply that is left, for GNU parallel. What such a line writes stands beside the
 position in FOLDER/replies, and when the script goes on its table is taken in, if `renju check` accepts it.
@@ -47,13 +45,13 @@ import threading
 import time
 from collections import Counter
 from concurrent.futures import ThreadPoolExecutor, wait
-from contextlib import contextmanager
 from pathlib import Path
+from tempfile import TemporaryDirectory
 
 sys.dont_write_bytecode = True
 
-from boards import ENDING, PROGRAM, Table, Wrong, answered, asked, bytes_of, end_runs, numbers, other, read_file, saying, spelled, tell
-from foul import an
+from attacking import Attacking, apart, end_of, first_move, under
+from boards import ENDING, PROGRAM, Table, Wrong, answered, asked, bytes_of, end_runs, numbers, read_file, saying, spelled, tell
 from mending import Mending
 from outputs import replace
 from position import EXCHANGING, IMAGES, image, points, rule_of, size_of, understood
@@ -66,37 +64,14 @@ MOST_FILES, MOST_ARRIVALS = 1_000, 1_000_000_000_000
 # How many tables that have served are tried at a reply each time, and how many others, and with how many arrivals.
 TRIES, OTHERS, FEW_ARRIVALS = 8, 3, 10_000_000_000
 TIMES = 10
-# How many attacks are tried at a reply that is left, before a search with more nodes and in the end, and by how many of them it is taken
-# apart in turn.
-QUICK, ATTACKS, DEEPER = 3, 8, 2
-# With how many replies left an attack is gone on with at once.
-NEARLY = 3
-# An attack is given up once more replies are left than these few and one of so many that were asked.
-FEW, ONE_OF = 2, 16
-# How many faults are mended in the first part of a like table at a reply, and in each other.
-FAULTS, OTHER_FAULTS = 256, 32
-# With how many arrivals a part that is mended is checked.
+# How parts of like tables are mended: how many faults of each, and with how many times the first nodes. The first part at a reply is mended
+# quickly at first, and in the end with more, and then the others.
+QUICKLY, THOROUGHLY, OTHERS_MENDED = (64, (1, 1, 1)), (256, (1, 10, 50)), (32, (1, 10, 50))
+# With how many arrivals a part that is mended is checked, and a table of another reply to an attack.
 MENDED_ARRIVALS = 3_000_000_000
-# How many nodes may be searched in vain below an attack on a reply of the whole opening, before another is tried.
-PATIENCE = 3_000_000
-# How many like tables an attack has of the tables that begin with it.
-LIKES = 3
-# The statuses of `quiet`, and of `check` of another's nodes, after which a script goes on.
-DONE, UNREAD, REFUSED, SPENT, MEMORY, FULL = 0, 3, 4, 5, 6, 12
+# The statuses of `quiet`, and of `check` of another's nodes, after which a script goes on, and that of `join` where a reply is open.
+DONE, UNREAD, REFUSED, SPENT, MEMORY, FULL, OPEN = 0, 3, 4, 5, 6, 12, 9
 ANSWER = re.compile(r"(\d+,\d+)\.(\d+)\.(\d+)\.answer")
-
-
-def end_of(position, attack):
-    """Why an attack has no replies that can be answered, in words, or nothing."""
-    fouls, after = position.fouls(), position.after(attack)
-    if attack in fouls:
-        return f"is {an(fouls[attack])}"
-    if after.won_at() or not after.empties():
-        return "wins at once" if after.won_at() else "fills the board"
-    fives = after.fives(after.side())
-    if fives:
-        return f"lets {both(fives[0], after)} win"
-    return "" if after.empties()[1:] else "lets the board be filled"
 
 
 def replies_to(after):
@@ -112,10 +87,6 @@ def replies_to(after):
             found.append(point)
             images.update({moved(point, name): (point, name) for name in same if moved(point, name) != point})
     return sorted(found, key=lambda point: -min(apart(point, stone) for stone in stones)), images
-
-
-def apart(p, q):
-    return max(abs(p[0] - q[0]), abs(p[1] - q[1]))
 
 
 def meant(reply, here, there):
@@ -145,11 +116,9 @@ class Opening:
                 replace(self.path("replies", reply), self.after.after(reply).text())
         self.found, self.served = ({it for it in self.replies if self.path(kind, it).exists()} for kind in ("tables", "served"))
         self.log = self.folder / "tried.txt"
-        self.tried, self.uses, self.answers, self.apart = {}, Counter(), {}, set()
+        self.tried, self.uses, self.answers = {}, Counter(), {}
         # Of each like table, by its number, the position and the root, which is a node of those that are mended.
         self.like, self.mending = {}, Mending()
-        # The first moves of the tables found, and the openings of attacks after replies, which take long to read.
-        self.first_moves, self.inner = {}, {}
         self.begin()
 
     def begin(self):
@@ -213,10 +182,6 @@ class Opening:
         with self.lock:
             (self.found if kind == "tables" else self.served).add(reply)
 
-    def under(self, reply, text):
-        """The nodes of a table's text under the position of a reply."""
-        return "".join([self.after.after(reply).text("renju-table 1"), *text.splitlines(keepends=True)[5:]])
-
     def sources(self, reply):
         """The replies whose tables are to be tried at this one: those that served most before, and then near ones."""
         with self.lock:
@@ -224,57 +189,12 @@ class Opening:
         left = [it for it in found if not self.is_lost(reply, f"table-{spelled(it)}")]
         return [*[it for it in left if self.uses[it]][:TRIES], *[it for it in left if not self.uses[it]][:OTHERS]]
 
-    def first_move(self, reply):
-        """The first move of the table found at a reply."""
-        if reply not in self.first_moves:
-            root = self.path("tables", reply).read_text().rstrip("\n").rpartition("\n")[2]
-            self.first_moves[reply] = numbers(root.split(" ")[0])
-        return self.first_moves[reply]
-
-    def fit(self, reply, attacks):
-        """The attacks that leave something to take apart after a reply, each once."""
-        position = self.after.after(reply)
-        empties = {*position.empties()}
-        return [it for it in dict.fromkeys(attacks) if it in empties and not end_of(position, it)]
-
-    def hints(self, reply):
-        """The first moves of the parts of like tables for a reply."""
-        return self.fit(reply, [self.mending.nodes[place].attack for _, place in self.alike(reply)])
-
-    def attacks(self, reply):
-        """By which attacks a reply may be taken apart: what keeps the other side from a five, or else the first moves of tables, those
-        that serve most first, and of the parts of like tables for all replies.
-        """
-        position = self.after.after(reply)
-        fives = position.fives(other(position.side()))
-        if fives:
-            return self.fit(reply, fives)
-        uses, likes = Counter(), Counter()
-        for it in self.found:
-            uses[self.first_move(it)] += 1 + self.uses[it]
-        nodes = self.mending.nodes
-        for _, root in self.like.values():
-            likes.update(nodes[place].attack for place in nodes[root].named())
-        ordered = [it for uses in (uses, likes) for it in sorted(uses, key=lambda it: (-uses[it], it))]
-        return self.fit(reply, ordered)[:ATTACKS]
-
-    def deeper(self, reply, attack):
-        """The opening of an attack after a reply. Its like tables are the parts for the reply, and the tables of others, that begin
-        with the attack.
-        """
-        folder, parts = self.folder / "deeper" / f"{spelled(reply)}-{spelled(attack)}", []
-        if (reply, attack) not in self.inner:
-            folder.parent.mkdir(exist_ok=True)
-            if not is_opening(folder):
-                begun(folder, attack, self.after.after(reply))
-                places = [place for _, place in self.alike(reply) if self.mending.nodes[place].attack == attack]
-                parts = [self.mending.table(self.after.after(reply), place)[0] for place in places]
-            self.inner[reply, attack] = Opening(folder)
-        found = self.inner[reply, attack]
-        others = sorted(self.found, key=lambda it: (-self.uses[it], apart(it, reply), it))
-        others = [self.path("tables", it) for it in others if self.first_move(it) == attack][:LIKES]
-        found.add_like([*parts, *map(read_file, others)])
-        return found
+    def hints(self):
+        """The attacks that won where replies were taken apart, the most frequent ones first."""
+        with self.lock:
+            won = [numbers(reply) for (reply, what), status in self.tried.items() if what.startswith("attacks-") and status == DONE]
+        uses = Counter(first_move(self.path("tables", it).read_text()) for it in won if it in self.found)
+        return [it for it, _ in uses.most_common()]
 
     def file(self, reply):
         """The file of a reply's table."""
@@ -308,54 +228,18 @@ def begun(folder, attack, position):
     replace(folder / "opening.txt", f"renju-opening 1\nattack {spelled(attack)}\n")
 
 
-class GivenUp(Exception):
-    """Ends what is asked at a reply below an attack that is given up."""
-
-
-class Effort:
-    """How many nodes were searched in vain, and with how many of them the attack that is gone on with is given up."""
-
-    def __init__(self):
-        self.nodes, self.most = 0, None
-
-    def is_over(self):
-        return self.most is not None and self.nodes >= self.most
-
-    @contextmanager
-    def bounded(self):
-        """Gives up what is done meanwhile once it has taken too long, where nothing around it is bounded."""
-        is_outermost = self.most is None
-        if is_outermost:
-            self.most = self.nodes + PATIENCE
-        try:
-            yield
-        finally:
-            if is_outermost:
-                self.most = None
-
-
 class Work:
     """The runs of the program at the replies that are left."""
 
     def __init__(self, opening, given):
         self.opening, self.given, self.depth, self.jobs, self.memory = opening, given, given.depth, given.jobs, given.memory
         self.clock = Clock()
-        # Whether the attack may be given up, and is, and how many replies a round has asked in vain.
-        self.may_give_up, self.is_given_up, self.lost = False, False, 0
 
-    def rounds(self, nodes, most):
-        """Asks the replies that are left with more each time. It answers with how many they were asked at last."""
-        while True:
-            self.round(nodes)
-            if not self.opening.left() or nodes >= most:
-                return nodes
-            nodes = min(TIMES * nodes, most)
-
-    def round(self, nodes):
-        """Asks each reply that is left."""
-        left, self.lost = self.opening.left(), 0
+    def round(self, nodes, *ways):
+        """Asks each reply that is left in some ways, one after the other, until it has a table."""
+        left = self.opening.left()
         began, pool = time.monotonic(), ThreadPoolExecutor(self.jobs)
-        runs = [pool.submit(self.settle, reply, nodes) for reply in left]
+        runs = [pool.submit(lambda reply: any(way(reply) for way in ways), reply) for reply in left]
         try:
             going = runs
             while going:
@@ -379,16 +263,6 @@ class Work:
         told = f"{known} of {len(opening.replies)} replies have a table, {len(opening.served)} of them another's"
         self.clock.say(f"{told}; {ended} of {all_of_round} asked with {nodes:,}{more}")
 
-    def settle(self, reply, nodes):
-        """Looks for a table at a reply: in what stands beside its position, among those found so far, and by a search."""
-        if self.is_given_up or self.given.effort.is_over():
-            return
-        if self.take_in(reply) or self.mend(reply, nodes) or self.serve(reply) or self.search(reply, nodes):
-            return
-        self.lost += 1
-        asked = len(self.opening.found) + len(self.opening.served) + self.lost
-        self.is_given_up = self.may_give_up and self.lost > FEW + asked // ONE_OF
-
     def run(self, words, text):
         """What the program says, its status, and its seconds."""
         began = time.monotonic()
@@ -406,7 +280,7 @@ class Work:
         for path, what in self.opening.answers.pop(reply, []):
             text = path.read_text(errors="replace")
             if text.startswith("renju-table 1\n"):
-                text = self.opening.under(reply, text)
+                text = under(self.opening.after.after(reply), text)
                 told, status, _ = self.run(["check", MOST_ARRIVALS], text)
                 if status != DONE:
                     tell(f"{path} is left there: renju check says {told.strip() or 'nothing'}")
@@ -420,27 +294,24 @@ class Work:
             path.unlink()
         return reply in self.opening.found
 
-    def mend(self, reply, nodes):
-        """Tries the first part of a like table at a reply, mended by searches, or once that is lost all others. It says whether one is
-        accepted there.
-        """
-        opening, after, most = self.opening, self.opening.after.after(reply), self.given.most
-        limits = nodes, min(TIMES * nodes, most), most
-        parts = [(f"{what}-{nodes}", place) for what, place in opening.alike(reply)]
-        left = [it for it in parts if not opening.is_lost(reply, it[0])]
-        for what, place in left[:1] if left == parts else left:
-            began = time.monotonic()
-            try:
-                faults = FAULTS if what == parts[0][0] else OTHER_FAULTS
+    def mend(self, reply, which, way):
+        """Tries some of the parts of like tables at a reply, mended by searches. It says whether one is accepted there."""
+        opening, after, (faults, times) = self.opening, self.opening.after.after(reply), way
+        limits = [min(it * self.given.nodes, self.given.most) for it in times]
+        for what, place in [*opening.alike(reply)][which]:
+            what, began = f"{what}-{limits[-1]}", time.monotonic()
+            if not opening.is_lost(reply, what):
                 text = opening.mending.mended(after, place, self.check, self.found, limits, faults)
-            except GivenUp:
-                return False
-            if text:
-                opening.put("tables", reply, text)
-            opening.add(reply, what, DONE if text else REFUSED, time.monotonic() - began)
-            if text:
-                return True
+                if self.keep(reply, what, text, began):
+                    return True
         return False
+
+    def keep(self, reply, what, text, began):
+        """Keeps the table that was found at a reply, if one was, and what was tried there."""
+        if text:
+            self.opening.put("tables", reply, text)
+        self.opening.add(reply, what, DONE if text else REFUSED, time.monotonic() - began)
+        return bool(text)
 
     def check(self, text):
         """What `check` says of a table's text, and the status."""
@@ -448,18 +319,23 @@ class Work:
 
     def found(self, text, nodes):
         """The text of a table that a search with so many nodes finds at a position, or None."""
-        if self.given.effort.is_over():
-            raise GivenUp
-        told, status, _ = self.run(["quiet", self.depth, nodes], text)
-        if status != DONE:
-            self.given.effort.nodes += nodes
+        told, status, _ = self.run(["quiet", self.depth, min(nodes, self.given.most)], text)
         return told if status == DONE else None
+
+    def join(self, position, attack, texts):
+        """What `join` says of an attack at a position and tables of replies to it: a table, or which reply has no answer."""
+        with TemporaryDirectory() as folder:
+            files = [Path(folder, f"{number}.txt") for number, _ in enumerate(texts)]
+            for path, text in zip(files, texts):
+                path.write_text(text)
+            told, status = answered(["join", spelled(attack), *files], position.text(), self.memory)
+        return told if status in (DONE, OPEN) else ""
 
     def serve(self, reply):
         """Tries the tables found so far at a reply. It says whether one is accepted there."""
         opening = self.opening
         for source in opening.sources(reply):
-            text = opening.under(reply, opening.path("tables", source).read_text())
+            text = under(opening.after.after(reply), opening.path("tables", source).read_text())
             _, status, seconds = self.run(["check", FEW_ARRIVALS], text)
             if status == DONE:
                 opening.put("served", reply, text)
@@ -476,68 +352,36 @@ class Work:
         text, status, seconds = self.run(["quiet", self.depth, nodes], self.opening.after.after(reply).text())
         if status == DONE:
             self.opening.put("tables", reply, text)
-        else:
-            self.given.effort.nodes += nodes
         self.opening.add(reply, what, status, seconds)
         return status == DONE
 
+    def attack(self, reply):
+        """Looks for a table at a reply by attacks, where it wasn't done before. It says whether there is one."""
+        what, began = f"attacks-{self.given.deeper}", time.monotonic()
+        if self.opening.is_lost(reply, what):
+            return False
+        tell(f"{both(reply, self.opening.after)} is taken apart")
+        attacking = Attacking(self.found, lambda text: self.check(text)[1] == DONE, self.join, self.given.nodes)
+        text = attacking.table(self.opening.after.after(reply), self.opening.hints(), self.given.deeper)
+        return self.keep(reply, what, text, began)
 
-def asked_deeper(opening, given, levels, whole=True):
-    """Asks the replies that are left, and takes those that are left then apart in turn, down to some levels; where not the whole is
-    wanted it ends with a reply that stays left. It answers with how many nodes they were asked at last.
+
+def settled(opening, given):
+    """Asks the replies that are left: the parts of like tables, searches with more nodes each time, and attacks. It answers with how many
+    nodes they were asked at last.
     """
     work, nodes = Work(opening, given), min(given.nodes, given.most)
-    work.round(nodes)
+    searched = lambda reply: work.search(reply, nodes)
+    work.round(nodes, work.take_in, lambda reply: work.mend(reply, slice(1), QUICKLY), work.serve, searched)
+    nodes = min(TIMES * nodes, given.most)
+    work.round(nodes, work.serve, searched, *([work.attack] if given.deeper else []))
+    while nodes < given.most:
+        nodes = min(TIMES * nodes, given.most)
+        work.round(nodes, work.serve, searched)
     if opening.like:
-        work.round(nodes)
-    for reply in opening.left() if levels else []:
-        taken_apart(work, reply, opening.hints, levels)
-        taken_apart(work, reply, lambda it: opening.attacks(it)[:QUICK], levels, NEARLY)
-    nodes = work.rounds(nodes, given.most)
-    for reply in opening.left() if levels else []:
-        if not taken_apart(work, reply, opening.attacks, levels) and not whole:
-            break
+        work.round(nodes, lambda reply: work.mend(reply, slice(1), THOROUGHLY), work.serve)
+        work.round(nodes, lambda reply: work.mend(reply, slice(1, None), OTHERS_MENDED), work.serve)
     return nodes
-
-
-def taken_apart(work, reply, attacks, levels, most=MOST_FILES):
-    """Takes a reply apart by attacks that weren't tried there, and with some levels what is left of them in turn, where that are at most
-    so many, few at once and more once all are tried. It says whether the reply has a table now.
-    """
-    opening, given, hopes = work.opening, work.given, []
-
-    def is_won(inner):
-        opening.apart.add((reply, inner.attack))
-        with given.effort.bounded():
-            asked_deeper(inner, given, levels - 1, False)
-        return is_joined(opening, reply, inner)
-
-    if reply not in opening.left() or given.effort.is_over() or work.serve(reply):
-        return reply not in opening.left()
-    for attack in [it for it in attacks(reply) if (reply, it) not in opening.apart]:
-        if given.effort.is_over():
-            break
-        tell(f"{both(reply, opening.after)} is taken apart by {both(attack, opening.after)}")
-        inner = Work(opening.deeper(reply, attack), given)
-        inner.may_give_up = True
-        inner.round(min(given.nodes, given.most))
-        left = len(inner.opening.left())
-        if is_joined(opening, reply, inner.opening) or levels and left <= NEARLY and is_won(inner.opening):
-            return True
-        if inner.is_given_up:
-            opening.apart.add((reply, attack))
-        elif levels and NEARLY < left <= most:
-            hopes.append(inner.opening)
-    return any(map(is_won, sorted(hopes, key=lambda inner: len(inner.left()))[:DEEPER]))
-
-
-def is_joined(opening, reply, inner):
-    """Whether the tables of an attack's replies are joined into one, which then is the table of the reply before the attack."""
-    if inner.left() or joined(inner)[1] != DONE:
-        return False
-    opening.put("tables", reply, (inner.folder / "table.txt").read_text())
-    opening.inner = {it: found for it, found in opening.inner.items() if it[0] != reply}
-    return True
 
 
 def lines(opening, depth, nodes):
@@ -619,9 +463,9 @@ def main():
     words = argparse.ArgumentParser(description=__doc__, formatter_class=argparse.RawDescriptionHelpFormatter)
     words.add_argument("--depth", type=ranged(*DEPTHS, "DEPTH"), default=40, metavar="D", help="the most moves after a reply; 40")
     words.add_argument("--nodes", type=ranged(*NODES, "NODES"), default=20_000, metavar="N", help="NODES at first; 20,000")
-    words.add_argument("--most", type=ranged(*NODES, "NODES"), default=1_000_000, metavar="M", help="the most of NODES; 1,000,000")
+    words.add_argument("--most", type=ranged(*NODES, "NODES"), default=4_000_000, metavar="M", help="the most of NODES; 4,000,000")
     words.add_argument("--like", action="append", default=[], metavar="FILE", help="a table of a like opening")
-    words.add_argument("--deeper", type=ranged(0, 10, "LEVELS"), default=0, metavar="L", help="levels below; 0")
+    words.add_argument("--deeper", type=ranged(0, 1_000_000, "ATTACKS"), default=0, metavar="A", help="attacks at a reply; 0")
     add_jobs(words)
     words.add_argument("--memory", type=ranged(64, 1_000_000, "MB"), metavar="MB", help="the most memory of a run")
     words.add_argument("--lines", action="store_true", help="print command lines, and run nothing")
@@ -639,8 +483,8 @@ def main():
     # The first run of the program may build it, which takes as much memory as it needs.
     asked(["foul"], opening.position.text())
     tell(f"after {both(opening.attack, opening.position)} there are {len(opening.replies)} replies to ask, and {len(left)} are left")
-    given.memory, given.effort = memory_of(given), Effort()
-    nodes = asked_deeper(opening, given, given.deeper)
+    given.memory = memory_of(given)
+    nodes = settled(opening, given)
     left = opening.left()
     if left:
         print(f"{len(left)} of {len(opening.replies)} replies are left with {nodes:,}: {all_of(left, opening.after)}")

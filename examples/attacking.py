@@ -1,0 +1,251 @@
+"""Looks for a win where one search finds none: many attacks are tried at a position, each at the replies near by, and those that leave the
+least are gone on with, by proof numbers.
+"""
+from collections import Counter
+
+from boards import WAYS, numbers, other, read
+from foul import an
+from solutions import both
+
+# With how many times the first nodes a position is searched, one after the other, and what it counts for once that was in vain.
+SEARCHES = [(1, 1), (10, 2), (50, 4)]
+# How many attacks are tried at a position at most. One of number N is gone on with once EACH * (N - 1) were tried.
+ATTACKS, EACH = 30, 15
+# How many of them are first moves of tables that win after other replies.
+HINTS = 6
+# After how many replies that are left an attack waits. The others are thought to leave half as many of them as those that were asked, of
+# which so many more are counted.
+LEFT, SURE = 4, 20
+# What an attack that makes a four counts for besides.
+FOUR = 1
+# How many tables of other replies are tried at one before a search.
+TRIES = 6
+# How near stones the replies and attacks stand, and what a point that is further away has to be worth.
+NEAR, MUCH = 2, 60
+# What a point is worth for each of its windows of five without stones of the one side, by the stones of the other.
+WORTH = 1, 6, 36, 200, 1000
+# The proof number of what has no attack left.
+HOPELESS = 1_000_000
+
+
+def apart(p, q):
+    return max(abs(p[0] - q[0]), abs(p[1] - q[1]))
+
+
+def under(position, text):
+    """The nodes of a table's text under another position."""
+    return "".join([position.text("renju-table 1"), *text.splitlines(keepends=True)[5:]])
+
+
+def first_move(text):
+    """The first move of a table's text."""
+    return numbers(text.rstrip("\n").rpartition("\n")[2].split(" ")[0])
+
+
+def worth(position, point):
+    """What a point is worth: what it makes and what it takes."""
+    stones, found = position.stones(), 0
+    for x, y in WAYS:
+        for first in range(-4, 1):
+            window = [(point[0] + (first + it) * x, point[1] + (first + it) * y) for it in range(5)]
+            if position.has(window[0]) and position.has(window[-1]):
+                sides = Counter(stones[it] for it in window if it in stones)
+                found += sum(WORTH[sides[it]] for it in ("black", "white") if not sides[other(it)])
+    return found
+
+
+def end_of(position, attack):
+    """Why an attack has no replies that can be answered, in words, or nothing."""
+    fouls, after = position.fouls(), position.after(attack)
+    if attack in fouls:
+        return f"is {an(fouls[attack])}"
+    if after.won_at() or not after.empties():
+        return "wins at once" if after.won_at() else "fills the board"
+    fives = after.fives(after.side())
+    if fives:
+        return f"lets {both(fives[0], after)} win"
+    return "" if after.empties()[1:] else "lets the board be filled"
+
+
+class Turn:
+    """A position of the side that is to win: the text of a table whose nodes win there once there is one, how many searches were in vain,
+    the attacks that were tried, and those that are to be.
+    """
+
+    def __init__(self, position):
+        self.position, self.table, self.searches, self.attacks, self.tried, self.untried = position, None, 0, [], 0, None
+
+    def number(self):
+        """Its proof number: how much is thought to be left until it has a table."""
+        if self.table:
+            return 0
+        searched = SEARCHES[max(self.searches, 1) - 1][1]
+        if self.untried is None:
+            return searched
+        return min([searched if self.untried else HOPELESS, *(it.number() for it in self.attacks)])
+
+    def attack(self):
+        """The attack to go on with, or None where another one is to be tried first."""
+        best = min(self.attacks, key=Attack.number, default=None)
+        return None if self.untried and (best is None or best.number() > 1 + self.tried / EACH) else best
+
+    def text(self):
+        """The text of its table."""
+        return under(self.position, self.table)
+
+
+class Attack:
+    """An attack at a position: the replies that have a table and those that are left, with their turns, the tables that were found for
+    them, and the replies that weren't asked.
+    """
+
+    def __init__(self, turn, point):
+        self.turn, self.point, self.after = turn, point, turn.position.after(point)
+        self.won, self.left, self.found, self.unasked, self.makes_four = {}, {}, [], [], False
+
+    def number(self):
+        """Its proof number: what its replies that are left have together, and what those that weren't asked are thought to have."""
+        known, asked = sum(it.number() for it in self.left.values()), len(self.won) + len(self.left)
+        more = max(1, known * len(self.unasked) / (asked + SURE) / 2) if self.unasked else 0
+        return known + more + FOUR * self.makes_four
+
+    def hints(self):
+        """The first moves of the tables found, the most frequent ones first."""
+        return [it for it, _ in Counter(map(first_move, self.found)).most_common(HINTS)]
+
+
+class Attacking:
+    """The search. `search` answers the text of a position with that of a table that so many nodes find, or None; `check` says whether a
+    text is accepted; and `join` answers a position, an attack and the texts of tables of replies with what is told of them, a table or
+    which reply has no answer.
+    """
+
+    def __init__(self, search, check, join, nodes):
+        self.search, self.check, self.join, self.nodes, self.turns, self.tried = search, check, join, nodes, {}, 0
+
+    def table(self, position, hints, attacks):
+        """The text of a table of a position at which a search was in vain, or None once so many attacks were tried in all. Those of the
+        hints come first.
+        """
+        root = self.turn_at(position)
+        root.searches, root.untried = len(SEARCHES), candidates(position, hints)
+        while not root.table and self.tried < attacks and root.number() < HOPELESS:
+            self.step(root, hints)
+        return root.table
+
+    def turn_at(self, position):
+        return self.turns.setdefault(position.text(), Turn(position))
+
+    def is_found(self, turn):
+        """Searches a turn without a table, with more nodes than before. It says whether it has one now."""
+        times, _ = SEARCHES[turn.searches]
+        turn.searches += 1
+        turn.table = self.search(turn.position.text(), times * self.nodes)
+        return bool(turn.table)
+
+    def step(self, turn, hints):
+        """Searches a turn with more nodes, tries another attack there, or goes on with the one that has the least number."""
+        if turn.searches < len(SEARCHES):
+            self.is_found(turn)
+            return
+        if turn.untried is None:
+            turn.untried = candidates(turn.position, hints)
+        attack = turn.attack()
+        if attack:
+            self.go_on(attack)
+        elif turn.untried:
+            attack = self.begun(turn, turn.untried.pop(0))
+        if attack:
+            self.finish(attack)
+
+    def begun(self, turn, point):
+        """An attack at a turn, asked at its replies until some are left, or None where the pass after it isn't won."""
+        self.tried += 1
+        turn.tried += 1
+        attack = Attack(turn, point)
+        after = attack.after
+        fives = after.fives(other(after.side()))
+        if fives:
+            attack.makes_four, attack.unasked = True, fives
+        else:
+            least = min(after.empties(), key=lambda it: (worth(after, it), it))
+            idle = self.turn_at(after.after(least))
+            if not (idle.table or idle.searches == 0 and self.is_found(idle)):
+                return None
+            attack.won[least] = idle
+            attack.found.append(idle.table)
+            attack.unasked = replies_near(after, idle.table, least)
+        turn.attacks.append(attack)
+        self.ask(attack)
+        return attack
+
+    def ask(self, attack):
+        """Asks the replies to an attack that weren't asked, until some more are left."""
+        most = len(attack.left) + LEFT
+        while attack.unasked and len(attack.left) < most:
+            self.reply(attack, attack.unasked.pop(0))
+
+    def reply(self, attack, reply):
+        """Asks a reply to an attack: the tables found for other replies, and one search."""
+        turn = self.turn_at(attack.after.after(reply))
+        if not self.is_served(attack, turn) and turn.searches == 0 and self.is_found(turn):
+            attack.found.append(turn.table)
+        (attack.won if turn.table else attack.left)[reply] = turn
+
+    def is_served(self, attack, turn):
+        """Tries the tables found for replies to an attack at a turn after another one. It says whether it has a table."""
+        if not turn.table:
+            tables = [*attack.found[:0:-1][:TRIES], *attack.found[:1]]
+            turn.table = next((it for it in tables if self.check(under(turn.position, it))), None)
+        return bool(turn.table)
+
+    def go_on(self, attack):
+        """Asks more replies to an attack, or goes on at the one that is left with the greatest number."""
+        if attack.unasked and all(it.searches == 1 for it in attack.left.values()):
+            self.ask(attack)
+            return
+        turn = max(attack.left.values(), key=Turn.number)
+        if not turn.table and (turn.untried is not None or not self.is_served(attack, turn)):
+            self.step(turn, attack.hints())
+
+    def finish(self, attack):
+        """Joins the tables of the replies to an attack once none is left. A reply that has no answer then is asked too."""
+        for reply in [it for it, turn in attack.left.items() if turn.table]:
+            attack.won[reply] = attack.left.pop(reply)
+            if attack.won[reply].table not in attack.found:
+                attack.found.append(attack.won[reply].table)
+        while not attack.left and not attack.unasked:
+            told = self.join(attack.turn.position, attack.point, [it.text() for it in attack.won.values()])
+            if told.startswith("renju-table"):
+                attack.turn.table = told
+                return
+            reply = numbers(told.split()[2]) if told.startswith("no answer ") else None
+            if reply is None or reply in attack.won:
+                attack.turn.attacks.remove(attack)
+                return
+            self.reply(attack, reply)
+
+
+def candidates(position, hints):
+    """The attacks that are tried at a position: hints, and then points near stones of the side, the worthiest first. Where the other side
+    has a five point it is that alone, and where it has several there is none.
+    """
+    side = position.side()
+    fives, own = position.fives(other(side)), getattr(position, side)
+    if fives:
+        return [it for it in fives if not fives[1:] and not end_of(position, it)]
+    values = {it: worth(position, it) for it in position.empties()}
+    near = [it for it in values if values[it] > MUCH or any(apart(it, stone) <= NEAR for stone in own)]
+    ordered = [*(it for it in hints if it in values), *sorted(near, key=lambda it: -values[it])]
+    return [it for it in dict.fromkeys(ordered) if not end_of(position, it)][:ATTACKS]
+
+
+def replies_near(after, text, idle):
+    """The replies to an attack that are asked, the worthiest first: those near stones, and the points of the table that wins after an idle
+    one.
+    """
+    stones, points = after.stones(), set()
+    for node in read(text.encode()).nodes:
+        points |= {node.attack, *(it for it, _ in node.replies)}
+    near = [it for it in after.empties() if it != idle and (it in points or any(apart(it, stone) <= NEAR for stone in stones))]
+    return sorted(near, key=lambda it: -worth(after, it))
