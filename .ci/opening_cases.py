@@ -88,7 +88,7 @@ def liked(ask, held, by, table):
     expect("openings.py: a like opening", (status, told.partition(":")[0]), (0, "corner/table.txt"))
     accepted = asked(["check", "1000000"], Path(folder, "corner/table.txt").read_text())
     expect("openings.py: its table from a like one", accepted, re.compile(r"accepted in \d+ moves, .*\n"))
-    expect("openings.py: the part of its stone's point", "7,2 like-1-8,8-20000 0 " in tried("corner"), True)
+    expect("openings.py: the part of its stone's point", "7,2 like-1-8,8-0 0 " in tried("corner"), True)
     expect("openings.py: nothing is searched", "quiet" in tried("corner"), False)
     # White's 5,0 is answered by 3,4, and no reply to that is answered by another move than 3,3.
     from boards import Node, read
@@ -100,13 +100,13 @@ def liked(ask, held, by, table):
     Path(folder, "bare.txt").write_text(like.text())
     words = ["--jobs", "1", "--deeper", "1", "--most", "20000", "--like", "bare.txt"]
     status, _, errors = ask(*words, "bare", "2,3", "-", text=QUIET, env=by("late"))
-    is_told = "5,0 (f9) is taken apart\n" in errors
+    is_told = "5,0 (f9) is taken apart by 1 attacks at most\n" in errors
     expect("openings.py: a part that is mended", (status, "5,0 like-1-5,0-20000 0 " in tried("bare"), is_told), (0, True, False))
     # Black's 8,0 wins nowhere, and where nothing is found no attack is gone on with.
     like.nodes[place] = Node((8, 0), False, node.rest, [])
     Path(folder, "bad.txt").write_text(like.text())
     status, _, errors = ask(*words[:-1], "bad.txt", "bad", "2,3", "-", text=QUIET, env=by("spent"))
-    is_told, is_lost = "5,0 (f9) is taken apart\n" in errors, "5,0 attacks-1 4 " in tried("bad")
+    is_told, is_lost = "5,0 (f9) is taken apart by 1 attacks at most\n" in errors, "5,0 attacks-1 4 " in tried("bad")
     expect("openings.py: a first move that is none", (status, is_told, is_lost), (5, True, True))
     Path(folder, "start.txt").write_text(FOUR_AND_REPLY)
     Path(folder, "two.txt").write_text(TABLE)
@@ -160,7 +160,7 @@ def mended():
     wanted = [f"2,3 {it},8" for it in range(OFTEN)]
     told = [moves(wanted[:it], "8,7", found=long) for it in (OFTEN - 1, OFTEN)]
     expect("mending.py: an answer that is wanted often", told, [[empties.index((4, 1))], [empties.index((1, 1))]])
-    expect("mending.py: many faults", moves(FAULTS * ["2,3 5,0 3,4 3,3"]), None)
+    expect("mending.py: many faults", moves((FAULTS + 1) * ["2,3 5,0 3,4 3,3"]), None)
     limits, plain = (1, 2, 3), [(2, 1), (3, 1), (4, 1), (1, 1), (4, 2), (3, 2), (2, 2), (2, 3), (3, 3)]
     told = [tries(4, limits, it) for it in (0, 1, EACH // 2, EACH, EACH + 1)]
     expect("mending.py: dear searches", told, [plain, plain, [(2, 2), (3, 2), *plain], [(2, 3), (3, 3), *plain], plain])
@@ -258,7 +258,7 @@ def opened(ask, held, by, covered, begun):
     folder = held("few/replies")[left[0]].parent
     subprocess.run(["sh", "-c", "\n".join(lines)], cwd=folder.parents[1], timeout=SECONDS)
     # The first attack of a table falls on a stone, and one line didn't come to its end.
-    spoilt, empty = folder / f"{left[0]}.12.20000.answer", folder / f"{left[1]}.1.1.answer"
+    spoilt, empty = folder / f"{left[0]}.12.200000.answer", folder / f"{left[1]}.1.1.answer"
     spoilt.write_text(re.sub(r"\n\d+,\d+( .*\n)$", r"\n2,3\1", spoilt.read_text()))
     empty.write_text("")
     status, told, errors = ask("--cover", "few")
@@ -268,7 +268,7 @@ def opened(ask, held, by, covered, begun):
     expect("openings.py: what was spent", f"{left[0]} quiet-3-2 5 0.0\n" in Path(folder.parent, "tried.txt").read_text(), True)
     status, told, errors = ask("--jobs", "1", "--deeper", "5", "--nodes", "1", "--most", "1", "deep", "2,3", "-", text=QUIET)
     # White's 7,3 makes a four of its column that 7,4 blocks, and the other way round.
-    fours = ["7,3 (h6) is taken apart", "7,4 (h5) is taken apart"]
+    fours = [f"{it} is taken apart by 5 attacks at most" for it in ("7,3 (h6)", "7,4 (h5)")]
     table = Path(folder.parents[1], "deep", "table.txt").read_text()
     expect("openings.py: replies that are taken apart", (status, errors.splitlines()[1:3]), (0, fours))
     expect("openings.py: their table", asked(["check", "1000000"], table), re.compile(r"accepted in \d+ moves, .*\n"))

@@ -67,13 +67,14 @@ class Mending:
         answers what is told of a text, and the status; `search` answers the text of a position with that of a table, or None. A search has
         so many nodes at first, more, and at most.
         """
-        for fault in range(faults):
+        for fault in range(faults + 1):
             table, places = self.table(position, root)
             text = table.text()
             told, status = check(text)
             if status == DONE:
                 return text
-            root = self.without_fault(line(told, table, places), search, limits, fault) if status == REFUSED else None
+            is_mended = fault < faults and status == REFUSED
+            root = self.without_fault(line(told, table, places), search, limits, fault) if is_mended else None
             if root is None:
                 break
         return None

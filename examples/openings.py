@@ -24,8 +24,8 @@ mended with more faults, and with ten times as many nodes from the end of the li
 comes first where faults are many; and so is what the table answers to the point that stands to its stone as the reply does to the stone
 here, and at a reply beside its stone what it answers to the stone here.
 
-With --deeper A a reply that ten times as many nodes don't win is taken apart by at most A attacks, as examples/attacking.py tells. What
-an interrupt ends of that begins anew.
+With --deeper A a reply that is left is taken apart by attacks, as examples/attacking.py tells, by a tenth of A at most and then by A.
+What an interrupt ends of that begins anew.
 
 --lines prints a command line of the shell for each reply that is left, for GNU parallel. What such a line writes stands beside the
 position in FOLDER/replies, and when the script goes on its table is taken in, if `renju check` accepts it.
@@ -64,9 +64,9 @@ MOST_FILES, MOST_ARRIVALS = 1_000, 1_000_000_000_000
 # How many tables that have served are tried at a reply each time, and how many others, and with how many arrivals.
 TRIES, OTHERS, FEW_ARRIVALS = 8, 3, 10_000_000_000
 TIMES = 10
-# How parts of like tables are mended: how many faults of each, and with how many times the first nodes. The first part at a reply is mended
-# quickly at first, and in the end with more, and then the others.
-QUICKLY, THOROUGHLY, OTHERS_MENDED = (64, (1, 1, 1)), (256, (1, 10, 50)), (32, (1, 10, 50))
+# How parts of like tables are mended: how many faults of each, and with how many times the least nodes. The first part at a reply is tried
+# as it stands, then mended quickly, and in the end with more; and then the others.
+AS_IT_STANDS, QUICKLY, THOROUGHLY, OTHERS_MENDED = (0, (0, 0, 0)), (32, (1, 1, 1)), (256, (1, 10, 50)), (32, (1, 10, 50))
 # With how many arrivals a part that is mended is checked, and a table of another reply to an attack.
 MENDED_ARRIVALS = 3_000_000_000
 # The statuses of `quiet`, and of `check` of another's nodes, after which a script goes on, and that of `join` where a reply is open.
@@ -234,6 +234,8 @@ class Work:
     def __init__(self, opening, given):
         self.opening, self.given, self.depth, self.jobs, self.memory = opening, given, given.depth, given.jobs, given.memory
         self.clock = Clock()
+        # With how many nodes positions after more moves are searched at first.
+        self.least = max(1, given.nodes // TIMES)
 
     def round(self, nodes, *ways):
         """Asks each reply that is left in some ways, one after the other, until it has a table."""
@@ -297,7 +299,7 @@ class Work:
     def mend(self, reply, which, way):
         """Tries some of the parts of like tables at a reply, mended by searches. It says whether one is accepted there."""
         opening, after, (faults, times) = self.opening, self.opening.after.after(reply), way
-        limits = [min(it * self.given.nodes, self.given.most) for it in times]
+        limits = [min(it * self.least, self.given.most) for it in times]
         for what, place in [*opening.alike(reply)][which]:
             what, began = f"{what}-{limits[-1]}", time.monotonic()
             if not opening.is_lost(reply, what):
@@ -355,14 +357,14 @@ class Work:
         self.opening.add(reply, what, status, seconds)
         return status == DONE
 
-    def attack(self, reply):
-        """Looks for a table at a reply by attacks, where it wasn't done before. It says whether there is one."""
-        what, began = f"attacks-{self.given.deeper}", time.monotonic()
-        if self.opening.is_lost(reply, what):
+    def attack(self, reply, attacks):
+        """Looks for a table at a reply by so many attacks, where it wasn't done before. It says whether there is one."""
+        what, began = f"attacks-{attacks}", time.monotonic()
+        if not attacks or self.opening.is_lost(reply, what):
             return False
-        tell(f"{both(reply, self.opening.after)} is taken apart")
-        attacking = Attacking(self.found, lambda text: self.check(text)[1] == DONE, self.join, self.given.nodes)
-        text = attacking.table(self.opening.after.after(reply), self.opening.hints(), self.given.deeper)
+        tell(f"{both(reply, self.opening.after)} is taken apart by {attacks} attacks at most")
+        attacking = Attacking(self.found, lambda text: self.check(text)[1] == DONE, self.join, self.least)
+        text = attacking.table(self.opening.after.after(reply), self.opening.hints(), attacks)
         return self.keep(reply, what, text, began)
 
 
@@ -372,15 +374,16 @@ def settled(opening, given):
     """
     work, nodes = Work(opening, given), min(given.nodes, given.most)
     searched = lambda reply: work.search(reply, nodes)
-    work.round(nodes, work.take_in, lambda reply: work.mend(reply, slice(1), QUICKLY), work.serve, searched)
-    nodes = min(TIMES * nodes, given.most)
-    work.round(nodes, work.serve, searched, *([work.attack] if given.deeper else []))
+    mended = lambda way, which=slice(1): lambda reply: work.mend(reply, which, way)
+    work.round(nodes, work.take_in, mended(AS_IT_STANDS), work.serve, searched)
+    for attacks in (given.deeper // TIMES, given.deeper):
+        work.round(nodes, work.serve, mended(QUICKLY), lambda reply: work.attack(reply, attacks))
     while nodes < given.most:
         nodes = min(TIMES * nodes, given.most)
         work.round(nodes, work.serve, searched)
     if opening.like:
-        work.round(nodes, lambda reply: work.mend(reply, slice(1), THOROUGHLY), work.serve)
-        work.round(nodes, lambda reply: work.mend(reply, slice(1, None), OTHERS_MENDED), work.serve)
+        work.round(nodes, mended(THOROUGHLY), work.serve)
+        work.round(nodes, mended(OTHERS_MENDED, slice(1, None)), work.serve)
     return nodes
 
 
@@ -462,7 +465,7 @@ def memory_of(given):
 def main():
     words = argparse.ArgumentParser(description=__doc__, formatter_class=argparse.RawDescriptionHelpFormatter)
     words.add_argument("--depth", type=ranged(*DEPTHS, "DEPTH"), default=40, metavar="D", help="the most moves after a reply; 40")
-    words.add_argument("--nodes", type=ranged(*NODES, "NODES"), default=20_000, metavar="N", help="NODES at first; 20,000")
+    words.add_argument("--nodes", type=ranged(*NODES, "NODES"), default=200_000, metavar="N", help="NODES at first; 200,000")
     words.add_argument("--most", type=ranged(*NODES, "NODES"), default=4_000_000, metavar="M", help="the most of NODES; 4,000,000")
     words.add_argument("--like", action="append", default=[], metavar="FILE", help="a table of a like opening")
     words.add_argument("--deeper", type=ranged(0, 1_000_000, "ATTACKS"), default=0, metavar="A", help="attacks at a reply; 0")
