@@ -8,16 +8,18 @@ from foul import an
 from solutions import both
 
 # With how many times the first nodes a position is searched, one after the other, and what it counts for once that was in vain.
-SEARCHES = [(1, 1), (10, 2), (50, 4)]
+SEARCHES = [(1, 1), (10, 2)]
 # How many attacks are tried at a position at most. One of number N is gone on with once EACH * (N - 1) were tried.
 ATTACKS, EACH = 30, 15
 # How many of them are first moves of tables that win after other replies.
 HINTS = 6
 # After how many replies that are left an attack waits. The others are thought to leave half as many of them as those that were asked, of
 # which so many more are counted.
-LEFT, SURE = 4, 20
+LEFT, SURE = 4, 60
+# A reply that is searched in vain after so many attacks counts as searched so after the others too.
+OFTEN = 2
 # What an attack that makes a four counts for besides.
-FOUR = 1
+FOUR = 2
 # How many tables of other replies are tried at one before a search.
 TRIES = 6
 # How near stones the replies and attacks stand, and what a point that is further away has to be worth.
@@ -74,12 +76,14 @@ class Turn:
 
     def __init__(self, position):
         self.position, self.table, self.searches, self.attacks, self.tried, self.untried = position, None, 0, [], 0, None
+        # After how many attacks here a reply was left, so that it is asked first, and after how many it was searched so often in vain.
+        self.leaving, self.vain = Counter(), Counter()
 
-    def number(self):
-        """Its proof number: how much is thought to be left until it has a table."""
+    def number(self, searches=0):
+        """Its proof number: how much is thought to be left until it has a table, once it was searched so often."""
         if self.table:
             return 0
-        searched = SEARCHES[max(self.searches, 1) - 1][1]
+        _, searched = SEARCHES[max(self.searches, searches, 1) - 1]
         if self.untried is None:
             return searched
         return min([searched if self.untried else HOPELESS, *(it.number() for it in self.attacks)])
@@ -105,9 +109,16 @@ class Attack:
 
     def number(self):
         """Its proof number: what its replies that are left have together, and what those that weren't asked are thought to have."""
-        known, asked = sum(it.number() for it in self.left.values()), len(self.won) + len(self.left)
+        known, asked = sum(turn.number(self.searches(it)) for it, turn in self.left.items()), len(self.won) + len(self.left)
         more = max(1, known * len(self.unasked) / (asked + SURE) / 2) if self.unasked else 0
         return known + more + FOUR * self.makes_four
+
+    def searches(self, reply):
+        """How often a reply that is left is thought to be searched in vain, by what came of it after other attacks."""
+        found = self.left[reply].searches
+        while found < len(SEARCHES) and self.turn.vain[reply, found + 1] >= OFTEN:
+            found += 1
+        return found
 
     def hints(self):
         """The first moves of the tables found, the most frequent ones first."""
@@ -175,6 +186,7 @@ class Attacking:
             attack.won[least] = idle
             attack.found.append(idle.table)
             attack.unasked = replies_near(after, idle.table, least)
+        attack.unasked.sort(key=lambda it: -turn.leaving[it])
         turn.attacks.append(attack)
         self.ask(attack)
         return attack
@@ -191,6 +203,7 @@ class Attacking:
         if not self.is_served(attack, turn) and turn.searches == 0 and self.is_found(turn):
             attack.found.append(turn.table)
         (attack.won if turn.table else attack.left)[reply] = turn
+        attack.turn.leaving[reply] += not turn.table
 
     def is_served(self, attack, turn):
         """Tries the tables found for replies to an attack at a turn after another one. It says whether it has a table."""
@@ -204,9 +217,11 @@ class Attacking:
         if attack.unasked and all(it.searches == 1 for it in attack.left.values()):
             self.ask(attack)
             return
-        turn = max(attack.left.values(), key=Turn.number)
+        reply, turn = max(attack.left.items(), key=lambda it: it[1].number())
         if not turn.table and (turn.untried is not None or not self.is_served(attack, turn)):
             self.step(turn, attack.hints())
+            if turn.untried is None:
+                attack.turn.vain[reply, turn.searches] += -OFTEN if turn.table else 1
 
     def finish(self, attack):
         """Joins the tables of the replies to an attack once none is left. A reply that has no answer then is asked too."""
