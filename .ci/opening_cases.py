@@ -70,6 +70,12 @@ def openings():
         # Any of the two fives or both may be left to the rest.
         expect("openings.py: they are joined", ask("e")[1], re.compile(r"e/table\.txt: moves 2, nodes 3\n"))
         expect("openings.py: their table", asked(["check", "57"], Path(folder, "e/table.txt").read_text()), "accepted in 2 moves, 57 arrivals\n")
+        # With Black's stone on 4,1 and none in the corner 0,0, what White answers there is what it answers to 3,1 here, right being left.
+        beside = EVEN.replace("0,0 7,0", "7,0 4,1")
+        told = ask("k", "4,4", "-", text=beside)[:2], ask("--known", "k/table.txt", "known", "4,4", "-", text=EVEN, env=by("spent"))[0]
+        expect("openings.py: another opening", (told[0][0], told[1], "\n3,1 " in Path(folder, "known/tried.txt").read_text()), (0, 0, False))
+        first = [path.read_text().splitlines()[:5] for path in (held("known/tables")["3,1"], held("known/replies")["3,1"])]
+        expect("openings.py: what it answers", first[0][1:], first[1][1:])
         told = ask("--cover", "f", "5,9", "-", text=FOULING)[:2]
         expect("openings.py: fouls are no replies", told, (0, "covered in 2 moves, 110 replies by 110 tables\n"))
         ask("--cover", "--jobs", "1", "--memory", "100", "m", "4,4", "-", text=EVEN, env=by("limited"))

@@ -2,7 +2,8 @@
 """Takes an opening apart: of a position and an attack it looks for a win after each reply, with all processors, keeps what is found in
 a folder, and has `renju join` make one table of them in the end, FOLDER/table.txt.
 
-    openings.py [--depth D] [--nodes N] [--most M] [--deeper A] [--like FILE] [--jobs J] [--memory MB] [--cover] FOLDER [X,Y FILE]
+    openings.py [--depth D] [--nodes N] [--most M] [--deeper A] [--like FILE] [--known FILE] [--jobs J] [--memory MB] [--cover]
+                FOLDER [X,Y FILE]
     openings.py --lines [--depth D] [--nodes N] FOLDER [X,Y FILE]
 
 A folder begins with X,Y, the attack, and FILE, or - for standard input, a text that examples/position.py takes, or a table, whose
@@ -24,8 +25,11 @@ mended with more faults, and with ten times as many nodes from the end of the li
 comes first where faults are many; and so is what the table answers to the point that stands to its stone as the reply does to the stone
 here, and at a reply beside its stone what it answers to the stone here.
 
-With --deeper A a reply that is left is taken apart by attacks, as examples/attacking.py tells, by a tenth of A at most and then by A.
-What an interrupt ends of that begins anew.
+Each --known FILE is a table of another position with the same first move. Where a reply leads to what comes about there after a reply,
+as it stands or by a symmetry, what it answers is tried before all others.
+
+With --deeper A a reply that is left is taken apart by attacks, as examples/attacking.py tells: by a tenth of A at most before it is asked
+with more than N nodes, and by A in the end. What an interrupt ends of that begins anew.
 
 --lines prints a command line of the shell for each reply that is left, for GNU parallel. What such a line writes stands beside the
 position in FOLDER/replies, and when the script goes on its table is taken in, if `renju check` accepts it.
@@ -51,9 +55,10 @@ from tempfile import TemporaryDirectory
 sys.dont_write_bytecode = True
 
 from attacking import Attacking, apart, end_of, first_move, under
-from boards import ENDING, PROGRAM, Table, Wrong, answered, asked, bytes_of, end_runs, numbers, read_file, saying, spelled, tell
+from boards import ENDING, PROGRAM, Table, Wrong, answered, asked, bytes_of, end_runs, numbers, read, read_file, saying, spelled, tell
 from mending import Mending
 from outputs import replace
+from parts import after as part_after
 from position import EXCHANGING, IMAGES, image, points, rule_of, size_of, understood
 from solutions import all_of, both
 from solving import DEPTHS, NODES, SECONDS_OF_SILENCE, Clock, add_jobs, ranged
@@ -145,6 +150,24 @@ class Opening:
                 self.like[number] = table.position, self.mending.add(table.nodes)
                 (self.folder / "like").mkdir(exist_ok=True)
                 replace(self.folder / "like" / f"{number}.txt", table.text())
+
+    def know(self, file):
+        """Puts what a table of another position answers beside the replies that lead to the same positions, as they are or by a symmetry. It
+        is read where one does.
+        """
+        text = "".join(["renju-position 1\n", *Path(file).read_text().splitlines(keepends=True)[1:5]])
+        there, table, right, last = read(text.encode()).after(self.attack), None, self.after.width - 1, self.after.height - 1
+        for name in [it for it in IMAGES if right == last or it not in EXCHANGING]:
+            stones = {(IMAGES[name](*it, right, last), side) for it, side in there.stones().items()}
+            back = {IMAGES[name](*it, right, last): it for it in there.empties()}
+            for reply in [it for it in self.left() if it not in self.answers]:
+                here = {*self.after.after(reply).stones().items()}
+                if stones < here and len(here) == len(stones) + 1 and there.rule == self.after.rule:
+                    table = table or like_table(file)
+                    [(point, _)] = here - stones
+                    path = self.path("replies", reply).with_suffix(".1.1.answer")
+                    replace(path, asked(["image", name], part_after(table, back[point]).text()))
+                    self.answers[reply] = [(path, "quiet-1-1")]
 
     def alike(self, reply):
         """The parts of like tables for a reply: what is told of each in tried.txt, and its root."""
@@ -376,11 +399,11 @@ def settled(opening, given):
     searched = lambda reply: work.search(reply, nodes)
     mended = lambda way, which=slice(1): lambda reply: work.mend(reply, which, way)
     work.round(nodes, work.take_in, mended(AS_IT_STANDS), work.serve, searched)
-    for attacks in (given.deeper // TIMES, given.deeper):
-        work.round(nodes, work.serve, mended(QUICKLY), lambda reply: work.attack(reply, attacks))
+    work.round(nodes, work.serve, mended(QUICKLY), lambda reply: work.attack(reply, given.deeper // TIMES))
     while nodes < given.most:
         nodes = min(TIMES * nodes, given.most)
         work.round(nodes, work.serve, searched)
+    work.round(nodes, work.serve, lambda reply: work.attack(reply, given.deeper))
     if opening.like:
         work.round(nodes, mended(THOROUGHLY), work.serve)
         work.round(nodes, mended(OTHERS_MENDED, slice(1, None)), work.serve)
@@ -445,6 +468,8 @@ def opening_of(given):
         if table.root().attack != opening.attack or table.root().wins:
             raise Wrong(f"the first move of {file} is not {both(opening.attack, opening.position)}, or it wins at once")
     opening.add_like([table for _, table in likes])
+    for file in given.known:
+        opening.know(file)
     return opening
 
 
@@ -468,6 +493,7 @@ def main():
     words.add_argument("--nodes", type=ranged(*NODES, "NODES"), default=200_000, metavar="N", help="NODES at first; 200,000")
     words.add_argument("--most", type=ranged(*NODES, "NODES"), default=4_000_000, metavar="M", help="the most of NODES; 4,000,000")
     words.add_argument("--like", action="append", default=[], metavar="FILE", help="a table of a like opening")
+    words.add_argument("--known", action="append", default=[], metavar="FILE", help="a table of another opening")
     words.add_argument("--deeper", type=ranged(0, 1_000_000, "ATTACKS"), default=0, metavar="A", help="attacks at a reply; 0")
     add_jobs(words)
     words.add_argument("--memory", type=ranged(64, 1_000_000, "MB"), metavar="MB", help="the most memory of a run")
