@@ -19,7 +19,7 @@ LEFT, SURE = 4, 60
 # A reply that is searched in vain after so many attacks counts as searched so after the others too.
 OFTEN = 2
 # What an attack that makes a four counts for besides.
-FOUR = 2
+FOUR = 1
 # How many tables of other replies are tried at one before a search.
 TRIES = 6
 # How near stones the replies and attacks stand, and what a point that is further away has to be worth.
@@ -109,9 +109,14 @@ class Attack:
 
     def number(self):
         """Its proof number: what its replies that are left have together, and what those that weren't asked are thought to have."""
-        known, asked = sum(turn.number(self.searches(it)) for it, turn in self.left.items()), len(self.won) + len(self.left)
+        known = sum(turn.number(self.searches(it)) for it, turn in self.left.items()) + sum(map(self.is_feared, self.unasked))
+        asked = len(self.won) + len(self.left)
         more = max(1, known * len(self.unasked) / (asked + SURE) / 2) if self.unasked else 0
         return known + more + FOUR * self.makes_four
+
+    def is_feared(self, reply):
+        """Whether a reply was left after other attacks here."""
+        return self.turn.leaving[reply] >= OFTEN
 
     def searches(self, reply):
         """How often a reply that is left is thought to be searched in vain, by what came of it after other attacks."""
@@ -192,10 +197,14 @@ class Attacking:
         return attack
 
     def ask(self, attack):
-        """Asks the replies to an attack that weren't asked, until some more are left."""
+        """Asks the replies to an attack that weren't asked, until some more are left, or one that was left after other attacks."""
         most = len(attack.left) + LEFT
         while attack.unasked and len(attack.left) < most:
-            self.reply(attack, attack.unasked.pop(0))
+            reply = attack.unasked.pop(0)
+            is_feared = attack.is_feared(reply)
+            self.reply(attack, reply)
+            if is_feared and reply in attack.left:
+                return
 
     def reply(self, attack, reply):
         """Asks a reply to an attack: the tables found for other replies, and one search."""
