@@ -212,12 +212,12 @@ class Opening:
         left = [it for it in found if not self.is_lost(reply, f"table-{spelled(it)}")]
         return [*[it for it in left if self.uses[it]][:TRIES], *[it for it in left if not self.uses[it]][:OTHERS]]
 
-    def hints(self):
-        """The attacks that won where replies were taken apart, the most frequent ones first."""
+    def hints(self, reply):
+        """The attacks that won where other replies were taken apart, those of near replies first."""
         with self.lock:
-            won = [numbers(reply) for (reply, what), status in self.tried.items() if what.startswith("attacks-") and status == DONE]
-        uses = Counter(first_move(self.path("tables", it).read_text()) for it in won if it in self.found)
-        return [it for it, _ in uses.most_common()]
+            won = [numbers(it) for (it, what), status in self.tried.items() if what.startswith("attacks-") and status == DONE]
+        near = sorted((it for it in won if it in self.found), key=lambda it: apart(it, reply))
+        return [*dict.fromkeys(first_move(self.path("tables", it).read_text()) for it in near)]
 
     def file(self, reply):
         """The file of a reply's table."""
@@ -387,7 +387,7 @@ class Work:
             return False
         tell(f"{both(reply, self.opening.after)} is taken apart by {attacks} attacks at most")
         attacking = Attacking(self.found, lambda text: self.check(text)[1] == DONE, self.join, self.least)
-        text = attacking.table(self.opening.after.after(reply), self.opening.hints(), attacks)
+        text = attacking.table(self.opening.after.after(reply), self.opening.hints(reply), attacks)
         return self.keep(reply, what, text, began)
 
 
