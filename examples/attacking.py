@@ -75,7 +75,7 @@ class Turn:
     """
 
     def __init__(self, position):
-        self.position, self.table, self.searches, self.attacks, self.tried, self.untried = position, None, 0, [], 0, None
+        self.position, self.table, self.searches, self.attacks, self.tried, self.untried = position, None, 0, [], [], None
         # After how many attacks here a reply was left, so that it is asked first, and after how many it was searched so often in vain.
         self.leaving, self.vain = Counter(), Counter()
 
@@ -91,7 +91,7 @@ class Turn:
     def attack(self):
         """The attack to go on with, or None where another one is to be tried first."""
         best = min(self.attacks, key=Attack.number, default=None)
-        return None if self.untried and (best is None or best.number() > 1 + self.tried / EACH) else best
+        return None if self.untried and (best is None or best.number() > 1 + len(self.tried) / EACH) else best
 
     def text(self):
         """The text of its table."""
@@ -141,10 +141,10 @@ class Attacking:
 
     def table(self, position, hints, attacks):
         """The text of a table of a position at which a search was in vain, or None once so many attacks were tried in all. Those of the
-        hints come first.
+        hints come first. It goes on where it was asked with fewer attacks.
         """
         root = self.turn_at(position)
-        root.searches, root.untried = len(SEARCHES), candidates(position, hints)
+        root.searches, root.untried = len(SEARCHES), [it for it in candidates(position, hints) if it not in root.tried]
         while not root.table and self.tried < attacks and root.number() < HOPELESS:
             self.step(root, hints)
         return root.table
@@ -177,7 +177,7 @@ class Attacking:
     def begun(self, turn, point):
         """An attack at a turn, asked at its replies until some are left, or None where the pass after it isn't won."""
         self.tried += 1
-        turn.tried += 1
+        turn.tried.append(point)
         attack = Attack(turn, point)
         after = attack.after
         fives = after.fives(other(after.side()))

@@ -28,8 +28,8 @@ here, and at a reply beside its stone what it answers to the stone here.
 Each --known FILE is a table of another position with the same first move. Where a reply leads to what comes about there after a reply,
 as it stands or by a symmetry, what it answers is tried before all others.
 
-With --deeper A a reply that is left is taken apart by attacks, as examples/attacking.py tells: by a tenth of A at most before it is asked
-with more than N nodes, and by A in the end. What an interrupt ends of that begins anew.
+With --deeper A a reply that is left is taken apart by attacks, as examples/attacking.py tells: by a tenth of A at most, and by A once that
+was tried at all, before any is asked with more than N nodes. What an interrupt ends of that begins anew.
 
 --lines prints a command line of the shell for each reply that is left, for GNU parallel. What such a line writes stands beside the
 position in FOLDER/replies, and when the script goes on its table is taken in, if `renju check` accepts it.
@@ -257,6 +257,8 @@ class Work:
     def __init__(self, opening, given):
         self.opening, self.given, self.depth, self.jobs, self.memory = opening, given, given.depth, given.jobs, given.memory
         self.clock = Clock()
+        # The searches by attacks at replies, which are gone on with once more of them are allowed.
+        self.attacking = {}
         # With how many nodes positions after more moves are searched at first.
         self.least = max(1, given.nodes // TIMES)
 
@@ -386,8 +388,11 @@ class Work:
         if not attacks or self.opening.is_lost(reply, what):
             return False
         tell(f"{both(reply, self.opening.after)} is taken apart by {attacks} attacks at most")
-        attacking = Attacking(self.found, lambda text: self.check(text)[1] == DONE, self.join, self.least)
-        text = attacking.table(self.opening.after.after(reply), self.opening.hints(reply), attacks)
+        if reply not in self.attacking:
+            self.attacking[reply] = Attacking(self.found, lambda text: self.check(text)[1] == DONE, self.join, self.least)
+        text = self.attacking[reply].table(self.opening.after.after(reply), self.opening.hints(reply), attacks)
+        if text:
+            del self.attacking[reply]
         return self.keep(reply, what, text, began)
 
 
@@ -398,12 +403,13 @@ def settled(opening, given):
     work, nodes = Work(opening, given), min(given.nodes, given.most)
     searched = lambda reply: work.search(reply, nodes)
     mended = lambda way, which=slice(1): lambda reply: work.mend(reply, which, way)
+    attacked = lambda attacks: lambda reply: work.attack(reply, attacks)
     work.round(nodes, work.take_in, mended(AS_IT_STANDS), work.serve, searched)
-    work.round(nodes, work.serve, mended(QUICKLY), lambda reply: work.attack(reply, given.deeper // TIMES))
+    work.round(nodes, work.serve, mended(QUICKLY), attacked(given.deeper // TIMES))
+    work.round(nodes, work.serve, attacked(given.deeper))
     while nodes < given.most:
         nodes = min(TIMES * nodes, given.most)
         work.round(nodes, work.serve, searched)
-    work.round(nodes, work.serve, lambda reply: work.attack(reply, given.deeper))
     if opening.like:
         work.round(nodes, mended(THOROUGHLY), work.serve)
         work.round(nodes, mended(OTHERS_MENDED, slice(1, None)), work.serve)
