@@ -1,15 +1,20 @@
 """What the scripts beside it share: the program, or another one with the same words, and the time of a run.
 
-Times are those of the processor, which tell more on a busy machine than those of a clock. It is imported before anything is made,
-so that a script with --help tells what it is at once.
+Times are those of the processor, which tell more on a busy machine than those of a clock. Where a run takes no longer than a start of
+the program, and the machine is busy, they tell little: with INSTRUCTIONS=50 in the environment `compare` counts the instructions of the
+first 50 texts instead, by callgrind of valgrind. It is imported before anything is made, so that a script with --help tells what it is
+at once.
 """
 import os
+import re
 import resource
 import shutil
 import subprocess
 import sys
 
 HERE = os.path.dirname(os.path.abspath(__file__))
+# Of how many texts the instructions are counted, or 0 where times are measured.
+COUNTED = int(os.environ.get("INSTRUCTIONS", "0"))
 
 
 def told(kind, error, trace):
@@ -50,6 +55,13 @@ def run(command, words, text):
     return spent() - before, done.stdout, done.returncode
 
 
+def counted(command, words, text):
+    """The instructions of a run, what it printed, and its status."""
+    counting = ["valgrind", "--tool=callgrind", "--callgrind-out-file=/dev/null"]
+    done = subprocess.run(counting + command + words, input=text, stdout=subprocess.PIPE, stderr=subprocess.PIPE)
+    return int(re.search(rb"Collected : (\d+)", done.stderr).group(1)), done.stdout, done.returncode
+
+
 def best(command, words, text, wanted, runs=5):
     """The least seconds of some runs, each of which has to print what is wanted."""
     least = float("inf")
@@ -76,10 +88,26 @@ def in_turns(all_programs, words, text, runs=5):
 
 def compare(all_programs, words, texts, looked, what="positions", runs=5):
     """Prints for each program how many of what it looks at it does per second, with its starts taken off. All have to answer the same."""
+    if COUNTED:
+        compare_counts(all_programs, words, texts[:COUNTED])
+        return
     took = [in_turns(all_programs, words, text, runs) for text in texts]
     for i, program in enumerate(all_programs):
         started = sum(each[i][1] for each in took)
         seconds = sum(each[i][0] for each in took) - started
         print(f"{' '.join(program)}: {looked} {what} in {seconds:.3f} s, {looked / seconds:,.0f} {what}/s; so many starts alone {started:.3f} s")
     if any(best[2] != each[0][2] for each in took for best in each):
+        sys.exit("the programs do not answer the same")
+
+
+def compare_counts(all_programs, words, texts):
+    """Prints for each program how many instructions a text takes, with those of a start taken off. All have to answer the same."""
+    answers = []
+    for program in all_programs:
+        start = counted(program, [], b"")[0]
+        runs = [counted(program, words, text) for text in texts]
+        each = sum(it[0] - start for it in runs) / len(texts)
+        print(f"{' '.join(program)}: {each:,.0f} instructions for each of {len(texts)}; a start {start:,}")
+        answers.append([it[1:] for it in runs])
+    if any(it != answers[0] for it in answers):
         sys.exit("the programs do not answer the same")
