@@ -172,22 +172,41 @@ def mended():
     expect("mending.py: dear searches", told, [plain, plain, [(2, 2), (3, 2), *plain], [(2, 3), (3, 3), *plain], plain])
 
 
+def joined(position, attack, texts):
+    """What `join` says of the texts of tables after an attack."""
+    with tempfile.TemporaryDirectory() as folder:
+        files = [f"{folder}/{number}" for number, _ in enumerate(texts)]
+        for path, text in zip(files, texts):
+            Path(path).write_text(text)
+        return asked(["join", ",".join(map(str, attack)), *files], position.text())
+
+
+def fouled():
+    """A reply that is a foul needs no answer."""
+    from attacking import Attacking
+    from boards import answered, read
+
+    # White's 6,7 makes a four, whose five point 7,7 is a double-three for Black.
+    start = read(position("renju", 15, "9,5 8,6 2,7 7,8 7,9", "3,7 4,7 5,7 14,14").encode())
+    search = lambda text, nodes: None if text == start.text() else asked(["quiet", "2", str(nodes)], text)
+    found = Attacking(search, None, joined, 100).table(start, [(6, 7)], 1)
+    told = found and (read(found.encode()).root().attack, *answered(["check", "1000"], found))
+    # An arrival at the root, and one after each of the 214 replies that are no foul.
+    expect("attacking.py: a four whose block is a foul", told, ((6, 7), "accepted in 2 moves, 215 arrivals\n", 0))
+
+
 def attacked():
     """Where no search wins an attack does, and after a reply that it leaves another one."""
     import attacking
     from attacking import ATTACKS, HOPELESS, SEARCHES, Attack, Attacking, Turn, candidates, replies_near
-    from boards import answered, read, spelled
+    from boards import answered, read
 
     start, sizes = read(QUIET.encode()), []
     head = lambda text: "".join(["renju-position 1\n", *text.splitlines(keepends=True)[1:5]])
 
     def join(position, attack, texts):
         sizes.append(len(texts))
-        with tempfile.TemporaryDirectory() as folder:
-            files = [f"{folder}/{number}" for number, _ in enumerate(texts)]
-            for path, text in zip(files, texts):
-                Path(path).write_text(text)
-            return asked(["join", spelled(attack), *files], position.text())
+        return joined(position, attack, texts)
 
     def attack(hints, attacks, is_lost, join=join):
         """How many attacks were tried, and the first move of what was found, where no search or table wins at some positions."""
@@ -310,4 +329,4 @@ def unopened():
         expect("openings.py: what was there", (sorted(os.listdir(folder)), os.listdir(f"{folder}/mine")), (["mine", "o"], ["opening.txt"]))
 
 
-GROUPS = (openings, unopened, parts, mended, attacked)
+GROUPS = (openings, unopened, parts, mended, fouled, attacked)

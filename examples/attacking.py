@@ -11,7 +11,7 @@ from solutions import both
 SEARCHES = [(1, 1), (10, 2)]
 # How many attacks are tried at a position at most. One of number N is gone on with once EACH * (N - 1) were tried.
 ATTACKS, EACH = 30, 15
-# How many of them are first moves of tables that win after other replies.
+# How many of them are first moves of tables that win after other replies to the attack before.
 HINTS = 6
 # After how many replies that are left an attack waits. The others are thought to leave half as many of them as those that were asked, of
 # which so many more are counted.
@@ -56,9 +56,11 @@ def worth(position, point):
     return found
 
 
-def end_of(position, attack):
-    """Why an attack has no replies that can be answered, in words, or nothing."""
-    fouls, after = position.fouls(), position.after(attack)
+def end_of(position, attack, fouls=None):
+    """Why an attack has no replies that can be answered, in words, or nothing. The fouls of the position are asked for where they aren't
+    given.
+    """
+    fouls, after = position.fouls() if fouls is None else fouls, position.after(attack)
     if attack in fouls:
         return f"is {an(fouls[attack])}"
     if after.won_at() or not after.empties():
@@ -140,8 +142,8 @@ class Attacking:
         self.search, self.check, self.join, self.nodes, self.turns, self.tried = search, check, join, nodes, {}, 0
 
     def table(self, position, hints, attacks):
-        """The text of a table of a position at which a search was in vain, or None once so many attacks were tried in all. Those of the
-        hints come first. It goes on where it was asked with fewer attacks.
+        """The text of a table of a position at which a search was in vain, or None once so many attacks were tried in all, or none is left.
+        Those of the hints come first. It goes on where it was asked with fewer attacks.
         """
         root = self.turn_at(position)
         root.searches, root.untried = len(SEARCHES), [it for it in candidates(position, hints) if it not in root.tried]
@@ -180,17 +182,21 @@ class Attacking:
         turn.tried.append(point)
         attack = Attack(turn, point)
         after = attack.after
-        fives = after.fives(other(after.side()))
+        fouls, fives = after.fouls(), after.fives(other(after.side()))
+        free = [it for it in after.empties() if it not in fouls]
+        least = min((it for it in free if it not in fives), key=lambda it: (worth(after, it), it), default=None)
+        if least is None:
+            return None
         if fives:
-            attack.makes_four, attack.unasked = True, fives
+            # After any other reply the five wins, and one of them is asked at once.
+            attack.makes_four, attack.unasked = True, [*(it for it in fives if it in free), least]
         else:
-            least = min(after.empties(), key=lambda it: (worth(after, it), it))
             idle = self.turn_at(after.after(least))
             if not (idle.table or idle.searches == 0 and self.is_found(idle)):
                 return None
             attack.won[least] = idle
             attack.found.append(idle.table)
-            attack.unasked = replies_near(after, idle.table, least)
+            attack.unasked = replies_near(after, free, idle.table, least)
         attack.unasked.sort(key=lambda it: -turn.leaving[it])
         turn.attacks.append(attack)
         self.ask(attack)
@@ -255,21 +261,21 @@ def candidates(position, hints):
     has a five point it is that alone, and where it has several there is none.
     """
     side = position.side()
-    fives, own = position.fives(other(side)), getattr(position, side)
+    fives, own, fouls = position.fives(other(side)), getattr(position, side), position.fouls()
     if fives:
-        return [it for it in fives if not fives[1:] and not end_of(position, it)]
+        return [it for it in fives if not fives[1:] and not end_of(position, it, fouls)]
     values = {it: worth(position, it) for it in position.empties()}
     near = [it for it in values if values[it] > MUCH or any(apart(it, stone) <= NEAR for stone in own)]
     ordered = [*(it for it in hints if it in values), *sorted(near, key=lambda it: -values[it])]
-    return [it for it in dict.fromkeys(ordered) if not end_of(position, it)][:ATTACKS]
+    return [it for it in dict.fromkeys(ordered) if not end_of(position, it, fouls)][:ATTACKS]
 
 
-def replies_near(after, text, idle):
-    """The replies to an attack that are asked, the worthiest first: those near stones, and the points of the table that wins after an idle
-    one.
+def replies_near(after, free, text, idle):
+    """The replies to an attack that are asked, of those that are free, the worthiest first: those near stones, and the points of the table
+    that wins after an idle one.
     """
     stones, points = after.stones(), set()
     for node in read(text.encode()).nodes:
         points |= {node.attack, *(it for it, _ in node.replies)}
-    near = [it for it in after.empties() if it != idle and (it in points or any(apart(it, stone) <= NEAR for stone in stones))]
+    near = [it for it in free if it != idle and (it in points or any(apart(it, stone) <= NEAR for stone in stones))]
     return sorted(near, key=lambda it: -worth(after, it))
