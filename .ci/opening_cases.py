@@ -94,7 +94,7 @@ def liked(ask, held, by, table):
     expect("openings.py: a like opening", (status, told.partition(":")[0]), (0, "corner/table.txt"))
     accepted = asked(["check", "1000000"], Path(folder, "corner/table.txt").read_text())
     expect("openings.py: its table from a like one", accepted, re.compile(r"accepted in \d+ moves, .*\n"))
-    expect("openings.py: the part of its stone's point", "7,2 like-1-8,8-0 0 " in tried("corner"), True)
+    expect("openings.py: the part of its stone's point", "7,2 like-1-8,8-40-0-0 0 " in tried("corner"), True)
     expect("openings.py: nothing is searched", "quiet" in tried("corner"), False)
     # White's 5,0 is answered by 3,4, and no reply to that is answered by another move than 3,3.
     from boards import Node, read
@@ -107,12 +107,12 @@ def liked(ask, held, by, table):
     words = ["--jobs", "1", "--deeper", "1", "--most", "20000", "--like", "bare.txt"]
     status, _, errors = ask(*words, "bare", "2,3", "-", text=QUIET, env=by("late"))
     is_told = "5,0 (f9) is taken apart by 1 attacks at most\n" in errors
-    expect("openings.py: a part that is mended", (status, "5,0 like-1-5,0-20000 0 " in tried("bare"), is_told), (0, True, False))
+    expect("openings.py: a part that is mended", (status, "5,0 like-1-5,0-40-20000-32 0 " in tried("bare"), is_told), (0, True, False))
     # Black's 8,0 wins nowhere, and where nothing is found no attack is gone on with.
     like.nodes[place] = Node((8, 0), False, node.rest, [])
     Path(folder, "bad.txt").write_text(like.text())
     status, _, errors = ask(*words[:-1], "bad.txt", "bad", "2,3", "-", text=QUIET, env=by("spent"))
-    is_told, is_lost = "5,0 (f9) is taken apart by 1 attacks at most\n" in errors, "5,0 attacks-1 4 " in tried("bad")
+    is_told, is_lost = "5,0 (f9) is taken apart by 1 attacks at most\n" in errors, "5,0 attacks-40-20000-1 4 " in tried("bad")
     expect("openings.py: a first move that is none", (status, is_told, is_lost), (5, True, True))
     Path(folder, "start.txt").write_text(FOUR_AND_REPLY)
     Path(folder, "two.txt").write_text(TABLE)
@@ -123,6 +123,10 @@ def liked(ask, held, by, table):
     ]:
         status, told, errors = ask("--like", *words, *([] if words[1:] else ["q", "2,3", "-"]), text=QUIET)
         expect(f"openings.py: {name} as a like table", (status, told, errors), (1, "", f"openings.py: {said}\n"))
+    for name in ["two.txt", "start.txt", "o/position.txt"]:
+        said = f"openings.py: the first move of {name} is not 2,3 (c6), or it wins at once\n"
+        expect(f"openings.py: {name} as a known table", ask("--known", name, "o"), (1, "", said))
+    expect("openings.py: a known table that is missing", ask("--known", "none.txt", "o")[0], 1)
 
 
 def mended():

@@ -94,7 +94,10 @@ class Mending:
         if found is None and most < nodes:
             told = search(text, nodes)
             found = told and read(told.encode()).nodes
-            self.wins[text] = nodes, found
+            with self.lock:
+                # Another search may have found one meanwhile.
+                found = found or self.wins.get(text, (0, None))[1]
+                self.wins[text] = nodes, found
         return found and self.add(found)
 
     def replaced(self, steps, found):

@@ -9,7 +9,7 @@ a folder, and has `renju join` make one table of them in the end, FOLDER/table.t
 A folder begins with X,Y, the attack, and FILE, or - for standard input, a text that examples/position.py takes, or a table, whose
 position is meant. All that is known stands in its files, so that an interrupted run goes on where it was, with the folder alone:
 replies/X,Y.txt is the position after the reply X,Y, tables/X,Y.txt or served/X,Y.txt the table of it, and each line of tried.txt has a
-reply, what was tried there, the status and the seconds.
+reply, what was tried there, the status and the seconds. Options are given again; what was mended and isn't accepted yet begins anew.
 
 Replies far from all stones come first. At each reply the tables found so far are tried: the nodes of one, under the position of the
 reply, are given to `renju check`, which costs less than a search, and where they are accepted the text is kept in FOLDER/served. Else
@@ -18,18 +18,19 @@ again with ten times as many each time, up to M. Of replies that a symmetry of t
 MB of memory, or all runs at once half of the machine's, and where it runs out the reply is left.
 
 Each --like FILE is a table of a like position, whose first move is the attack too: one with a stone elsewhere, which was won before.
-It is kept in FOLDER/like, and what it answers to a reply, its part, is tried there before all others. Where `renju check` refuses a part
-it tells a line of moves that leads to the fault: `renju quiet D N` is asked at the positions of that line, and a win takes the place of
-what the part has there, until the part is accepted, or a line has no position that is won so. Replies that are left in the end are
-mended with more faults, and with ten times as many nodes from the end of the line on, and fifty times as many at its beginning, which
-comes first where faults are many; and so is what the table answers to the point that stands to its stone as the reply does to the stone
-here, and at a reply beside its stone what it answers to the stone here.
+It is kept in FOLDER/like, and what the first that answers a reply has there, its part, is tried before other tables. Where `renju check`
+refuses a part it tells a line of moves that leads to the fault: `renju quiet` is asked with a tenth of N at the positions of that line, and
+a win takes the place of what the part has there, until the part is accepted, or a line has no position that is won so. In the end, with
+more faults, and with ten times as many nodes from the end of the line on, and fifty times as many at its beginning, which comes first
+where faults are many, the part is mended at the replies that are left, and then the other parts: those of more like tables, what a table
+answers to the point that stands to its stone as the reply does to the stone here, and at a reply beside its stone what it answers to the
+stone here.
 
 Each --known FILE is a table of another position with the same first move. Where a reply leads to what comes about there after a reply,
 as it stands or by a symmetry, what it answers is tried before all others.
 
 With --deeper A a reply that is left is taken apart by attacks, as examples/attacking.py tells: by a tenth of A at most, and by A once that
-was tried at all, before any is asked with more than N nodes. What an interrupt ends of that begins anew.
+was tried at all, before any is asked with more than N nodes. What an interrupt ends of that begins anew, from its first attack.
 
 --lines prints a command line of the shell for each reply that is left, for GNU parallel. What such a line writes stands beside the
 position in FOLDER/replies, and when the script goes on its table is taken in, if `renju check` accepts it.
@@ -44,6 +45,7 @@ import argparse
 import os
 import re
 import shlex
+import signal
 import sys
 import threading
 import time
@@ -152,17 +154,18 @@ class Opening:
                 replace(self.folder / "like" / f"{number}.txt", table.text())
 
     def know(self, file):
-        """Puts what a table of another position answers beside the replies that lead to the same positions, as they are or by a symmetry. It
-        is read where one does.
+        """Puts what a table of another position answers beside the replies that lead to the same positions, as they are or by a symmetry.
+        Its nodes are read where one does.
         """
-        text = "".join(["renju-position 1\n", *Path(file).read_text().splitlines(keepends=True)[1:5]])
-        there, table, right, last = read(text.encode()).after(self.attack), None, self.after.width - 1, self.after.height - 1
+        there, table, right, last = known_after(file, self), None, self.after.width - 1, self.after.height - 1
+        if (there.rule, there.width, there.height) != (self.after.rule, self.after.width, self.after.height):
+            return
         for name in [it for it in IMAGES if right == last or it not in EXCHANGING]:
             stones = {(IMAGES[name](*it, right, last), side) for it, side in there.stones().items()}
             back = {IMAGES[name](*it, right, last): it for it in there.empties()}
             for reply in [it for it in self.left() if it not in self.answers]:
                 here = {*self.after.after(reply).stones().items()}
-                if stones < here and len(here) == len(stones) + 1 and there.rule == self.after.rule:
+                if stones < here and len(here) == len(stones) + 1:
                     table = table or like_table(file)
                     [(point, _)] = here - stones
                     path = self.path("replies", reply).with_suffix(".1.1.answer")
@@ -196,8 +199,8 @@ class Opening:
                 out.write(f"{spelled(reply)} {what} {status} {seconds:.1f}\n")
 
     def is_lost(self, reply, what):
-        """Whether this was tried at a reply, without a table."""
-        return self.tried.get((spelled(reply), what), DONE) != DONE
+        """Whether this was tried at a reply, without a table, and not for want of memory alone."""
+        return self.tried.get((spelled(reply), what), DONE) not in (DONE, MEMORY)
 
     def put(self, kind, reply, text):
         """Keeps the table of a reply."""
@@ -294,11 +297,12 @@ class Work:
         """What the program says, its status, and its seconds."""
         began = time.monotonic()
         told, status = answered(words, text, self.memory)
-        if status < 0 and ENDING:
+        # An interrupt comes to the runs too, maybe before this script has ended them.
+        if status == -signal.SIGINT or status < 0 and ENDING:
             raise Wrong("interrupted")
         # A run that the system has ended for want of memory has no status of its own.
         status = MEMORY if status < 0 else status
-        if status not in (DONE, UNREAD, REFUSED, SPENT, MEMORY, FULL):
+        if status not in (DONE, UNREAD, REFUSED, SPENT, MEMORY, OPEN, FULL):
             raise Wrong(f"renju {' '.join(map(str, words))} ended with status {status}: {told.strip() or 'it printed nothing'}")
         return told, status, time.monotonic() - began
 
@@ -326,7 +330,7 @@ class Work:
         opening, after, (faults, times) = self.opening, self.opening.after.after(reply), way
         limits = [min(it * self.least, self.given.most) for it in times]
         for what, place in [*opening.alike(reply)][which]:
-            what, began = f"{what}-{limits[-1]}", time.monotonic()
+            what, began = f"{what}-{self.depth}-{limits[-1]}-{faults}", time.monotonic()
             if not opening.is_lost(reply, what):
                 text = opening.mending.mended(after, place, self.check, self.found, limits, faults)
                 if self.keep(reply, what, text, began):
@@ -355,7 +359,7 @@ class Work:
             files = [Path(folder, f"{number}.txt") for number, _ in enumerate(texts)]
             for path, text in zip(files, texts):
                 path.write_text(text)
-            told, status = answered(["join", spelled(attack), *files], position.text(), self.memory)
+            told, status, _ = self.run(["join", spelled(attack), *files], position.text())
         return told if status in (DONE, OPEN) else ""
 
     def serve(self, reply):
@@ -384,7 +388,7 @@ class Work:
 
     def attack(self, reply, attacks):
         """Looks for a table at a reply by so many attacks, where it wasn't done before. It says whether there is one."""
-        what, began = f"attacks-{attacks}", time.monotonic()
+        what, began = f"attacks-{self.depth}-{self.least}-{attacks}", time.monotonic()
         if not attacks or self.opening.is_lost(reply, what):
             return False
         tell(f"{both(reply, self.opening.after)} is taken apart by {attacks} attacks at most")
@@ -397,8 +401,8 @@ class Work:
 
 
 def settled(opening, given):
-    """Asks the replies that are left: the parts of like tables, searches with more nodes each time, and attacks. It answers with how many
-    nodes they were asked at last.
+    """Asks the replies that are left: parts as they stand and a search, parts that are mended quickly, attacks, searches with more nodes
+    each time, and parts that are mended with more. It answers with how many nodes they were searched with at last.
     """
     work, nodes = Work(opening, given), min(given.nodes, given.most)
     searched = lambda reply: work.search(reply, nodes)
@@ -472,11 +476,27 @@ def opening_of(given):
         raise Wrong(f"{folder} is of another opening; name another folder")
     for file, table in likes:
         if table.root().attack != opening.attack or table.root().wins:
-            raise Wrong(f"the first move of {file} is not {both(opening.attack, opening.position)}, or it wins at once")
+            raise other_first_move(file, opening)
     opening.add_like([table for _, table in likes])
     for file in given.known:
         opening.know(file)
     return opening
+
+
+def other_first_move(file, opening):
+    return Wrong(f"the first move of {file} is not {both(opening.attack, opening.position)}, or it wins at once")
+
+
+def known_after(file, opening):
+    """The position after the first move of a file's table, which has to be that of the opening, as its head and its last line say."""
+    text = bytes_of(file).decode(errors="replace")
+    lines = text.splitlines(keepends=True)
+    if not text.startswith("renju-table 1\n") or not re.match(f"{spelled(opening.attack)} (only|rest) ", lines[-1]):
+        raise other_first_move(file, opening)
+    try:
+        return read("".join(["renju-position 1\n", *lines[1:5]]).encode()).after(opening.attack)
+    except Wrong as error:
+        raise Wrong(f"{file}: {error}")
 
 
 def like_table(file):
