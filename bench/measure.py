@@ -14,7 +14,12 @@ import sys
 
 HERE = os.path.dirname(os.path.abspath(__file__))
 # Of how many texts the instructions are counted, or 0 where times are measured.
-COUNTED = int(os.environ.get("INSTRUCTIONS", "0"))
+COUNTED = os.environ.get("INSTRUCTIONS", "0")
+if not COUNTED.isdecimal():
+    sys.exit(f"INSTRUCTIONS is a number of texts, not {COUNTED}")
+COUNTED = int(COUNTED)
+if COUNTED and not shutil.which("valgrind"):
+    sys.exit("INSTRUCTIONS asks for valgrind, which is missing here")
 
 
 def told(kind, error, trace):
