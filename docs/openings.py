@@ -6,11 +6,11 @@
 
 A table is a file of examples/openings/won, compressed by xz. What `renju check` said of it, in how many seconds of the processor, and
 when, is a line of examples/openings/won/checked.txt, beside the hash of the text. --check asks it of each table without such a line,
-one after the other, which takes minutes for each, and adds the line where it is accepted. --write writes the page and its picture, and
+one after the other, which takes up to two minutes for each, and adds the line where it is accepted. --write writes the page and its picture, and
 without a word they are compared with what is there.
 
 The lines of examples/openings/won/found.txt stand in the order of finding: a table's file, and the replies whose tables were given to
-examples/openings.py as like ones.
+examples/openings.py as like ones, and whether it was found in part by hand.
 
 The page names a table that is accepted, and no other. Where a line of checked.txt is of another text, the page isn't written.
 """
@@ -173,8 +173,8 @@ def page(openings):
     yield "# Openings\n"
     yield (
         "Replies to a first move, of those that a symmetry exchanges one, after which a table of `examples/openings/won` wins: its answer, "
-        "its moves, what `renju check` said of it, when, in how many seconds of the processor, and from the tables after which like "
-        "replies `examples/openings.py` found it. Of an open reply nothing is said. `docs/openings.py --write` writes this page.\n"
+        "its moves, what `renju check` said of it, when, in how many seconds of the processor, and with the tables of which like "
+        "replies `examples/openings.py` began. Of an open reply nothing is said. `docs/openings.py --write` writes this page.\n"
     )
     for it in openings:
         yield from it.section()
