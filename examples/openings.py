@@ -20,17 +20,17 @@ MB of memory, or all runs at once half of the machine's, and where it runs out t
 Each --like FILE is a table of a like position, whose first move is the attack too: one with a stone elsewhere, which was won before.
 It is kept in FOLDER/like, and what the first that answers a reply has there, its part, is tried before other tables. Where `renju check`
 refuses a part it tells a line of moves that leads to the fault: `renju quiet` is asked with a tenth of N at the positions of that line, and
-a win takes the place of what the part has there, until the part is accepted, or a line has no position that is won so. In the end, with
-more faults, and with ten times as many nodes from the end of the line on, and fifty times as many at its beginning, which comes first
-where faults are many, the part is mended at the replies that are left, and then the other parts: those of more like tables, what a table
-answers to the point that stands to its stone as the reply does to the stone here, and at a reply beside its stone what it answers to the
-stone here.
+a win takes the place of what the part has there, until the part is accepted, or a line has no position that is won so. At the replies that
+are left then it is mended with more faults, and with ten times as many nodes from the end of the line on, and fifty times as many at its
+beginning, which comes first where faults are many. In the end so are the other parts: those of more like tables, what a table answers to
+the point that stands to its stone as the reply does to the stone here, and at a reply beside its stone what it answers to the stone here.
 
 Each --known FILE is a table of another position with the same first move. Where a reply leads to what comes about there after a reply,
 as it stands or by a symmetry, what it answers is tried before all others.
 
-With --deeper A a reply that is left is taken apart by attacks, as examples/attacking.py tells: by a tenth of A at most, and by A once that
-was tried at all, before any is asked with more than N nodes. What an interrupt ends of that begins anew, from its first attack.
+With --deeper A a reply that is left is taken apart by attacks, as examples/attacking.py tells: by a tenth of A at most once its part was
+mended, by A once it was mended with more, and then the replies are asked with more than N nodes. What an interrupt ends of that begins
+anew, from its first attack.
 
 --lines prints a command line of the shell for each reply that is left, for GNU parallel. What such a line writes stands beside the
 position in FOLDER/replies, and when the script goes on its table is taken in, if `renju check` accepts it.
@@ -401,8 +401,8 @@ class Work:
 
 
 def settled(opening, given):
-    """Asks the replies that are left: parts as they stand and a search, parts that are mended quickly, attacks, searches with more nodes
-    each time, and parts that are mended with more. It answers with how many nodes they were searched with at last.
+    """Asks the replies that are left: parts as they stand and a search, parts that are mended quickly and few attacks, parts that are
+    mended with more and all attacks, searches with more nodes each time, and other parts. It answers with the nodes of the last search.
     """
     work, nodes = Work(opening, given), min(given.nodes, given.most)
     searched = lambda reply: work.search(reply, nodes)
@@ -410,12 +410,11 @@ def settled(opening, given):
     attacked = lambda attacks: lambda reply: work.attack(reply, attacks)
     work.round(nodes, work.take_in, mended(AS_IT_STANDS), work.serve, searched)
     work.round(nodes, work.serve, mended(QUICKLY), attacked(given.deeper // TIMES))
-    work.round(nodes, work.serve, attacked(given.deeper))
+    work.round(nodes, mended(THOROUGHLY), work.serve, attacked(given.deeper))
     while nodes < given.most:
         nodes = min(TIMES * nodes, given.most)
         work.round(nodes, work.serve, searched)
     if opening.like:
-        work.round(nodes, mended(THOROUGHLY), work.serve)
         work.round(nodes, mended(OTHERS_MENDED, slice(1, None)), work.serve)
     return nodes
 
