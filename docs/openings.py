@@ -6,7 +6,7 @@
 
 A table is a file of examples/openings/won, compressed by xz. What `renju check` said of it, in how many seconds of the processor, and
 when, is a line of examples/openings/won/checked.txt, beside the hash of the text. --check asks it of each table without such a line,
-one after the other, which takes up to two minutes for each, and adds the line where it is accepted. --write writes the page and its picture, and
+one after the other, which takes up to three minutes for each, and adds the line where it is accepted. --write writes the page and its picture, and
 without a word they are compared with what is there.
 
 The lines of examples/openings/won/found.txt stand in the order of finding: a table's file, and the replies whose tables were given to
