@@ -19,6 +19,7 @@ EVEN = position("freestyle", 8, "0,0 7,0 0,7 7,7", "2,4 3,4 5,4")
 FOULING = position("renju", 11, "6,1 5,2 7,2 6,3 10,10", "0,0 2,9 3,9 4,9")
 WON = position("freestyle", 15, "4,7 5,7 6,7 7,7", CORNERS)
 FOUL = position("renju", 15, "7,6 6,7 8,7 7,8", CORNERS)
+LONE = position("freestyle", 15, "7,7", "0,0")
 # How many faults are mended in a table.
 FAULTS = 32
 # Programs that neither search nor check, don't search, search only with more than twelve stones of Black, tell the memory that they have,
@@ -65,22 +66,27 @@ def openings():
             expect(f"openings.py: a table that isn't accepted, {words}", told, (4, f"o/{wrong.parent.name}/{wrong.name} refused not-won 0,0\n"))
         liked(ask, held, by, table)
         opened(ask, held, by, covered, begun)
-        told = ask("--cover", "e", "e4", "-", text=EVEN)[:2]
-        expect("openings.py: two sides that are alike", told, (0, "covered in 2 moves, 56 replies by 28 tables\n"))
-        # Any of the two fives or both may be left to the rest.
-        expect("openings.py: they are joined", ask("e")[1], re.compile(r"e/table\.txt: moves 2, nodes 3\n"))
-        expect("openings.py: their table", asked(["check", "57"], Path(folder, "e/table.txt").read_text()), "accepted in 2 moves, 57 arrivals\n")
-        # With Black's stone on 4,1 and none in the corner 0,0, what White answers there is what it answers to 3,1 here, right being left.
-        beside = EVEN.replace("0,0 7,0", "7,0 4,1")
-        told = ask("k", "4,4", "-", text=beside)[:2], ask("--known", "k/table.txt", "known", "4,4", "-", text=EVEN, env=by("spent"))[0]
-        expect("openings.py: another opening", (told[0][0], told[1], "\n3,1 " in Path(folder, "known/tried.txt").read_text()), (0, 0, False))
-        first = [path.read_text().splitlines()[:5] for path in (held("known/tables")["3,1"], held("known/replies")["3,1"])]
-        expect("openings.py: what it answers", first[0][1:], first[1][1:])
-        told = ask("--cover", "f", "5,9", "-", text=FOULING)[:2]
-        expect("openings.py: fouls are no replies", told, (0, "covered in 2 moves, 110 replies by 110 tables\n"))
-        ask("--cover", "--jobs", "1", "--memory", "100", "m", "4,4", "-", text=EVEN, env=by("limited"))
-        limits = Path(folder, "limits").read_text().split()
-        expect("openings.py: the memory of a run", (limits[0], {*limits[1:]}), ("unlimited", {"102400"}))
+        evened(ask, held, by, Path(folder))
+
+
+def evened(ask, held, by, folder):
+    """An opening whose sides are alike, one that another answers in part, one with fouls, and one whose runs have a bound."""
+    told = ask("--cover", "e", "e4", "-", text=EVEN)[:2]
+    expect("openings.py: two sides that are alike", told, (0, "covered in 2 moves, 56 replies by 28 tables\n"))
+    # Any of the two fives or both may be left to the rest.
+    expect("openings.py: they are joined", ask("e")[1], re.compile(r"e/table\.txt: moves 2, nodes 3\n"))
+    expect("openings.py: their table", asked(["check", "57"], (folder / "e/table.txt").read_text()), "accepted in 2 moves, 57 arrivals\n")
+    # With Black's stone on 4,1 and none in the corner 0,0, what White answers there is what it answers to 3,1 here, right being left.
+    beside = EVEN.replace("0,0 7,0", "7,0 4,1")
+    told = ask("k", "4,4", "-", text=beside)[:2], ask("--known", "k/table.txt", "known", "4,4", "-", text=EVEN, env=by("spent"))[0]
+    expect("openings.py: another opening", (told[0][0], told[1], "\n3,1 " in (folder / "known/tried.txt").read_text()), (0, 0, False))
+    first = [path.read_text().splitlines()[:5] for path in (held("known/tables")["3,1"], held("known/replies")["3,1"])]
+    expect("openings.py: what it answers", first[0][1:], first[1][1:])
+    told = ask("--cover", "f", "5,9", "-", text=FOULING)[:2]
+    expect("openings.py: fouls are no replies", told, (0, "covered in 2 moves, 110 replies by 110 tables\n"))
+    ask("--cover", "--jobs", "1", "--memory", "100", "m", "4,4", "-", text=EVEN, env=by("limited"))
+    limits = (folder / "limits").read_text().split()
+    expect("openings.py: the memory of a run", (limits[0], {*limits[1:]}), ("unlimited", {"102400"}))
 
 
 def liked(ask, held, by, table):
@@ -114,6 +120,11 @@ def liked(ask, held, by, table):
     status, _, errors = ask(*words[:-1], "bad.txt", "bad", "2,3", "-", text=QUIET, env=by("spent"))
     is_told, is_lost = "5,0 (f9) is taken apart by 1 attacks at most\n" in errors, "5,0 attacks-40-20000-1 4 " in tried("bad")
     expect("openings.py: a first move that is none", (status, is_told, is_lost), (5, True, True))
+    unliked(ask, folder)
+
+
+def unliked(ask, folder):
+    """Tables that are none of a like opening, and none of another."""
     Path(folder, "start.txt").write_text(FOUR_AND_REPLY)
     Path(folder, "two.txt").write_text(TABLE)
     for name, words, said in [
@@ -131,23 +142,38 @@ def liked(ask, held, by, table):
 
 def mended():
     """Faults of a table are mended by wins, for all that come to the same nodes, and else for the line of the fault alone."""
-    from boards import Node, answered, numbers, read, spelled
-    from mending import EACH, OFTEN, Mending, tries
+    from boards import Node, answered, read
+    from mending import EACH, tries
 
     position, table = read(QUIET.encode()), read(asked(["quiet", "12", "100000"], QUIET).encode())
-
-    def mend(nodes, check, search):
-        mending = Mending()
-        text = mending.mended(position, mending.add(nodes), check, search, 3 * (100_000,), FAULTS)
-        return text and read(text.encode())
-
     check = lambda text: answered(["check", 1_000_000], text)
     search = lambda text, nodes: None if text == QUIET else asked(["quiet", "12", str(nodes)], text)
     for place, node in enumerate(table.nodes):
         # Black has no second stone on 3,2, and of the first position no win is found anew.
         spoilt = [*table.nodes[:place], Node((3, 2), node.wins, node.rest, node.replies), *table.nodes[place + 1 :]]
-        found = mend(spoilt, check, search)
+        found = mend(position, spoilt, check, search)
         expect(f"mending.py: a fault at node {place}", found and found.root().attack, None if node is table.root() else (2, 3))
+    mended_lines(position, table)
+    limits, plain = (1, 2, 3), [(2, 1), (3, 1), (4, 1), (1, 1), (4, 2), (3, 2), (2, 2), (2, 3), (3, 3)]
+    told = [tries(4, limits, it) for it in (0, 1, EACH // 2, EACH, EACH + 1)]
+    expect("mending.py: dear searches", told, [plain, plain, [(2, 2), (3, 2), *plain], [(2, 3), (3, 3), *plain], plain])
+
+
+def mend(position, nodes, check, search):
+    """What comes of the nodes of a table once its faults are mended, if it can be."""
+    from boards import read
+    from mending import Mending
+
+    mending = Mending()
+    text = mending.mended(position, mending.add(nodes), check, search, 3 * (100_000,), FAULTS)
+    return text and read(text.encode())
+
+
+def mended_lines(position, table):
+    """With which moves lines are answered once they were refused."""
+    from boards import numbers, spelled
+    from mending import OFTEN
+
     # After 2,3 White's 5,0, 4,1 and 0,5 are answered by one node with 3,4, and that lists 3,3. What is found at the end of a line is a point.
     empties, head = position.empties(), QUIET.replace("position", "table", 1)
 
@@ -156,7 +182,7 @@ def mended():
         left, points, stones = iter(lines), iter(empties), len(QUIET.split()) + len(lines[0].split())
         check = lambda text: next(((f"refused no-answer {line}\n", 4) for line in left), ("", 0))
         search = lambda text, nodes: head + found(spelled(next(points))) if len(text.split()) == stones else None
-        found = mend(table.nodes, check, search)
+        found = mend(position, table.nodes, check, search)
         answer = lambda node, replies: answer(found.nodes[node.answer(replies[0])], replies[1:]) if replies else node.attack
         return found and [empties.index(answer(found.root(), [*map(numbers, game.split())])) for game in games]
 
@@ -171,9 +197,6 @@ def mended():
     told = [moves(wanted[:it], "8,7", found=long) for it in (OFTEN - 1, OFTEN)]
     expect("mending.py: an answer that is wanted often", told, [[empties.index((4, 1))], [empties.index((1, 1))]])
     expect("mending.py: many faults", moves((FAULTS + 1) * ["2,3 5,0 3,4 3,3"]), None)
-    limits, plain = (1, 2, 3), [(2, 1), (3, 1), (4, 1), (1, 1), (4, 2), (3, 2), (2, 2), (2, 3), (3, 3)]
-    told = [tries(4, limits, it) for it in (0, 1, EACH // 2, EACH, EACH + 1)]
-    expect("mending.py: dear searches", told, [plain, plain, [(2, 2), (3, 2), *plain], [(2, 3), (3, 3), *plain], plain])
 
 
 def joined(position, attack, texts):
@@ -199,51 +222,60 @@ def fouled():
     expect("attacking.py: a four whose block is a foul", told, ((6, 7), "accepted in 2 moves, 215 arrivals\n", 0))
 
 
+def attack(start, hints, attacks, is_lost, join=joined):
+    """How many attacks were tried, and the first move of what was found, where no search or table wins at some positions."""
+    from attacking import Attacking
+    from boards import answered, read
+
+    def search(text, nodes):
+        told, status = answered(["quiet", "12", nodes], text)
+        return told if status == 0 and not is_lost(text) else None
+
+    head = lambda text: "".join(["renju-position 1\n", *text.splitlines(keepends=True)[1:5]])
+    check = lambda text: not is_lost(head(text)) and answered(["check", 1_000_000], text)[1] == 0
+    found = Attacking(search, check, join, 1_000)
+    table = found.table(start, hints, attacks)
+    return found.tried, table and answered(["check", 1_000_000], table)[1] == 0 and read(table.encode()).root().attack
+
+
 def attacked():
     """Where no search wins an attack does, and after a reply that it leaves another one."""
     import attacking
-    from attacking import ATTACKS, HOPELESS, SEARCHES, Attack, Attacking, Turn, candidates, replies_near
-    from boards import answered, read
+    from attacking import ATTACKS, Attacking, candidates, replies_near
+    from boards import read
 
-    start, sizes = read(QUIET.encode()), []
-    head = lambda text: "".join(["renju-position 1\n", *text.splitlines(keepends=True)[1:5]])
-
-    def join(position, attack, texts):
-        sizes.append(len(texts))
-        return joined(position, attack, texts)
-
-    def attack(hints, attacks, is_lost, join=join):
-        """How many attacks were tried, and the first move of what was found, where no search or table wins at some positions."""
-
-        def search(text, nodes):
-            told, status = answered(["quiet", "12", nodes], text)
-            return told if status == 0 and not is_lost(text) else None
-
-        check = lambda text: not is_lost(head(text)) and answered(["check", 1_000_000], text)[1] == 0
-        found = Attacking(search, check, join, 1_000)
-        table = found.table(start, hints, attacks)
-        return found.tried, table and answered(["check", 1_000_000], table)[1] == 0 and read(table.encode()).root().attack
-
-    is_start = lambda text: text == QUIET
+    start, sizes, is_start = read(QUIET.encode()), [], lambda text: text == QUIET
     # White has four of a row, and Black's 2,3 is their five point.
-    expect("attacking.py: an attack", attack([(8, 8)], 1, is_start), (1, (2, 3)))
-    expect("attacking.py: no attack", attack([], 0, is_start), (0, None))
+    expect("attacking.py: an attack", attack(start, [(8, 8)], 1, is_start), (1, (2, 3)))
+    expect("attacking.py: no attack", attack(start, [], 0, is_start), (0, None))
     # An attack that wins nothing once the other side has passed isn't gone on with.
-    lone, texts = read(position("freestyle", 15, "7,7", "0,0").encode()), []
-    nothing = Attacking(lambda text, nodes: texts.append(text), None, join, 1_000)
+    lone, texts = read(LONE.encode()), []
+    nothing = Attacking(lambda text, nodes: texts.append(text), None, joined, 1_000)
     told = nothing.table(lone, [], 2 * ATTACKS), nothing.tried, len({*texts})
     expect("attacking.py: passes that aren't won", told, (None, *2 * [len(candidates(lone, []))]))
     # White's 5,0 is left, and is taken apart once its searches were in vain.
-    left = start.after((2, 3)).after((5, 0))
-    tried, found = attack([], 3 * ATTACKS, lambda text: text in (QUIET, left.text()))
+    left = start.after((2, 3)).after((5, 0)).text()
+    tried, found = attack(start, [], 3 * ATTACKS, lambda text: text in (QUIET, left))
     expect("attacking.py: a reply that is left", (1 < tried, found), (True, (2, 3)))
-    # 8,8 isn't asked before it is told that it has no answer.
-    sizes.clear()
-    first = lambda *words: join(*words) and ("no answer 8,8\n" if not sizes[1:] else join(*words))
+
+    def first(position, attack, texts):
+        """As `join`, but 8,8 is told to have no answer where it is asked for the first time."""
+        sizes.append(len(texts))
+        return joined(position, attack, texts) if sizes[1:] else "no answer 8,8\n"
+
     attacking.replies_near = lambda *words: [it for it in replies_near(*words) if it != (8, 8)]
-    expect("attacking.py: a reply without an answer", (*attack([], 1, is_start, first), sizes[-1] - sizes[0]), (1, (2, 3), 1))
+    expect("attacking.py: a reply without an answer", (*attack(start, [], 1, is_start, first), sizes[-1] - sizes[0]), (1, (2, 3), 1))
     attacking.replies_near = replies_near
-    expect("attacking.py: no room", attack([], 1, is_start, lambda *words: "table full\n"), (1, None))
+    expect("attacking.py: no room", attack(start, [], 1, is_start, lambda *words: "table full\n"), (1, None))
+
+
+def numbered():
+    """The proof numbers of a position, and the attacks that are tried there."""
+    from attacking import HOPELESS, SEARCHES, Attack, Turn, candidates
+    from boards import read
+
+    start = read(QUIET.encode())
+    after = lambda reply: Turn(start.after((2, 3)).after(reply))
     turn = Turn(start)
     numbers = [turn.number()]
     for turn.searches in range(1, len(SEARCHES) + 1):
@@ -251,7 +283,7 @@ def attacked():
     for turn.untried in ([(2, 3)], []):
         numbers.append(turn.number())
     turn.attacks.append(Attack(turn, (2, 3)))
-    turn.attacks[0].left = {(5, 0): Turn(left), (0, 5): Turn(start.after((2, 3)).after((0, 5)))}
+    turn.attacks[0].left = {reply: after(reply) for reply in [(5, 0), (0, 5)]}
     numbers.append(turn.number())
     turn.table = QUIET
     most = SEARCHES[-1][1]
@@ -261,7 +293,7 @@ def attacked():
     expect("attacking.py: a five point", candidates(read(row("0,0 2,0 4,0 3,7").encode()), [(9, 9)]), [(8, 7)])
     expect("attacking.py: two of them", candidates(read(row("0,0 2,0 4,0 6,0").encode()), []), [])
     expect("attacking.py: a foul", (7, 7) in candidates(read(FOUL.encode()), [(7, 7)]), False)
-    expect("attacking.py: a hint", candidates(lone, [(14, 14)])[0], (14, 14))
+    expect("attacking.py: a hint", candidates(read(LONE.encode()), [(14, 14)])[0], (14, 14))
 
 
 def parts():
@@ -333,4 +365,4 @@ def unopened():
         expect("openings.py: what was there", (sorted(os.listdir(folder)), os.listdir(f"{folder}/mine")), (["mine", "o"], ["opening.txt"]))
 
 
-GROUPS = (openings, unopened, parts, mended, fouled, attacked)
+GROUPS = (openings, unopened, parts, mended, fouled, attacked, numbered)
