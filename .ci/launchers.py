@@ -117,7 +117,7 @@ echo "== renju"; echo "rt: renju proved"; echo "rt: renju ran, and wrote what it
 FAILING = """echo "== low"; echo "fn low::one: proved"; echo "src/lib.rt:7:5: error: it is two"; echo "logic=not-proved"
 echo "rt: low NOT PROVED"; echo "rt: renju NOT PROVED: its library low failed"; echo "rt: FAILED: low renju"
 echo "0 passed, 2 failed"; exit 1"""
-BUILDING = "building renju, which proves its 2 crates: 1 min at most, where \\d+ processors do nothing else\n"
+BUILDING = "building renju, which proves its 2 crates: 1 to 1 min, depending on the machine, where \\d+ processors do nothing else\n"
 
 
 @contextmanager
