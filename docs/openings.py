@@ -10,7 +10,7 @@ one after the other, which takes up to three minutes for each, and adds the line
 without a word they are compared with what is there.
 
 The lines of examples/openings/won/found.txt stand in the order of finding: a table's file, and the replies whose tables were given to
-examples/openings.py as like ones, and whether it was found in part by hand.
+examples/openings.py as like ones.
 
 The page names a table that is accepted, and no other. Where a line of checked.txt is of another text, the page isn't written.
 """
