@@ -18,8 +18,7 @@ lines_pieces ls bytes rest i n free enough same e =
     ap text_of (sym (take-append-drop i ls)) ∙ flat_map-append ended (take i ls) (drop i ls) in
     ap (λ (t : List ℕ). take n (pieces t)) split
     ∙ subst (λ k. take k (pieces (text_of (take i ls) ++ text_of (drop i ls))) ≡ take k (pieces (text_of (take i ls) ++ rest))) count
-    (same_front (take i ls) (text_of (drop i ls)) rest (free_take i ls free))
-    ∙ ap (λ (t : List ℕ). take n (pieces t)) (sym e)
+    (same_front (take i ls) (text_of (drop i ls)) rest (free_take i ls free)) ∙ ap (λ (t : List ℕ). take n (pieces t)) (sym e)
 
 -- ---- whole texts
 
@@ -71,8 +70,7 @@ module _ (IsLines : List (List ℕ) → Type 0) (m : ℕ) (free : (ls : List (Li
     | inl less ↦ less
     | inr past ↦
         let c = count h.lines h.are in
-        absurd (h.no_further h.lines h.rest h.are
-        (h.so_far ∙ ap (λ (l : List (List ℕ)). text_of l ++ h.rest)
+        absurd (h.no_further h.lines h.rest h.are (h.so_far ∙ ap (λ (l : List (List ℕ)). text_of l ++ h.rest)
         (take_all i h.lines (omega arith) ∙ sym (take_all (i + 1) h.lines (omega arith)))))
   ]
 

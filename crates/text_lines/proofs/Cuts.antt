@@ -103,8 +103,7 @@ is_free-append s a b fa fb = list_all-append (λ c. not (eqb c s)) a b ∙ rw (f
 pub after_reads : (text bytes : List ℕ) (r : Option (Bor (List ℕ)))
     → MatchOption r (pointwise nat_eq (take (length text) bytes) text ≡ false)
     (λ x. (pointwise nat_eq (take (length text) bytes) text ≡ true) × (x.now ≡ drop (length text) bytes)
-    × (length x.now + length text ≡ length bytes))
-    → Reads (λ _. Unit {0}) (λ rest. text ++ rest) (option_copied r) bytes
+    × (length x.now + length text ≡ length bytes)) → Reads (λ _. Unit {0}) (λ rest. text ++ rest) (option_copied r) bytes
 after_reads text bytes None h = λ rest fits e.
     let same : Decides (pointwise nat_eq (take (length text) bytes) text) (take (length text) bytes ≡ text) =
     slice_eq-Decides Decides-eqb _ _ _ refl in

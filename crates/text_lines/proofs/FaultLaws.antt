@@ -1,8 +1,6 @@
 -- What readers say by a fault.
 use Rattle.std.proofs.Common.{◌≡◌, ℕ, List, Result, Err}
-use Rattle.text_lines.specs.declared.fault.Fault.{Fault}
-use Rattle.text_lines.specs.declared.fault.Fault.TheVariants.{Bad, Memory}
-use Rattle.text_lines.specs.Reading.{Gives}
+use Rattle.text_lines.proofs.Common.{Fault, Bad, Memory, Gives}
 
 -- a reader that answers Bad says that nothing is spelled so
 pub gives_bad : {X : Type 0} (Fits : X → Type 0) (spelling : X → List ℕ) (fault : Fault) (line : List ℕ) → fault ≡ Bad

@@ -4,9 +4,7 @@ use Rattle.std.specs.List.{flat_map, AllByRecursion}
 use Rattle.std.proofs.lemmas.List.{append-nil}
 use Rattle.std.proofs.lemmas.List.Concat.{flat_map-append}
 use Rattle.game_rules.proofs.Tests.{all_push}
-use Rattle.text_lines.proofs.Common.{space, Gives, is_free, tail_text}
-use Rattle.text_lines.specs.declared.fault.Fault.{Fault}
-use Rattle.text_lines.specs.declared.fault.Fault.TheVariants.{Bad, Memory}
+use Rattle.text_lines.proofs.Common.{space, Gives, is_free, tail_text, Fault, Bad, Memory}
 use Rattle.text_lines.proofs.Cuts.{same_word}
 
 -- items of a line: none has a space, and no two that fit are spelled the same
@@ -32,11 +30,7 @@ pub record Follows {X : Type 0} (Fits : X → Type 0) (item : X → List ℕ) (v
   pub only : (ws : List X) → AllByRecursion Fits ws → whole ≡ items_text item ws → Rest Fits item vs tail ws
 
 pub begins : {X : Type 0} (Fits : X → Type 0) (item : X → List ℕ) (whole : List ℕ) → Follows Fits item [] whole whole
-begins Fits item whole = record {
-  found = refl;
-  fits = tt;
-  only = λ ws fits e. record { more = ws; split = refl; fits = fits; text = e };
-}
+begins Fits item whole = record { found = refl; fits = tt; only = λ ws fits e. record { more = ws; split = refl; fits = fits; text = e } }
 
 pub ends : {X : Type 0} (Fits : X → Type 0) (item : X → List ℕ) (vs : List X) (whole : List ℕ) → Follows Fits item vs [] whole
     → AllByRecursion Fits vs × (whole ≡ items_text item vs)
@@ -75,8 +69,7 @@ pub goes_on : {X : Type 0} (Fits : X → Type 0) (item : X → List ℕ) (items 
 goes_on {X} Fits item items vs v text word t whole h parts free fit is = record {
   found =
       let one : items_text item (vs ++ v ∷ []) ≡ items_text item vs ++ (space ∷ item v) =
-      flat_map-append (λ u. space ∷ item u) vs (v ∷ [])
-      ∙ ap (λ (l : List ℕ). items_text item vs ++ (space ∷ l)) (append-nil (item v)) in
+      flat_map-append (λ u. space ∷ item u) vs (v ∷ []) ∙ ap (λ (l : List ℕ). items_text item vs ++ (space ∷ l)) (append-nil (item v)) in
       let joined : (space ∷ item v) ++ tail_text space t ≡ space ∷ text =
       ap (λ (l : List ℕ). space ∷ l) (ap (λ (l : List ℕ). l ++ tail_text space t) (sym is) ∙ sym parts) in
       ap (λ (l : List ℕ). l ++ tail_text space t) one ∙ append_assoc (items_text item vs) (space ∷ item v) (tail_text space t)
@@ -88,8 +81,8 @@ goes_on {X} Fits item items vs v text word t whole h parts free fit is = record 
       let same : v ≡ first.0 = items.injective v first.0 fit first.3 (sym is ∙ first.5) in
       record {
         more = first.1;
-        split = rest.split ∙ ap (λ (l : List X). vs ++ l) (first.2 ∙ ap (λ (u : X). u ∷ first.1) (sym same))
-            ∙ sym (append_assoc vs (v ∷ []) first.1);
+        split = rest.split
+            ∙ ap (λ (l : List X). vs ++ l) (first.2 ∙ ap (λ (u : X). u ∷ first.1) (sym same)) ∙ sym (append_assoc vs (v ∷ []) first.1);
         fits = first.4;
         text = first.6;
       };

@@ -62,9 +62,8 @@ leaves_after front IsPart IsAll has bytes rest i e h =
 -- bytes that begin with lines of a kind do not leave them
 pub not_left : (IsLines : List (List ℕ) → Type 0) (ls : List (List ℕ)) (bytes rest : List ℕ) (i : ℕ) → IsLines ls
     → bytes ≡ text_of ls ++ rest → LeavesAt IsLines bytes i → ⊥
-not_left IsLines ls bytes rest i are e h =
-    h.no_further ls (text_of (drop (i + 1) ls) ++ rest) are
-    (e ∙ ap (λ (l : List (List ℕ)). text_of l ++ rest) (sym (take-append-drop (i + 1) ls))
+not_left IsLines ls bytes rest i are e h = h.no_further ls
+    (text_of (drop (i + 1) ls) ++ rest) are (e ∙ ap (λ (l : List (List ℕ)). text_of l ++ rest) (sym (take-append-drop (i + 1) ls))
     ∙ text_of-append (take (i + 1) ls) (drop (i + 1) ls) rest)
 
 -- ---- one line

@@ -18,9 +18,8 @@ line_piece (b ∷ l) s free =
 
 pub pieces-text : (ls : List (List ℕ)) (r : List ℕ) → AreFree ls → pieces (text_of ls ++ r) ≡ map ended ls ++ pieces r
 pieces-text [] r free = refl
-pieces-text (l ∷ ls) r free =
-    ap pieces (sym (text_of-cons l ls r)) ∙ line_piece l (text_of ls ++ r) free.0
-    ∙ ap (λ (ps : List (List ℕ)). ended l ∷ ps) (pieces-text ls r free.1)
+pieces-text (l ∷ ls) r free = ap pieces (sym (text_of-cons l ls r))
+    ∙ line_piece l (text_of ls ++ r) free.0 ∙ ap (λ (ps : List (List ℕ)). ended l ∷ ps) (pieces-text ls r free.1)
 
 -- ---- the pieces, joined, are the bytes
 
@@ -67,9 +66,8 @@ begun_within : (ls : List (List ℕ)) (bytes : List ℕ) (n : ℕ) → AreFree l
     → take n (pieces (text_of ls)) ≡ take n (pieces bytes) → bytes ≡ text_of (take n ls) ++ concat (drop n (pieces bytes))
 begun_within ls bytes n free few e =
     let count = length-map ls ended in
-    let front : take n (pieces bytes) ≡ map ended (take n ls) =
-    sym e ∙ ap (take n) (whole_pieces ls free) ∙ take-append-le n (map ended ls) ([] ∷ []) (omega (arith, few, count))
-    ∙ take-map ended n ls in
+    let front : take n (pieces bytes) ≡ map ended (take n ls) = sym e
+    ∙ ap (take n) (whole_pieces ls free) ∙ take-append-le n (map ended ls) ([] ∷ []) (omega (arith, few, count)) ∙ take-map ended n ls in
     sym (joined bytes) ∙ ap concat (sym (take-append-drop n (pieces bytes))) ∙ concat-append (take n (pieces bytes)) (drop n (pieces bytes))
     ∙ ap (λ (l : List ℕ). l ++ concat (drop n (pieces bytes))) (ap concat front ∙ joined-ended (take n ls))
 
@@ -90,12 +88,11 @@ begun_past ls bytes m free e =
     ∙ ap (λ (l : List (List ℕ)). text_of l ++ rest) (take-length ls) in
     let count : length (map ended ls) ≡ length ls = length-map ls ended in
     let here : map ended ls ++ take (suc m) ([] ∷ []) ≡ map ended ls ++ take (suc m) (pieces rest) =
-    sym (take-append-add (map ended ls) ([] ∷ []) (suc m)) ∙ ap (λ n. take (n + suc m) (map ended ls ++ [] ∷ [])) count
-    ∙ ap (take (length ls + suc m)) (sym (whole_pieces ls free)) ∙ e
-    ∙ ap (take (length ls + suc m)) (ap pieces front ∙ pieces-text ls rest free)
+    sym (take-append-add (map ended ls) ([] ∷ []) (suc m)) ∙ ap (λ n. take (n + suc m) (map ended ls ++ [] ∷ [])) count ∙ ap
+    (take (length ls + suc m)) (sym (whole_pieces ls free)) ∙ e ∙ ap (take (length ls + suc m)) (ap pieces front ∙ pieces-text ls rest free)
     ∙ ap (λ n. take (n + suc m) (map ended ls ++ pieces rest)) (sym count) ∙ take-append-add (map ended ls) (pieces rest) (suc m) in
-    let none : rest ≡ [] = no_piece rest m (take m [])
-    (sym (append_cancel_left (map ended ls) (take (suc m) ([] ∷ [])) (take (suc m) (pieces rest)) here)) in
+    let none : rest ≡ [] =
+    no_piece rest m (take m []) (sym (append_cancel_left (map ended ls) (take (suc m) ([] ∷ [])) (take (suc m) (pieces rest)) here)) in
     front ∙ ap (λ (l : List ℕ). text_of ls ++ l) none ∙ append-nil (text_of ls)
 
 pub begun : (ls : List (List ℕ)) (bytes : List ℕ) (n : ℕ) → AreFree ls → take n (pieces (text_of ls)) ≡ take n (pieces bytes)

@@ -1,5 +1,5 @@
 -- Texts that grow by one piece after another. Texts of lists of lines.
-use Rattle.std.proofs.Common.{◌≡◌, ℕ, ◌∙◌, List, Result, Ok, Err, IfOk, zero, suc, ◌+◌, ◌-◌, ◌≤◌, ◌<◌, true, false, refl, sym, ap, arith}
+use Rattle.std.proofs.Common.{◌≡◌, ℕ, ◌∙◌, List, Result, Ok, Err, IfOk, zero, suc, ◌≤◌, true, false, refl, sym, ap, arith}
 use Rattle.std.proofs.Common.{[], ◌∷◌, ◌++◌, append_assoc, length, take, eqb}
 use Rattle.std.specs.List.{AllByRecursion}
 use Rattle.std.proofs.lemmas.Bool.{eqb-true, eq-eqb, both_ways}
@@ -52,9 +52,8 @@ text_of-append a b rest = ap (λ (l : List ℕ). l ++ rest) (flat_map-append end
 -- a first line, and lines after it up to the end
 pub whole_text : (first : List ℕ) (ls : List (List ℕ)) (bytes rest tail : List ℕ) → bytes ≡ first ++ line_feed ∷ rest
     → rest ≡ text_of ls ++ tail → tail ≡ [] → bytes ≡ text_of (first ∷ ls)
-whole_text first ls bytes rest tail e1 e2 e3 =
-    e1 ∙ ap (λ (l : List ℕ). first ++ line_feed ∷ l) e2 ∙ text_of-cons first ls tail ∙ ap (λ (l : List ℕ). text_of (first ∷ ls) ++ l) e3
-    ∙ append-nil (text_of (first ∷ ls))
+whole_text first ls bytes rest tail e1 e2 e3 = e1 ∙ ap (λ (l : List ℕ). first ++ line_feed ∷ l) e2
+    ∙ text_of-cons first ls tail ∙ ap (λ (l : List ℕ). text_of (first ∷ ls) ++ l) e3 ∙ append-nil (text_of (first ∷ ls))
 
 pub no_bytes : (bytes : List ℕ) → eqb (length bytes) 0 ≡ true → bytes ≡ []
 no_bytes bytes h = nil_from_length bytes (eqb-true (length bytes) 0 h)

@@ -9,9 +9,8 @@ loop-byte-init c = no_number c.args.most
 
 pub returns-then-not-is_ascii_digit : goal.returns-then-not-is_ascii_digit
 returns-then-not-is_ascii_digit c = record {
-  number = λ v few e.
-      no_digit c.args.bytes.now v c.loop-byte.byte-index (omega arith) e c.loop-byte-test.true
-      (MatchBool-at_false (IsAsciiDigit (get_or c.args.bytes.now c.loop-byte.byte-index 0))
+  number = λ v few e. no_digit c.args.bytes.now v c.loop-byte.byte-index
+      (omega arith) e c.loop-byte-test.true (MatchBool-at_false (IsAsciiDigit (get_or c.args.bytes.now c.loop-byte.byte-index 0))
       (IsNotAsciiDigit (get_or c.args.bytes.now c.loop-byte.byte-index 0)) c.if-not-is_ascii_digit.true c.is_ascii_digit.ensures.cases);
 }
 
