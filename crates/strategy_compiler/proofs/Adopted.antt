@@ -1,22 +1,19 @@
 -- The nodes of a table, adopted one after the other: each is a copy under its new number, is the same node and says the same. So what is
 -- held is what was held before, and the nodes of the table.
-use Rattle.std.proofs.Common.{◌≡◌, ◌⊎◌, inl, inr, ℕ, suc, ◌<◌, ◌≤◌, ◌+◌, true, List, [], ◌∷◌, ◌++◌, append-nil}
-use Rattle.std.proofs.Common.{length, refl, sym, ap, subst, ◌∙◌, arith, Some, nat_lt, slice_get, slice_index, Contains, length-append}
-use Rattle.std.proofs.Common.{rules, ltb-true, lt-ltb}
+use Rattle.std.proofs.Common.{◌≡◌, ◌⊎◌, inl, inr, ℕ, suc, ◌<◌, ◌≤◌, ◌+◌, true, List, [], ◌∷◌, ◌++◌, append-nil, length, refl, sym, ap}
+use Rattle.std.proofs.Common.{subst, ◌∙◌, arith, Some, nat_lt, slice_get, slice_index, Contains, length-append, rules, ltb-true, lt-ltb}
 use Rattle.std.proofs.lemmas.Bool.{cases_lt}
 use Rattle.std.proofs.lemmas.List.{get_or_append_left, get_or_push}
 use Rattle.std.proofs.lemmas.Option.{slice_get_within, same_Some}
-use Rattle.game_rules.proofs.Common.{Grid}
+use Rattle.strategy_compiler.proofs.Common.{Grid, Node, MAX_NODES, IsNode, IsTable, NamesLower, NamesOnBoard, SaysSame, TableOnBoard}
+use Rattle.strategy_compiler.proofs.Common.{answers_of, renumbered_node, Adopts, AreNumbers, GrowsBy, IsCompiled, PutsIn, Unfolded, IsHeld}
+use Rattle.strategy_compiler.proofs.Common.{HoldMore, unfolded}
 use Rattle.game_rules.proofs.Tests.{all_get, all_push}
-use Rattle.strategy_graph.specs.declared.Node.{Node}
-use Rattle.strategy_graph.specs.declared.TheConstants.{MAX_NODES}
-use Rattle.strategy_graph.proofs.Common.{IsNode, IsTable, NamesLower, NamesOnBoard, SaysSame, TableOnBoard, answers_of, renumbered_node}
 use Rattle.strategy_graph.proofs.Answering.{replies-on}
 use Rattle.strategy_graph.proofs.Copies.{Copies}
 use Rattle.strategy_graph.proofs.Filling.{IsTable-lower, last_node, names_below-more}
 use Rattle.strategy_graph.proofs.Naming.{slice_get-longer}
 use Rattle.strategy_graph.proofs.Renumbering.{IsNode-renumbered, copies-same, points-renumbered, renumbered-agree}
-use Rattle.strategy_compiler.proofs.Common.{Adopts, AreNumbers, GrowsBy, IsCompiled, PutsIn, Unfolded, IsHeld, HoldMore, unfolded}
 use Rattle.strategy_compiler.proofs.Growing.{grows-more, grows-not, grows-then}
 use Rattle.strategy_compiler.proofs.Unfolding.{node-inside, unfolded-copied, unfolded-longer, held-one_more, held-within}
 
@@ -95,9 +92,8 @@ module _ (old t new : List Node) (numbers : List ℕ) (i : ℕ) (n m : Node) (h 
 
   -- it names nodes that are there
   pub adopt-node : IsNode m (length new)
-  adopt-node =
-      subst (λ (v : Node). IsNode v (length new)) (sym is)
-      (IsNode-renumbered (λ j. slice_index numbers j) (λ j. nat_lt j i) n i (length new) (table.nodes i n at)
+  adopt-node = subst (λ (v : Node). IsNode v (length new))
+      (sym is) (IsNode-renumbered (λ j. slice_index numbers j) (λ j. nat_lt j i) n i (length new) (table.nodes i n at)
       (inside-by t new numbers i table (let l = i-inside in omega arith) h.copied) (table.nodes i n at).below)
 
   module _ (x : ℕ) (numbers' : List ℕ) (pushed : numbers' ≡ numbers ++ x ∷ []) where
@@ -109,9 +105,8 @@ module _ (old t new : List Node) (numbers : List ℕ) (i : ℕ) (n m : Node) (h 
 
     same-before : (j : ℕ) (v : Node) → j ≤ i → slice_get t j ≡ Some v
         → renumbered_node (λ j. slice_index numbers j) v ≡ renumbered_node (λ j. slice_index numbers' j) v
-    same-before j v l e =
-        renumbered-agree (λ j. slice_index numbers j) (λ j. slice_index numbers' j) (λ k. nat_lt k j)
-        (λ k p. sym (number-before k (let low : k < j = ltb-true _ _ p in omega arith))) v (table.nodes j v e).below
+    same-before j v l e = renumbered-agree (λ j. slice_index numbers j) (λ j. slice_index numbers' j)
+        (λ k. nat_lt k j) (λ k p. sym (number-before k (let low : k < j = ltb-true _ _ p in omega arith))) v (table.nodes j v e).below
 
     -- the copies so far, and the new one, in nodes that have them
     module _ (new' : List Node) (stay : (k : ℕ) (v : Node) → slice_get new k ≡ Some v → slice_get new' k ≡ Some v)
@@ -120,9 +115,8 @@ module _ (old t new : List Node) (numbers : List ℕ) (i : ℕ) (n m : Node) (h 
           → slice_get new' (slice_index numbers' j) ≡ Some (renumbered_node (λ j. slice_index numbers' j) v)
       copied-more j v l e = by_place (cases_lt j i) where
         by_place : (j < i) ⊎ (i ≤ j) → slice_get new' (slice_index numbers' j) ≡ Some (renumbered_node (λ j. slice_index numbers' j) v)
-        by_place (inl low) =
-            ap (slice_get new') (number-before j low) ∙ stay (slice_index numbers j) _ (h.copied j v low e)
-            ∙ ap Some (same-before j v (omega arith) e)
+        by_place (inl low) = ap (slice_get new') (number-before j low)
+            ∙ stay (slice_index numbers j) _ (h.copied j v low e) ∙ ap Some (same-before j v (omega arith) e)
         by_place (inr high) =
             let last : i ≡ j = omega arith in
             let same : n ≡ v = same_Some n v (sym at ∙ ap (slice_get t) last ∙ e) in
@@ -131,11 +125,9 @@ module _ (old t new : List Node) (numbers : List ℕ) (i : ℕ) (n m : Node) (h 
 
       -- the new one is node i of the table
       copy-is : NamesLower new' → unfolded new' x ≡ unfolded t i
-      copy-is lower' =
-          ap (unfolded new') (sym number-last)
-          ∙ unfolded-copied (λ j. slice_index numbers' j) (λ j. nat_lt j (i + 1)) t new'
-          (copies-by t new' numbers' (i + 1) table (let l = i-inside in omega arith) copied-more) (IsTable-lower t table) lower' i
-          (lt-more i) where
+      copy-is lower' = ap (unfolded new') (sym number-last) ∙ unfolded-copied (λ j. slice_index numbers' j)
+          (λ j. nat_lt j (i + 1)) t new' (copies-by t new' numbers' (i + 1) table (let l = i-inside in omega arith) copied-more)
+          (IsTable-lower t table) lower' i (lt-more i) where
             lt-more : (i : ℕ) → nat_lt i (i + 1) ≡ true
             lt-more i = lt-ltb i (i + 1) (omega arith)
 
@@ -149,8 +141,7 @@ module _ (old t new : List Node) (numbers : List ℕ) (i : ℕ) (n m : Node) (h 
   moved-on : (b : Grid) → NamesOnBoard b n → NamesOnBoard b m
   moved-on b on = subst (NamesOnBoard b) (sym is) (record {
     attack = on.attack;
-    replies =
-        replies-on b (renumbered_node (λ j. slice_index numbers j) n).replies n.replies
+    replies = replies-on b (renumbered_node (λ j. slice_index numbers j) n).replies n.replies
         (points-renumbered (λ j. slice_index numbers j) n.replies) on.replies;
   })
 
@@ -173,16 +164,14 @@ module _ (old t new : List Node) (numbers : List ℕ) (i : ℕ) (n m : Node) (h 
     held-by : (k : ℕ) → k < length new' → IsHeld (old ∷ t ∷ []) (unfolded new' k)
     held-by k l = by_put put where
       by_place : (grown : new' ≡ new ++ m ∷ []) → (k < length new) ⊎ (length new ≤ k) → IsHeld (old ∷ t ∷ []) (unfolded new' k)
-      by_place grown (inl low) =
-          subst (IsHeld (old ∷ t ∷ [])) (sym (ap (λ (u : List Node). unfolded u k) grown ∙ unfolded-longer new (m ∷ []) new-lower k low))
-          (h.held k low)
+      by_place grown (inl low) = subst (IsHeld (old ∷ t ∷ []))
+          (sym (ap (λ (u : List Node). unfolded u k) grown ∙ unfolded-longer new (m ∷ []) new-lower k low)) (h.held k low)
       by_place grown (inr high) =
           let is_new = copy-is x numbers' pushed new' (stays-by new' (m ∷ []) grown) there (IsTable-lower new' compiled.table) in
           held-second old t i (unfolded new' k) i-inside (sym is_new ∙ ap (unfolded new') (last-is k grown high l))
 
       by_put : PutsIn new m new' → IsHeld (old ∷ t ∷ []) (unfolded new' k)
-      by_put (inl e) =
-          subst (λ (u : List Node). (k : ℕ) → k < length u → IsHeld (old ∷ t ∷ []) (unfolded u k)) (sym e.1) h.held k l
+      by_put (inl e) = subst (λ (u : List Node). (k : ℕ) → k < length u → IsHeld (old ∷ t ∷ []) (unfolded u k)) (sym e.1) h.held k l
       by_put (inr e) = by_place e.1 (cases_lt k (length new))
 
     on-more : (b : Grid) → TableOnBoard b old → TableOnBoard b t → TableOnBoard b new'
@@ -240,8 +229,7 @@ module _ (old t new : List Node) (numbers : List ℕ) (i : ℕ) (n m : Node) (h 
   -- where there is no room for it, there are too many different nodes
   pub adopt-full : (Contains new m → ⊥) → length new ≡ MAX_NODES → HoldMore (old ∷ t ∷ []) MAX_NODES
   adopt-full none full =
-      held-one_more (old ∷ t ∷ []) MAX_NODES new m h.compiled adopt-node none full h.held
-      (λ lower'. held-second old t i _ i-inside
+      held-one_more (old ∷ t ∷ []) MAX_NODES new m h.compiled adopt-node none full h.held (λ lower'. held-second old t i _ i-inside
       (sym (copy-is (length new) (numbers ++ length new ∷ []) refl (new ++ m ∷ []) (stays-by (new ++ m ∷ []) (m ∷ []) refl)
       (last_node new m) lower')))
 
@@ -256,9 +244,8 @@ module _ (old t new : List Node) (numbers : List ℕ) (i : ℕ) (h : AdoptedUpTo
     on_board = h.on_board;
   }) where
     by_one : (w : Unfolded) (u : List Node) (k : ℕ) → new ≡ u → k < length u → unfolded u k ≡ w → IsHeld (old ∷ t ∷ []) w
-    by_one w u k same l is =
-        subst (IsHeld (old ∷ t ∷ [])) (ap (λ (v : List Node). unfolded v k) same ∙ is)
-        (h.held k (subst (λ (v : List Node). k < length v) (sym same) l))
+    by_one w u k same l is = subst (IsHeld (old ∷ t ∷ []))
+        (ap (λ (v : List Node). unfolded v k) same ∙ is) (h.held k (subst (λ (v : List Node). k < length v) (sym same) l))
 
   pub adopted-numbers : length t ≤ i → AreNumbers old t new numbers
   adopted-numbers whole = search (rules, slice_get_within)

@@ -1,32 +1,27 @@
 -- A set of nodes in order: which node is at a place, and what is put in. The node that answers given replies: it is a node of a table,
 -- answers each as given, and stands for the tree of these branches. The commonest of some numbers, found by going over them.
 use Rattle.std.proofs.Common.{◌≡◌, inl, inr, ◌<◌, ◌≤◌, Bool, true, false, cond, List, [], ◌∷◌, ◌++◌, length, refl, sym, subst, ℕ, not, map}
-use Rattle.std.proofs.Common.{filter, ap, ◌∙◌, Option, Some, None, Result, IfOk, OnOk, nat_lt, nat_eq, slice_get, All, Contains}
-use Rattle.std.proofs.Common.{◌+◌, max, ◌==◌, take, get_or, arith, IsSome, nat_le, rules}
-use Rattle.std.specs.List.{list_any, IsDistinct, list_all, find, AllByRecursion, count_by, sum_by}
+use Rattle.std.proofs.Common.{filter, ap, ◌∙◌, Option, Some, None, Result, IfOk, OnOk, nat_lt, nat_eq, slice_get, All, Contains, ◌+◌, max}
+use Rattle.std.proofs.Common.{◌==◌, take, get_or, arith, IsSome, nat_le, rules, find, count_by, sum_by, leb-true, leb-false, le-leb}
+use Rattle.std.specs.List.{list_any, IsDistinct, list_all, AllByRecursion}
 use Rattle.std.specs.Option.{option_or, option_eq}
 use Rattle.std.proofs.lemmas.Bool.Decides.{Decides-eqb}
 use Rattle.std.proofs.lemmas.List.Folds.{list_all-append}
 use Rattle.std.proofs.lemmas.List.Elements.{All-from_recursion, All-filter}
 use Rattle.std.proofs.lemmas.Result.{IfOk-weaker}
-use borrow.Author.Tests.{leb-true, leb-false, le-leb}
 use Rattle.std.proofs.lemmas.List.{map_more, take_all}
 use Rattle.std.proofs.lemmas.List.Sums.{sum_by-cons, get_or-le-sum_by}
-use Rattle.game_rules.specs.declared.Point.{Point}
+use Rattle.strategy_compiler.proofs.Common.{Point, Node, MAX_NODES, Reply, Wins, IsNode, IsTable, Answers, answers_of, answer, is_rising}
+use Rattle.strategy_compiler.proofs.Common.{is_winning, named, rest_node, rest_nodes, AtNode, greatest, AreDifferent, IsCompiled, PutsIn}
+use Rattle.strategy_compiler.proofs.Common.{Tree, Branches, Leaf, Fork, NoBranch, Branch, StandsFor, StandsForAll, AnswersBranches}
+use Rattle.strategy_compiler.proofs.Common.{AnswersBriefly, replies_of, answers_to, commonest, NamesOnly, answering_node, answers_beside}
+use Rattle.strategy_compiler.proofs.Common.{brief_answers, commonest_next, rest_of, winning_node, times}
 use Rattle.game_rules.proofs.Boards.{and_left, and_right}
-use Rattle.strategy_graph.specs.declared.Node.{Node}
-use Rattle.strategy_graph.specs.declared.TheConstants.{MAX_NODES}
 use Rattle.strategy_graph.specs.contracts.NodePartialEq.TheImpl.{ghosts as node_ghosts}
-use Rattle.strategy_graph.specs.declared.Reply.{Reply}
-use Rattle.strategy_graph.specs.declared.Rest.TheVariants.{Wins}
 use Rattle.strategy_graph.proofs.Equal.{lt_of_le, Contains-found, list_any-Contains, different_by}
 use Rattle.strategy_graph.proofs.Filling.{IsTable-push}
-use Rattle.strategy_graph.proofs.Common.{IsNode, IsTable, Answers, answers_of, answer, answer_at, is_rising, is_winning, named}
-use Rattle.strategy_graph.proofs.Common.{rest_node, rest_nodes, AtNode, greatest}
+use Rattle.strategy_graph.proofs.Common.{answer_at}
 use Rattle.strategy_graph.proofs.Rising.{is_rising-filter, next-filter, Kept, kept_all, AnsweredAsGiven, point-given, all-next}
-use Rattle.strategy_compiler.proofs.Common.{AreDifferent, IsCompiled, PutsIn, Tree, Branches, Leaf, Fork, NoBranch, Branch, StandsFor}
-use Rattle.strategy_compiler.proofs.Common.{StandsForAll, AnswersBranches, AnswersBriefly, replies_of, answers_to, commonest, NamesOnly}
-use Rattle.strategy_compiler.proofs.Common.{answering_node, answers_beside, brief_answers, commonest_next, rest_of, winning_node, times}
 use Rattle.strategy_compiler.proofs.Standing.{stands-put_in}
 use Rattle.indexmap.specs.IndexSet.{insert_key}
 
@@ -111,9 +106,8 @@ as_given a o rs (s ∷ ss) e f h = search (rules, answer_by, as_given a o rs ss 
 
 -- the answers in brief are as given
 pub brief-as_given : (rs : List Reply) → is_rising rs ≡ true → AnsweredAsGiven (brief_answers rs) rs
-brief-as_given rs h =
-    as_given (brief_answers rs) (commonest_next rs) rs rs refl (rest_node-of (commonest_next rs))
-    (kept_all (λ r. not (option_eq nat_eq (Some r.next) (commonest_next rs))) rs h)
+brief-as_given rs h = as_given (brief_answers rs) (commonest_next rs) rs rs refl
+    (rest_node-of (commonest_next rs)) (kept_all (λ r. not (option_eq nat_eq (Some r.next) (commonest_next rs))) rs h)
 
 -- in a table that has the node
 pub answers-at : (t : List Node) (i : ℕ) (attack : Point) (rs : List Reply) → slice_get t i ≡ Some (answering_node attack rs)
@@ -157,9 +151,8 @@ stands-all t u a (r ∷ rs) NoBranch keep g h = absurd h
 stands-all t u a (r ∷ rs) (Branch q s bs) keep g h = search (rules, stands-all t u a rs bs keep g.1 h.2)
 
 -- where each given node stands for the tree of a branch, the answers in brief stand for the branches in each list that keeps the trees
-pub brief-branches : (t u : List Node) (rs : List Reply) → is_rising rs ≡ true
-    → ((j : ℕ) (s : Tree) → StandsFor t j s → StandsFor u j s) → (bs : Branches) → AnswersBranches t rs bs
-    → AnswersBriefly (brief_answers rs) (replies_of bs) × StandsForAll u (brief_answers rs) bs
+pub brief-branches : (t u : List Node) (rs : List Reply) → is_rising rs ≡ true → ((j : ℕ) (s : Tree) → StandsFor t j s → StandsFor u j s)
+    → (bs : Branches) → AnswersBranches t rs bs → AnswersBriefly (brief_answers rs) (replies_of bs) × StandsForAll u (brief_answers rs) bs
 brief-branches t u rs h keep bs given =
     let given_as = brief-as_given rs h in (
       subst (AnswersBriefly (brief_answers rs)) (replies-branches t rs bs given) (answers-briefly rs given_as),
@@ -195,16 +188,14 @@ module _ {E : Type 0} (old new : List Node) (r : Result ℕ E) (attack : Point) 
   pub answered-stands : (rs : List Reply) (n : Node) → n ≡ answering_node attack rs → is_rising rs ≡ true
       → IfOk r (λ i. slice_get new i ≡ Some n) → OnOk r (PutsIn old n new)
       → IfOk r (λ i. (bs : Branches) → AnswersBranches old rs bs → StandsFor new i (Fork attack bs))
-  answered-stands rs n e rising =
-      IfOk-both r (λ i. slice_get new i ≡ Some n) (λ i. (bs : Branches) → AnswersBranches old rs bs → StandsFor new i (Fork attack bs))
-      (PutsIn old n new)
+  answered-stands rs n e rising = IfOk-both r (λ i. slice_get new i ≡ Some n)
+      (λ i. (bs : Branches) → AnswersBranches old rs bs → StandsFor new i (Fork attack bs)) (PutsIn old n new)
       (λ i at put. stands-answering old new i attack rs rising (subst (λ (m : Node). PutsIn old m new) e put) (at ∙ ap Some e))
 
   pub answered-answers : (rs : List Reply) (n : Node) → n ≡ answering_node attack rs → is_rising rs ≡ true
       → IfOk r (λ i. slice_get new i ≡ Some n) → IfOk r (λ i. All (λ r. answer_at new i r.at ≡ Some r.next) rs)
-  answered-answers rs n e rising =
-      IfOk-weaker r (λ i. slice_get new i ≡ Some n) (λ i. All (λ r. answer_at new i r.at ≡ Some r.next) rs)
-      (λ i at. answers-at new i attack rs (at ∙ ap Some e) rising)
+  answered-answers rs n e rising = IfOk-weaker r (λ i. slice_get new i ≡ Some n)
+      (λ i. All (λ r. answer_at new i r.at ≡ Some r.next) rs) (λ i at. answers-at new i attack rs (at ∙ ap Some e) rising)
 
   pub answered-points : (rs : List Reply) (n : Node) → n ≡ answering_node attack rs → IfOk r (λ i. slice_get new i ≡ Some n)
       → IfOk r (λ i. AtNode (slice_get new i) (NamesOnly attack (map (λ r. r.at) rs)))
@@ -293,8 +284,7 @@ le_greatest f m (j ∷ js) = search (rules, le_greatest f m js)
 best-all : (f : ℕ → ℕ) (js : List ℕ) (best : Option ℕ) (most : ℕ) → IsBestSoFar f js best most
     → best ≡ find (λ j. list_all (λ k. nat_le (f k) (f j)) js) js
 best-all f js best most h =
-    h.best_is ∙ ap (λ (m : ℕ). first_with f m js) h.most_is
-    ∙ ap (λ (p : ℕ → Bool). find p js) (λ i j. sym (le_greatest f (f j) js) i)
+    h.best_is ∙ ap (λ (m : ℕ). first_with f m js) h.most_is ∙ ap (λ (p : ℕ → Bool). find p js) (λ i j. sym (le_greatest f (f j) js) i)
 
 -- ---- answers
 
@@ -302,9 +292,8 @@ times-map : (answers : List Reply) (j : ℕ) → answers_of_node answers j ≡ t
 times-map answers j = sum_by-map_of (λ k. cond (k == j) 1 0) answers where
   sum_by-map_of : (g : ℕ → ℕ) (rs : List Reply) → sum_by (λ r. g r.next) rs ≡ sum_by g (map (λ r. r.next) rs)
   sum_by-map_of g [] = refl
-  sum_by-map_of g (r ∷ rs) =
-      sum_by-cons (λ r. g r.next) r rs ∙ ap (λ (n : ℕ). g r.next + n) (sum_by-map_of g rs)
-      ∙ sym (sum_by-cons g r.next (map (λ r. r.next) rs))
+  sum_by-map_of g (r ∷ rs) = sum_by-cons (λ r. g r.next) r rs
+      ∙ ap (λ (n : ℕ). g r.next + n) (sum_by-map_of g rs) ∙ sym (sum_by-cons g r.next (map (λ r. r.next) rs))
 
 positive : (answers : List Reply) (i : ℕ) (d : Reply) → i < length answers → 1 ≤ answers_of_node answers (get_or answers i d).next
 positive answers i d l =
@@ -322,8 +311,7 @@ module _ (answers : List Reply) (i : ℕ) (d : Reply) (best : Option ℕ) (most 
 
   pub commonest-greater : (best' : Option ℕ) (most' : ℕ) → best' ≡ Some (get_or answers i d).next → most' ≡ count → most < count
       → IsCommonestSoFar answers (take (i + 1) answers) best' most'
-  commonest-greater best' most' b m h =
-      subst (λ (js : List ℕ). IsBestSoFar (answers_of_node answers) js best' most') (sym one_more)
+  commonest-greater best' most' b m h = subst (λ (js : List ℕ). IsBestSoFar (answers_of_node answers) js best' most') (sym one_more)
       (rw (b, m ∙ is) (best-greater (answers_of_node answers) (map (λ r. r.next) (take i answers)) best most (get_or answers i d).next
       so_far (omega arith)))
 

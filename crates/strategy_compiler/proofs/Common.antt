@@ -1,4 +1,10 @@
 -- The words of the compiler, all in one place for the files of laws.
+pub use Rattle.game_rules.specs.Games.{LosesOr}
+pub use Rattle.game_rules.specs.Grid.{Grid, is_on}
+pub use Rattle.game_rules.specs.Play.{after}
+unfoldable pub use Rattle.game_rules.specs.Play.{outcome}
+pub use Rattle.game_rules.specs.declared.Point.{Point}
+pub use Rattle.game_rules.specs.declared.RuleKind.{RuleKind}
 pub use Rattle.strategy_compiler.specs.Adopting.{Adopts, AreNumbers}
 pub use Rattle.strategy_compiler.specs.Forks.{AnswersWin, IsDoubleThreat, WinsAtOnce, WinsByAnswers, answer_node, double_moves}
 pub use Rattle.strategy_compiler.specs.Forks.{double_nodes, two_answers}
@@ -20,3 +26,17 @@ pub use Rattle.strategy_compiler.specs.Walks.{NamesPointsReached, ReachedFrom, R
 pub use Rattle.strategy_compiler.specs.Walks.{completed_from, is_in_list, last, place_in, visits, visits_at}
 unfoldable pub use Rattle.strategy_compiler.specs.Walks.{completed_after, completed_within}
 pub use Rattle.strategy_compiler.specs.Wins.{GrowthKeepsWins, IsWinTable, IsWrittenWin, StaysOnBoard}
+pub use Rattle.strategy_graph.proofs.Common.{rest_nodes}
+pub use Rattle.strategy_graph.specs.Acceptance.{Accepted, AcceptedStart}
+pub use Rattle.strategy_graph.specs.Arrivals.{arrivals}
+pub use Rattle.strategy_graph.specs.Laws.{SaysSame, StartSaysSame}
+pub use Rattle.strategy_graph.specs.Leads.{AtNode}
+pub use Rattle.strategy_graph.specs.Lent.{lent_node}
+pub use Rattle.strategy_graph.specs.Renumbered.{renumbered_answers, renumbered_node, renumbered_reply, renumbered_rest}
+pub use Rattle.strategy_graph.specs.Tables.{Answers, IsNode, IsTable, NamesLower, NamesOnBoard, TableOnBoard, answer, answers_of, depth}
+pub use Rattle.strategy_graph.specs.Tables.{greatest, is_rising, is_winning, listed_node, named, names_below, rest_node}
+pub use Rattle.strategy_graph.specs.declared.Node.{Node}
+pub use Rattle.strategy_graph.specs.declared.Reply.{Reply}
+pub use Rattle.strategy_graph.specs.declared.Rest.{Rest}
+pub use Rattle.strategy_graph.specs.declared.Rest.TheVariants.{Wins}
+pub use Rattle.strategy_graph.specs.declared.TheConstants.{MAX_NODES}

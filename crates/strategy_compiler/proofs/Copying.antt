@@ -1,25 +1,22 @@
 -- A table that holds nodes of another under other numbers, no two under one: its copies stand for the same trees, are
 -- completed in the same order, reach the same nodes, and are different where the nodes are.
 use Rattle.std.proofs.Common.{◌≡◌, ℕ, zero, suc, ◌+◌, Bool, true, false, cond, not, ◌&&◌, ◌||◌, ◌==◌, List, [], ◌∷◌, ◌++◌, map, filter}
-use Rattle.std.specs.Prelude.{IsSomeAnd}
 use Rattle.std.proofs.Common.{refl, sym, ap, subst, ◌∙◌, arith, Option, Some, nat_le, nat_eq, slice_get, fold, Contains, rules}
+use Rattle.std.specs.Prelude.{IsSomeAnd}
 use Rattle.std.specs.List.{list_all, find}
 use Rattle.std.specs.Option.{option_map, option_map_or, option_eq}
 use Rattle.std.proofs.lemmas.Option.{same_Some}
 use Rattle.std.proofs.lemmas.List.{map-append}
 use Rattle.std.proofs.lemmas.List.Folds.{list_all-append}
 use Rattle.std.proofs.lemmas.List.Sums.{sum_by-cons}
-use Rattle.game_rules.specs.declared.Point.{Point}
+use Rattle.strategy_compiler.proofs.Common.{Point, Node, Answers, answers_of, answer, named, rest_node, is_winning, AtNode, renumbered_node}
+use Rattle.strategy_compiler.proofs.Common.{renumbered_reply, renumbered_rest, renumbered_answers, Tree, Branches, Leaf, Fork, NoBranch}
+use Rattle.strategy_compiler.proofs.Common.{Branch, StandsFor, StandsForAll, AnswersBriefly, replies_of, answers_to, commonest, times}
+use Rattle.strategy_compiler.proofs.Common.{Reaches, Itself, Through, visits, visits_at, is_in_list, completed_within}
 use Rattle.game_rules.proofs.Boards.{and_left, and_right}
-use Rattle.strategy_graph.specs.declared.Node.{Node}
-use Rattle.strategy_graph.proofs.Common.{Answers, answers_of, answer, named, rest_node, is_winning, AtNode}
-use Rattle.strategy_graph.proofs.Common.{renumbered_node, renumbered_reply, renumbered_rest, renumbered_answers}
 use Rattle.strategy_graph.proofs.Answering.{answer-named}
 use Rattle.strategy_graph.proofs.Copies.{Copies, answer-renumbered, is_winning-renumbered, named-renumbered}
 use Rattle.strategy_graph.proofs.Renumbering.{points-renumbered, IsOneToOne, rest_node-renumbered, rest_nodes-renumbered, nexts-renumbered}
-use Rattle.strategy_compiler.proofs.Common.{Tree, Branches, Leaf, Fork, NoBranch, Branch, StandsFor, StandsForAll, AnswersBriefly}
-use Rattle.strategy_compiler.proofs.Common.{replies_of, answers_to, commonest, times, Reaches, Itself, Through, visits, visits_at}
-use Rattle.strategy_compiler.proofs.Common.{is_in_list, completed_within}
 use Rattle.strategy_compiler.proofs.Walking.{contains-map, visits-pass}
 
 module _ (f : ℕ → ℕ) (passes : ℕ → Bool) (one : IsOneToOne f passes) where
@@ -30,10 +27,8 @@ module _ (f : ℕ → ℕ) (passes : ℕ → Bool) (one : IsOneToOne f passes) w
 
   times-map : (i : ℕ) (js : List ℕ) → passes i ≡ true → times (f i) (map f js) ≡ times i js
   times-map i [] p = refl
-  times-map i (j ∷ js) p =
-      sum_by-cons (λ k. cond (k == f i) 1 0) (f j) (map f js)
-      ∙ (λ k. cond (one.apart j i p k) 1 0 + times-map i js p k)
-      ∙ sym (sum_by-cons (λ k. cond (k == i) 1 0) j js)
+  times-map i (j ∷ js) p = sum_by-cons (λ k. cond (k == f i) 1 0) (f j) (map f js)
+      ∙ (λ k. cond (one.apart j i p k) 1 0 + times-map i js p k) ∙ sym (sum_by-cons (λ k. cond (k == i) 1 0) j js)
 
   -- whether j is as common as any of these
   tops : ℕ → List ℕ → List ℕ → Bool
@@ -79,13 +74,10 @@ module _ (f : ℕ → ℕ) (passes : ℕ → Bool) (one : IsOneToOne f passes) w
     pub brief-renumbered : (qs : List Point) → AnswersBriefly a qs → AnswersBriefly (renumbered_answers f a) qs
     brief-renumbered [] h = (ap (renumbered_rest f) h.0, ap (map (renumbered_reply f)) h.1)
     brief-renumbered (q ∷ qs) h = record {
-      rest_is_commonest =
-          (rest_node-renumbered f passes one) a.rest ∙ ap (option_map f) h.rest_is_commonest
-          ∙ sym (commonest-map (answers_to a (q ∷ qs)) (answers_to-pass (q ∷ qs)))
-          ∙ ap commonest (sym (answers_to-renumbered a (q ∷ qs)));
-      others_are_listed =
-          points-renumbered f a.replies ∙ h.others_are_listed
-          ∙ ap (λ (p : Point → Bool). filter p (q ∷ qs)) (λ i r. sym (beside-renumbered r) i);
+      rest_is_commonest = (rest_node-renumbered f passes one) a.rest ∙ ap (option_map f) h.rest_is_commonest
+          ∙ sym (commonest-map (answers_to a (q ∷ qs)) (answers_to-pass (q ∷ qs))) ∙ ap commonest (sym (answers_to-renumbered a (q ∷ qs)));
+      others_are_listed = points-renumbered f a.replies
+          ∙ h.others_are_listed ∙ ap (λ (p : Point → Bool). filter p (q ∷ qs)) (λ i r. sym (beside-renumbered r) i);
     }
 
   pub visits-renumbered : (a : Answers) → visits (renumbered_answers f a) ≡ map f (visits a)
@@ -101,8 +93,7 @@ module _ (f : ℕ → ℕ) (passes : ℕ → Bool) (one : IsOneToOne f passes) w
     visits_at-copied i p =
         let c = copies.copied i p in
         ap (λ (o : Option Node). option_map_or (λ n. visits (answers_of n)) o []) c.2
-        ∙ visits-renumbered (answers_of c.0)
-        ∙ sym (ap (λ (o : Option Node). map f (option_map_or (λ n. visits (answers_of n)) o [])) c.1)
+        ∙ visits-renumbered (answers_of c.0) ∙ sym (ap (λ (o : Option Node). map f (option_map_or (λ n. visits (answers_of n)) o [])) c.1)
 
     visits_at-pass : (i : ℕ) → passes i ≡ true → list_all passes (visits_at t i) ≡ true
     visits_at-pass i p =
@@ -121,17 +112,13 @@ module _ (f : ℕ → ℕ) (passes : ℕ → Bool) (one : IsOneToOne f passes) w
         → completed_within k u (map f done) (f i) ≡ map f (completed_within k t done i)
     unfolding completed_within
     within-copied zero done i p = refl
-    within-copied (suc k) done i p =
-        ap (λ (b : Bool). cond b (map f done) (fold (completed_within k u) (map f done) (visits_at u (f i)) ++ f i ∷ []))
-        (among-map i done p)
+    within-copied (suc k) done i p = ap
+        (λ (b : Bool). cond b (map f done) (fold (completed_within k u) (map f done) (visits_at u (f i)) ++ f i ∷ [])) (among-map i done p)
         ∙ ap (λ (js : List ℕ). cond (is_in_list i done) (map f done) (fold (completed_within k u) (map f done) js ++ f i ∷ []))
-        (visits_at-copied i p)
-        ∙ ap (λ (ds : List ℕ). cond (is_in_list i done) (map f done) (ds ++ f i ∷ []))
+        (visits_at-copied i p) ∙ ap (λ (ds : List ℕ). cond (is_in_list i done) (map f done) (ds ++ f i ∷ []))
         (fold-copied (completed_within k t) (completed_within k u) (λ d j q. within-copied k d j q) (visits_at t i) done
-        (visits_at-pass i p))
-        ∙ ap (λ (ds : List ℕ). cond (is_in_list i done) (map f done) ds)
-        (sym (map-append f (fold (completed_within k t) done (visits_at t i)) (i ∷ [])))
-        ∙ by_test (is_in_list i done) where
+        (visits_at-pass i p)) ∙ ap (λ (ds : List ℕ). cond (is_in_list i done) (map f done) ds)
+        (sym (map-append f (fold (completed_within k t) done (visits_at t i)) (i ∷ []))) ∙ by_test (is_in_list i done) where
           by_test : (b : Bool) → cond b (map f done) (map f (fold (completed_within k t) done (visits_at t i) ++ i ∷ [])) ≡ map f
               (cond b done (fold (completed_within k t) done (visits_at t i) ++ i ∷ []))
           by_test true = refl
@@ -164,12 +151,10 @@ module _ (f : ℕ → ℕ) (passes : ℕ → Bool) (one : IsOneToOne f passes) w
       unfolding StandsFor
 
       pub stands-copied : (i : ℕ) (tree : Tree) → passes i ≡ true → StandsFor t i tree → StandsFor u (f i) tree
-      stands-copied i (Leaf q) p h =
-          at-copy i (λ n. (n.attack ≡ q) × (is_winning n.rest ≡ true)) (λ n. (n.attack ≡ q) × (is_winning n.rest ≡ true)) p
-          (λ n all k. (k.0, is_winning-renumbered f n.rest ∙ k.1)) h
+      stands-copied i (Leaf q) p h = at-copy i (λ n. (n.attack ≡ q) × (is_winning n.rest ≡ true))
+          (λ n. (n.attack ≡ q) × (is_winning n.rest ≡ true)) p (λ n all k. (k.0, is_winning-renumbered f n.rest ∙ k.1)) h
       stands-copied i (Fork q bs) p h =
-          at-copy i
-          (λ n. (n.attack ≡ q) × AnswersBriefly (answers_of n) (replies_of bs) × StandsForAll t (answers_of n) bs)
+          at-copy i (λ n. (n.attack ≡ q) × AnswersBriefly (answers_of n) (replies_of bs) × StandsForAll t (answers_of n) bs)
           (λ n. (n.attack ≡ q) × AnswersBriefly (answers_of n) (replies_of bs) × StandsForAll u (answers_of n) bs) p
           (λ n all k. (k.0, brief-renumbered (answers_of n) all (replies_of bs) k.1, stands_all-copied (answers_of n) bs all k.2)) h
 

@@ -1,35 +1,32 @@
 -- A node whose attack wins at once is a win, and so is one whose attack goes on and whose answers win after it.
-use Rattle.std.proofs.Common.{◌≡◌, ◌⊎◌, inl, inr, ℕ, suc, ◌+◌, ◌≤◌, ◌<◌, Bool, true, false, cond, not, ◌||◌}
-use Rattle.std.proofs.Common.{refl, sym, ap, subst, ◌∙◌, IsSomeAnd, arith, List, [], ◌∷◌, ◌++◌, map, length, filter, nat_eq}
-use Rattle.std.proofs.Common.{Option, Some, None, Result, Ok, Err, IfOk, OnOk, All, Contains, slice_get, nat_lt, rules, find, filter_map}
+use Rattle.std.proofs.Common.{◌≡◌, ◌⊎◌, inl, inr, ℕ, suc, ◌+◌, ◌≤◌, ◌<◌, Bool, true, false, cond, not, ◌||◌, refl, sym, ap, subst, ◌∙◌}
+use Rattle.std.proofs.Common.{IsSomeAnd, arith, List, [], ◌∷◌, ◌++◌, map, length, filter, nat_eq, Option, Some, None, Result, Ok, Err, IfOk}
+use Rattle.std.proofs.Common.{OnOk, All, Contains, slice_get, nat_lt, rules, find, filter_map}
 use Rattle.std.specs.List.{list_any, list_all, AllByRecursion}
 use Rattle.std.specs.Option.{option_or, option_eq}
 use Rattle.std.proofs.lemmas.Bool.{or_right}
 use Rattle.std.proofs.lemmas.List.{append-nil}
 use Rattle.std.proofs.lemmas.List.Elements.{All-from_recursion, Contains-append_cases}
 use Rattle.std.proofs.lemmas.Option.{slice_get_within}
-use Rattle.game_rules.proofs.Common.{Grid, is_on, is_same_point, outcome, after, LosesOr}
-use Rattle.game_rules.specs.declared.RuleKind.{RuleKind}
+use Rattle.strategy_compiler.proofs.Common.{Grid, is_on, outcome, after, LosesOr, RuleKind, Point, Node, Reply, Rest, Answers, answer}
+use Rattle.strategy_compiler.proofs.Common.{rest_node, rest_nodes, answers_of, named, names_below, listed_node, is_rising, NamesLower}
+use Rattle.strategy_compiler.proofs.Common.{NamesOnBoard, depth, greatest, Accepted, AcceptedStart, IsCompiled, PutsIn, winning_node}
+use Rattle.strategy_compiler.proofs.Common.{answering_node, answers_alone, AnswersEach, Reaches, StaysOnBoard, IsWrittenWin, AnswersWin}
+use Rattle.strategy_compiler.proofs.Common.{WinsAtOnce, WinsByAnswers, IsDoubleThreat, answer_node, two_answers, double_moves}
+use Rattle.strategy_compiler.proofs.Common.{AnswersBriefly, commonest, answers_to}
+use Rattle.game_rules.proofs.Common.{is_same_point}
 use Rattle.game_rules.specs.declared.Outcome.{Outcome}
 use Rattle.game_rules.specs.declared.Outcome.TheVariants.{Wins as WinsNow, Draws, GoesOn}
-use Rattle.game_rules.specs.declared.Point.{Point}
 use Rattle.game_rules.proofs.Points.{is_same_point-itself, is_same_point-same}
 use Rattle.game_rules.proofs.Positions.{GoesOn-on}
 use Rattle.game_rules.proofs.Outcomes.{wins-on}
-use Rattle.strategy_graph.specs.declared.Node.{Node}
-use Rattle.strategy_graph.specs.declared.Reply.{Reply}
-use Rattle.strategy_graph.specs.declared.Rest.{Rest}
-use Rattle.strategy_graph.proofs.Common.{Answers, answer, rest_node, rest_nodes, answers_of, named, names_below, listed_node, is_rising}
-use Rattle.strategy_graph.proofs.Common.{NamesLower, NamesOnBoard, depth, node_depth, start_depth, greatest, Accepted, AcceptedStart}
+use Rattle.strategy_graph.proofs.Common.{node_depth, start_depth}
 use Rattle.strategy_graph.proofs.Filling.{IsTable-lower, growth-same-start}
 use Rattle.strategy_graph.proofs.Fuel.{depth-step}
 use Rattle.strategy_graph.proofs.Steps.{accepted-by-win, accepted-by-replies}
 use Rattle.strategy_graph.proofs.Rising.{answered-as-listed, all-next}
 use Rattle.strategy_graph.proofs.Answering.{next-all}
 use Rattle.strategy_graph.proofs.Greatest.{greatest-all, contained}
-use Rattle.strategy_compiler.proofs.Common.{IsCompiled, PutsIn, winning_node, answering_node, answers_alone, AnswersEach, Reaches}
-use Rattle.strategy_compiler.proofs.Common.{StaysOnBoard, IsWrittenWin, AnswersWin, WinsAtOnce, WinsByAnswers, IsDoubleThreat, answer_node}
-use Rattle.strategy_compiler.proofs.Common.{two_answers, double_moves, AnswersBriefly, commonest, answers_to}
 use Rattle.strategy_compiler.proofs.Briefs.{brief-not_winning}
 use Rattle.strategy_compiler.proofs.Starting.{brief-inside, brief-deep, brief-accepted}
 use Rattle.strategy_compiler.proofs.Growing.{stays-longer}
@@ -97,8 +94,7 @@ module _ (P : ℕ → Type 0) (a : Answers) where
   if-some q j e h = subst (IfAnswer P) e h
 
   listed-named : (rs : List Reply) → AllByRecursion (λ r. answer a r.at ≡ Some r.next) rs
-      → AllByRecursion (λ q. IfAnswer P (answer a q)) (map (λ r. r.at) rs)
-      → AllByRecursion (λ r. P r.next) rs
+      → AllByRecursion (λ q. IfAnswer P (answer a q)) (map (λ r. r.at) rs) → AllByRecursion (λ r. P r.next) rs
   listed-named [] e h = tt
   listed-named (r ∷ rs) e h = (if-some r.at r.next e.0 h.0, listed-named rs e.1 h.1)
 
@@ -112,20 +108,18 @@ module _ (P : ℕ → Type 0) (a : Answers) where
   rest-named r js e h = search rules
 
   -- what holds of each answer to one of these replies holds of each node that is named
-  pub briefly-named : (qs : List Point) → is_rising a.replies ≡ true → AnswersBriefly a qs
-      → AllByRecursion (λ q. IfAnswer P (answer a q)) qs
-      → (j : ℕ) → Contains (named a) j → P j
+  pub briefly-named : (qs : List Point) → is_rising a.replies ≡ true
+      → AnswersBriefly a qs → AllByRecursion (λ q. IfAnswer P (answer a q)) qs → (j : ℕ) → Contains (named a) j → P j
   briefly-named [] rising brief h j c =
       let none : named a ≡ [] = ap (λ (rs : List Reply). map (λ r. r.next) rs ++ rest_nodes a.rest) brief.1 ∙ ap rest_nodes brief.0 in
       no-names P j (subst (λ (js : List ℕ). Contains js j) none c)
-  briefly-named (q ∷ qs) rising brief h j c =
-      elim (Contains-append_cases (map (λ r. r.next) a.replies) (rest_nodes a.rest) j c) [
-        | inl listed ↦ next-all P a.replies (listed-named a.replies (answered-as-listed a rising)
-            (subst (AllByRecursion (λ p. IfAnswer P (answer a p))) (sym brief.others_are_listed)
-            (all-filter (λ p. IfAnswer P (answer a p)) (λ q. not (option_eq nat_eq (answer a q) (rest_node a.rest))) (q ∷ qs) h))) j listed
-        | inr rest ↦ contained P (rest_nodes a.rest)
-            (rest-named a.rest (answers_to a (q ∷ qs)) brief.rest_is_commonest (found-named _ (q ∷ qs) h)) j rest
-      ]
+  briefly-named (q ∷ qs) rising brief h j c = elim (Contains-append_cases (map (λ r. r.next) a.replies) (rest_nodes a.rest) j c) [
+    | inl listed ↦ next-all P a.replies (listed-named a.replies (answered-as-listed a rising)
+        (subst (AllByRecursion (λ p. IfAnswer P (answer a p))) (sym brief.others_are_listed)
+        (all-filter (λ p. IfAnswer P (answer a p)) (λ q. not (option_eq nat_eq (answer a q) (rest_node a.rest))) (q ∷ qs) h))) j listed
+    | inr rest ↦ contained P
+        (rest_nodes a.rest) (rest-named a.rest (answers_to a (q ∷ qs)) brief.rest_is_commonest (found-named _ (q ∷ qs) h)) j rest
+  ]
 
 -- ---- a node whose attack wins at once
 
@@ -185,22 +179,17 @@ answers-grow t more lower answers below rule limit c win =
       each : (rs : List Reply) → All (λ r. r.next < length t) rs → AllByRecursion (λ r. StaysOnBoard c t r.next) rs
           → AllByRecursion (λ r. StaysOnBoard c (t ++ more) r.next) rs
       each [] low h = tt
-      each (r ∷ rs) low h = (
-        stays-longer c t more lower r.next (low 0 r (omega arith)) h.0,
-        each rs
-            (λ k d l. low (suc k) d (omega arith)) h.1,
-      )
+      each (r ∷ rs) low h =
+          (stays-longer c t more lower r.next (low 0 r (omega arith)) h.0, each rs (λ k d l. low (suc k) d (omega arith)) h.1)
 
 -- once the node is put in
-pub put-wins : (old new : List Node) → NamesLower old → NamesLower new → (p : Point) (answers : List Reply) → is_rising answers ≡ true
-    → All (λ r. r.next < length old) answers
-    → PutsIn old (answering_node p answers) new → (i : ℕ) → slice_get new i ≡ Some (answering_node p answers)
-    → WinsByAnswers old p answers new i
+pub put-wins : (old new : List Node) → NamesLower old → NamesLower new → (p : Point) (answers : List Reply)
+    → is_rising answers ≡ true → All (λ r. r.next < length old) answers → PutsIn old (answering_node p answers) new
+    → (i : ℕ) → slice_get new i ≡ Some (answering_node p answers) → WinsByAnswers old p answers new i
 put-wins old new before now p answers rising below put i at rule limit b on win = by_put put where
   by_put : PutsIn old (answering_node p answers) new
       → IsWrittenWin rule (suc limit) b new (record { node = i; moves = start_depth old (answers_alone answers) + 1 })
-  by_put (inl same) =
-      subst (λ (t : List Node). IsWrittenWin rule (suc limit) b new
+  by_put (inl same) = subst (λ (t : List Node). IsWrittenWin rule (suc limit) b new
       (record { node = i; moves = start_depth t (answers_alone answers) + 1 })) same.1
       (fork-wins new now p answers rising i at rule limit b on
       (subst (λ (t : List Node). AnswersWin rule limit (after b p) t answers) (sym same.1) win))
@@ -239,8 +228,7 @@ module _ (rule : RuleKind) (limit : ℕ) (c : Grid) (t : List Node) where
   answers-win answers lost listed h = record {
     accepted = λ q. met q (outcome rule c q) refl (lost q);
     within =
-        let low = greatest-all (depth t) limit (map (λ r. r.next) answers)
-        (mapped-all (λ j. depth t j ≤ limit) (λ r. r.next) answers
+        let low = greatest-all (depth t) limit (map (λ r. r.next) answers) (mapped-all (λ j. depth t j ≤ limit) (λ r. r.next) answers
         (all-weaker (IsAnswer rule limit c t) (λ r. depth t r.next ≤ limit) (λ r k. k.within) answers h)) in
         omega (arith, low, alone-deep t answers);
     on_board = all-weaker (IsAnswer rule limit c t) (λ r. is_on c r.at ≡ true) (λ r k. k.on_board) answers h;
@@ -281,8 +269,7 @@ two-deep d [] h (q ∷ qs) e = cc
 two-deep d (r ∷ rs) h [] e = cc
 two-deep d (r ∷ rs) h (q ∷ qs) e =
     let one = h.0 in
-    let low = greatest-all d 1 (map (λ r. r.next) rs)
-    (mapped-all (λ j. d j ≤ 1) (λ r. r.next) rs
+    let low = greatest-all d 1 (map (λ r. r.next) rs) (mapped-all (λ j. d j ≤ 1) (λ r. r.next) rs
     (all-weaker (λ (r : Reply). d r.next ≡ 1) (λ r. d r.next ≤ 1) (λ r k. omega (arith, k)) rs h.1)) in
     omega (arith, one, low)
 
@@ -305,10 +292,8 @@ module _ (t : List Node) (lower : NamesLower t) (start first second : Point) (re
   leaf-deep k w at = depth-step t lower k ∙ ap (λ (o : Option Node). node_depth o (depth t)) at
 
   two-moves : start_depth t (answers_alone (two_answers first i j replies)) + 1 ≡ double_moves replies
-  two-moves =
-      ap (λ (k : ℕ). k + 1) (alone-deep t (two_answers first i j replies))
-      ∙ two-deep (depth t) (two_answers first i j replies) (taken-all (λ q k. depth t k ≡ 1) (λ q k at. leaf-deep k _ at)) replies
-      (two-points first i j replies)
+  two-moves = ap (λ (k : ℕ). k + 1) (alone-deep t (two_answers first i j replies)) ∙ two-deep (depth t)
+      (two_answers first i j replies) (taken-all (λ q k. depth t k ≡ 1) (λ q k at. leaf-deep k _ at)) replies (two-points first i j replies)
 
   module _ (rule : RuleKind) (b : Grid) (threat : IsDoubleThreat rule b start first second replies) where
     lost : (q : Point) → LosesOr (outcome rule (after b start) q) (Unit {0})
@@ -326,8 +311,7 @@ module _ (t : List Node) (lower : NamesLower t) (start first second : Point) (re
         → IsAnswer rule 1 (after b start) t (record { at = q; next = k })
     is-answer q k at on = record {
       on_board = on;
-      accepted = λ go. accepted-by-win rule t lower k (after (after b start) q) _ at
-          (subst (λ (o : Outcome). LosesOr o
+      accepted = λ go. accepted-by-win rule t lower k (after (after b start) q) _ at (subst (λ (o : Outcome). LosesOr o
           (outcome rule (after (after b start) q) (cond (is_same_point q first) second first) ≡ WinsNow)) go (threat.lost q));
       within = let one = leaf-deep k _ at in omega (arith, one);
       stays = stays-by (after b start) t k _ at (record { attack = taken-on q; replies = tt }) (no-names (StaysOnBoard (after b start) t));
@@ -361,7 +345,6 @@ module _ {E : Type 0} (new : List Node) (compiled : IsCompiled new) (attack : Po
   pub answered-fork : (r : Result ℕ E) → IfOk r (λ i. slice_get new i ≡ Some n) → (old : List Node) → IsCompiled old
       → (answers : List Reply) → is_rising answers ≡ true → All (λ r. r.next < length old) answers
       → n ≡ answering_node attack answers → OnOk r (PutsIn old n new) → IfOk r (WinsByAnswers old attack answers new)
-  answered-fork (Ok i) at old before answers rising below e put =
-      put-wins old new (IsTable-lower old before.table) (IsTable-lower new compiled.table) attack answers rising below
-      (subst (λ (m : Node). PutsIn old m new) e put) i (at ∙ ap Some e)
+  answered-fork (Ok i) at old before answers rising below e put = put-wins old new (IsTable-lower old before.table)
+      (IsTable-lower new compiled.table) attack answers rising below (subst (λ (m : Node). PutsIn old m new) e put) i (at ∙ ap Some e)
   answered-fork (Err x) at old before answers rising below e put = tt

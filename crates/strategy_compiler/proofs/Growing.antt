@@ -1,10 +1,9 @@
 -- Wins that a search wrote: they stay, and the table of one. Nodes that are added, in steps.
-use Rattle.std.proofs.Common.{◌≡◌, ℕ, zero, suc, ◌<◌, List, [], ◌∷◌, ◌++◌, length, ap, ◌∙◌, arith, subst, All, Result, Ok, Err, IfOk}
-use Rattle.std.proofs.Common.{◌+◌, ◌≤◌, sym, append_assoc, length-append, Some, slice_get, rules}
-use Rattle.game_rules.specs.declared.RuleKind.{RuleKind}
-use Rattle.game_rules.proofs.Common.{Grid, is_on}
-use Rattle.strategy_graph.specs.declared.Node.{Node}
-use Rattle.strategy_graph.proofs.Common.{NamesLower, NamesOnBoard, TableOnBoard, depth, SaysSame}
+use Rattle.std.proofs.Common.{◌≡◌, ℕ, zero, suc, ◌<◌, List, [], ◌∷◌, ◌++◌, length, ap, ◌∙◌, arith, subst, All, Result, Ok, Err, IfOk, ◌+◌}
+use Rattle.std.proofs.Common.{◌≤◌, sym, append_assoc, length-append, Some, slice_get, rules}
+use Rattle.strategy_compiler.proofs.Common.{RuleKind, Grid, is_on, Node, NamesLower, NamesOnBoard, TableOnBoard, depth, SaysSame}
+use Rattle.strategy_compiler.proofs.Common.{NamesPointsReached, last, StaysOnBoard, IsWrittenWin, IsWinTable, GrowthKeepsWins, IsCompiled}
+use Rattle.strategy_compiler.proofs.Common.{GrowsBy, Writes, Tree, StandsFor, GrowthKeepsTrees}
 use Rattle.strategy_graph.proofs.Filling.{growth-same}
 use Rattle.strategy_graph.proofs.Naming.{slice_get-shorter, slice_get-longer}
 use Rattle.strategy_graph.proofs.Fuel.{accepted-deep}
@@ -13,8 +12,6 @@ use Rattle.strategy_graph.proofs.Soundness.{accepted-wins}
 use Rattle.strategy_compiler.specs.declared.wins.WrittenWin.{WrittenWin}
 use Rattle.strategy_compiler.specs.declared.error.SearchError.{SearchError}
 use Rattle.strategy_compiler.specs.declared.error.SearchError.TheVariants.{Memory}
-use Rattle.strategy_compiler.proofs.Common.{NamesPointsReached, last, StaysOnBoard, IsWrittenWin, IsWinTable, GrowthKeepsWins, IsCompiled}
-use Rattle.strategy_compiler.proofs.Common.{GrowsBy, Writes, Tree, StandsFor, GrowthKeepsTrees}
 use Rattle.strategy_compiler.proofs.Standing.{reaches-shorter, reaches-inside}
 
 -- ---- a list of nodes that grows
@@ -146,14 +143,12 @@ pub writes-tells : {A B : Type 0} (a b : List Node) (j m : ℕ) (x : A) (y : B) 
 writes-tells a b j m x y f l = record { grows = grows-more a b j m f.grows l; compiled = f.compiled; full = λ h. cc; full_now = λ h. cc }
 
 -- a call that fails as one in it does, at once or after another
-pub writes-fails : {A B : Type 0} (a b : List Node) (j m : ℕ) (e : SearchError) (s : Result B SearchError) → Writes {A = A} a b j (Err e)
-    → j ≤ m → s ≡ Err e
-    → Writes a b m s
+pub writes-fails : {A B : Type 0} (a b : List Node) (j m : ℕ) (e : SearchError) (s : Result B SearchError)
+    → Writes {A = A} a b j (Err e) → j ≤ m → s ≡ Err e → Writes a b m s
 writes-fails {B = B} a b j m e s f l is = search (rules, writes-more)
 
 pub writes-then-fails : {A B C : Type 0} (a b c : List Node) (j k m : ℕ) (x : A) (e : SearchError) (s : Result C SearchError)
-    → Writes a b j (Ok x)
-    → Writes {A = B} b c k (Err e) → j + k ≤ m → s ≡ Err e → Writes a c m s
+    → Writes a b j (Ok x) → Writes {A = B} b c k (Err e) → j + k ≤ m → s ≡ Err e → Writes a c m s
 writes-then-fails {B = B} {C = C} a b c j k m x e s f g l is = search (rules, writes-fails, writes-then)
 
 -- a node that stood for a tree still does

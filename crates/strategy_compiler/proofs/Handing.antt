@@ -1,9 +1,7 @@
 -- Nodes that are handed over one after the other, with the numbers that they have.
-use Rattle.std.proofs.Common.{◌≡◌, ◌<◌, List, [], ◌∷◌, ◌++◌, length, refl, ap, sym, ◌∙◌, length-append, append_assoc, Some}
-use Rattle.std.proofs.Common.{slice_get, rules}
-use Rattle.strategy_graph.specs.declared.Node.{Node}
-use Rattle.strategy_graph.specs.declared.TheConstants.{MAX_NODES}
-use Rattle.strategy_graph.proofs.Common.{IsNode, IsTable}
+use Rattle.std.proofs.Common.{◌≡◌, ◌<◌, List, [], ◌∷◌, ◌++◌, length, refl, ap, sym, ◌∙◌, length-append, append_assoc, Some, slice_get}
+use Rattle.std.proofs.Common.{rules}
+use Rattle.strategy_compiler.proofs.Common.{Node, MAX_NODES, IsNode, IsTable}
 
 node-between : (done rest : List Node) (n : Node) → slice_get (done ++ n ∷ rest) (length done) ≡ Some n
 node-between [] rest n = refl

@@ -1,29 +1,24 @@
 -- The places of numbers in an order, and nodes with these in place of the numbers. The table that is made of the nodes that some roots
 -- reach, in the order in which walks complete them.
-use Rattle.std.proofs.Common.{◌≡◌, ℕ, zero, suc, ◌+◌, ◌<◌, ◌≤◌, Bool, true, false, cond, not, ◌||◌}
-use Rattle.std.proofs.Common.{◌==◌, List, [], ◌∷◌, ◌++◌, length, rules, take, get_or, refl, sym, ap, subst, ◌∙◌}
-use Rattle.std.proofs.Common.{◌⊎◌, inl, inr, arith, length-append, one-add, Some, slice_get, replicate, Contains, map, fold, All}
-use Rattle.std.proofs.Common.{ltb-true, ltb-false}
+use Rattle.std.proofs.Common.{◌≡◌, ℕ, zero, suc, ◌+◌, ◌<◌, ◌≤◌, Bool, true, false, cond, not, ◌||◌, ◌==◌, List, [], ◌∷◌, ◌++◌, length}
+use Rattle.std.proofs.Common.{rules, take, get_or, refl, sym, ap, subst, ◌∙◌, ◌⊎◌, inl, inr, arith, length-append, one-add, Some, slice_get}
+use Rattle.std.proofs.Common.{replicate, Contains, map, fold, All, ltb-true, ltb-false}
 use Rattle.std.specs.List.{list_all, range_with_len}
 use Rattle.std.proofs.Math.ListN.{set, length-set}
 use Rattle.std.proofs.lemmas.List.{get_or-set_same, get_or-set_other, length-replicate, ext_get_or, get_or-map, length-map}
 use Rattle.std.proofs.lemmas.Option.{slice_get_within, slice_get_read, slice_get-get_or, get_or_from_slice_get, same_Some}
 use Rattle.std.proofs.lemmas.Bool.Decides.{Decides-eqb}
 use Rattle.std.proofs.lemmas.List.FromFn.{length-range_with_len, get_or-range_with_len}
-use Rattle.game_rules.specs.declared.Point.{Point}
-use Rattle.strategy_graph.specs.declared.Node.{Node}
-use Rattle.strategy_graph.specs.declared.Reply.{Reply}
-use Rattle.strategy_graph.proofs.Common.{answers_of, named, names_below, IsNode, IsTable, renumbered_node, Answers, NamesLower, SaysSame}
-use Rattle.strategy_graph.proofs.Common.{StartSaysSame, renumbered_answers}
+use Rattle.strategy_compiler.proofs.Common.{Point, Node, Reply, answers_of, named, names_below, IsNode, IsTable, renumbered_node, Answers}
+use Rattle.strategy_compiler.proofs.Common.{NamesLower, SaysSame, StartSaysSame, renumbered_answers, is_in_list, place_in, Renumbers}
+use Rattle.strategy_compiler.proofs.Common.{ArePlaces, IsOrder, Tree, StandsFor, AreDifferent, IsNumberedByWalk, IsTableOf, NamesPointsFrom}
+use Rattle.strategy_compiler.proofs.Common.{NamesPointsReached, ReachedFrom, Reaches, completed, completed_after, completed_from, last}
+use Rattle.strategy_compiler.proofs.Common.{visits_at, IsMadeFrom, IsMadeOf, AnswersBriefly, Branches, StandsForAll}
 use Rattle.strategy_graph.proofs.Filling.{names_below-more, last_node, IsTable-lower, list_all-weaker}
 use Rattle.strategy_graph.proofs.Renumbering.{renumbered-agree, IsNode-renumbered, copies-same, copies-same-start, points-renumbered}
 use Rattle.strategy_graph.proofs.Renumbering.{IsOneToOne, nodes-renumbered}
 use Rattle.strategy_graph.proofs.Naming.{slice_get-longer}
 use Rattle.strategy_graph.proofs.Copies.{Copies}
-use Rattle.strategy_compiler.proofs.Common.{is_in_list, place_in, Renumbers, ArePlaces, IsOrder, Tree, StandsFor, AreDifferent}
-use Rattle.strategy_compiler.proofs.Common.{IsNumberedByWalk, IsTableOf, NamesPointsFrom, NamesPointsReached, ReachedFrom, Reaches}
-use Rattle.strategy_compiler.proofs.Common.{completed, completed_after, completed_from, last, visits_at, IsMadeFrom, IsMadeOf}
-use Rattle.strategy_compiler.proofs.Common.{AnswersBriefly, Branches, StandsForAll}
 use Rattle.strategy_compiler.proofs.Walking.{among-at, walked-step, walks-itself, visited-above, within-enough, contains-map}
 use Rattle.strategy_compiler.proofs.Copying.{brief-renumbered, fold-copied, within-copied, reaches-copied, stands-copied, stands_all-copied}
 use Rattle.strategy_compiler.proofs.Standing.{completed-reached}
@@ -164,17 +159,13 @@ module _ (t : List Node) (order : List ℕ) (table : IsTable t) (is_order : IsOr
   module _ (places : List ℕ) (are_places : ArePlaces order places) (m : Node) (is : m ≡ renumbered_node (λ j. get_or places j 0) n)
       (u : List Node) (so_far : RenumbersUpTo t order u p) where
     pub node-next : IsNode m (length u)
-    node-next =
-        subst (λ (k : ℕ). IsNode m k) (sym so_far.count)
-        (subst (λ (x : Node). IsNode x p)
+    node-next = subst (λ (k : ℕ). IsNode m k) (sym so_far.count) (subst (λ (x : Node). IsNode x p)
         (sym (is ∙ renumbered-places t order table is_order p (get_or order p 0) n number-here node-at (λ j. get_or places j 0)
-        are_places.placed))
-        (renumbered-node t order table is_order p (get_or order p 0) n number-here node-at))
+        are_places.placed)) (renumbered-node t order table is_order p (get_or order p 0) n number-here node-at))
 
     pub renumbers-next : (v : List Node) → v ≡ u ++ m ∷ [] → RenumbersUpTo t order v (p + 1)
-    renumbers-next v e =
-        subst (λ (w : List Node). RenumbersUpTo t order w (p + 1)) (sym e)
-        (renumbers-more t order table is_order u p (get_or order p 0) n m (λ j. get_or places j 0) so_far number-here node-at
+    renumbers-next v e = subst (λ (w : List Node). RenumbersUpTo t order w (p + 1))
+        (sym e) (renumbers-more t order table is_order u p (get_or order p 0) n m (λ j. get_or places j 0) so_far number-here node-at
         are_places.placed (is))
 
 -- a number that is not in the list has its length for a place
@@ -232,8 +223,7 @@ module _ (t : List Node) (roots order : List ℕ) (u : List Node) (table : IsTab
   pub made-table : IsTable u
   made-table = record {
     nodes = node_at;
-    size = let count = re.count in let short = is_order.short in let size =
-        table.size in omega (arith, count, short, size);
+    size = let count = re.count in let short = is_order.short in let size = table.size in omega (arith, count, short, size);
   } where
     node_at : (k : ℕ) (m : Node) → slice_get u k ≡ Some m → IsNode m k
     node_at k m at =
@@ -281,9 +271,8 @@ module _ (t : List Node) (roots order : List ℕ) (u : List Node) (table : IsTab
   -- ---- they are numbered as walks complete them
 
   in-order : map (place_in order) order ≡ range_with_len 0 (length u)
-  in-order =
-      ext_get_or 0 (map (place_in order) order) (range_with_len 0 (length u))
-      (length-map order (place_in order) ∙ sym re.count ∙ sym (length-range_with_len 0 (length u)))
+  in-order = ext_get_or 0 (map (place_in order) order)
+      (range_with_len 0 (length u)) (length-map order (place_in order) ∙ sym re.count ∙ sym (length-range_with_len 0 (length u)))
       (λ k l. let inside : k < length order = let long = length-map order (place_in order) in omega (arith, long, l) in
       let count = re.count in
       get_or-map (place_in order) order k 0 0 inside
@@ -303,11 +292,8 @@ module _ (t : List Node) (roots order : List ℕ) (u : List Node) (table : IsTab
       ∙ ap (map (place_in order)) (within-enough t lower most (suc i) i done (omega arith) (omega arith))
 
   pub made-numbered : completed_from u (map (place_in order) roots) ≡ range_with_len 0 (length u)
-  made-numbered =
-      fold-copied (place_in order) (λ i. is_in_list i order) (places-apart order) t u copies (completed_after t) (completed_after u)
-      step-copied roots [] roots-among
-      ∙ ap (map (place_in order)) (sym walked)
-      ∙ in-order
+  made-numbered = fold-copied (place_in order) (λ i. is_in_list i order) (places-apart order) t u copies
+      (completed_after t) (completed_after u) step-copied roots [] roots-among ∙ ap (map (place_in order)) (sym walked) ∙ in-order
 
   pub made-different : AreDifferent u
   made-different = record { different = λ a b m at at'. equal a b m at at' } where

@@ -4,20 +4,15 @@ use Rattle.std.proofs.Common.{◌≡◌, ◌⊎◌, inl, inr, ℕ, zero, suc, �
 use Rattle.std.proofs.Common.{sym, subst, ◌∙◌, arith, Option, Some, None, fold, slice_get, Contains, ◌*◌, ◌≤◌, rules}
 use Rattle.std.specs.Option.{option_map_or, option_map}
 use Rattle.std.proofs.lemmas.Bool.Decides.{Decides-eqb}
-use Rattle.game_rules.specs.declared.Point.{Point}
-use Rattle.game_rules.specs.declared.RuleKind.{RuleKind}
-use Rattle.game_rules.proofs.Common.{Grid, wins_by_fours}
-use Rattle.strategy_graph.specs.declared.Node.{Node}
-use Rattle.strategy_graph.specs.declared.Rest.{Rest}
-use Rattle.strategy_graph.specs.declared.Rest.TheVariants.{Wins}
+use Rattle.strategy_compiler.proofs.Common.{Point, RuleKind, Grid, Node, Rest, Wins, Answers, answers_of, NamesLower, answer, depth}
+use Rattle.strategy_compiler.proofs.Common.{is_winning, IsTable, AtNode, Accepted, arrivals, visits, visits_at, is_in_list}
+use Rattle.strategy_compiler.proofs.Common.{completed_within, completed_after, completed_from, Reaches, Itself, Through, ReachedFrom}
+use Rattle.strategy_compiler.proofs.Common.{GrowthKeepsReach, Tree, Branches, Leaf, Fork, NoBranch, Branch, StandsFor, StandsForAll}
+use Rattle.strategy_compiler.proofs.Common.{GrowthKeepsTrees, AnswersBriefly, replies_of, PutsIn, winning_node, IsCompiled, StaysOnBoard}
+use Rattle.game_rules.proofs.Common.{wins_by_fours}
 use Rattle.strategy_graph.proofs.Naming.{slice_get-longer, slice_get-shorter}
-use Rattle.strategy_graph.proofs.Common.{Answers, answers_of, NamesLower, answer, depth, is_winning, IsTable, AtNode, Accepted, arrivals}
 use Rattle.strategy_graph.proofs.Answering.{IsSomeAnd-map, attack_at, AtNode-parts, nothing_not_winning, winning_no_answer, not_winning_by}
 use Rattle.strategy_compiler.proofs.Walking.{among-push, visited-named, named-below, lt_trans}
-use Rattle.strategy_compiler.proofs.Common.{visits, visits_at, is_in_list, completed_within, completed_after, completed_from, Reaches}
-use Rattle.strategy_compiler.proofs.Common.{Itself, Through, ReachedFrom, GrowthKeepsReach, Tree, Branches, Leaf, Fork, NoBranch, Branch}
-use Rattle.strategy_compiler.proofs.Common.{StandsFor, StandsForAll, GrowthKeepsTrees, AnswersBriefly, replies_of, PutsIn, winning_node}
-use Rattle.strategy_compiler.proofs.Common.{IsCompiled, StaysOnBoard}
 
 -- ---- what walks complete
 
@@ -101,9 +96,8 @@ mutual
 
   stands-longer : (t more : List Node) (i : ℕ) (tree : Tree) → StandsFor t i tree → StandsFor (t ++ more) i tree
   stands-longer t more i (Leaf p) h = AtNode-from (slice_get t i) (slice_get (t ++ more) i) _ _ (slice_get-longer t more i) (λ n k. k) h
-  stands-longer t more i (Fork p bs) h =
-      AtNode-from (slice_get t i) (slice_get (t ++ more) i) _ _ (slice_get-longer t more i)
-      (λ n k. (k.0, k.1, stands_all-longer t more (answers_of n) bs k.2)) h
+  stands-longer t more i (Fork p bs) h = AtNode-from (slice_get t i)
+      (slice_get (t ++ more) i) _ _ (slice_get-longer t more i) (λ n k. (k.0, k.1, stands_all-longer t more (answers_of n) bs k.2)) h
 
   stands_all-longer : (t more : List Node) (a : Answers) (bs : Branches) → StandsForAll t a bs → StandsForAll (t ++ more) a bs
   stands_all-longer t more a NoBranch h = tt
@@ -145,9 +139,8 @@ pub record IsWritten (rule : RuleKind) (t : List Node) (i n : ℕ) (b : Grid) : 
   pub on_board : StaysOnBoard b t i
   pub short : arrivals rule t i b ≤ b.width * b.height * n
 
-pub winning-is : (t : List Node) (i : ℕ) (n : Node) (x : Point) → IsTable t → slice_get t i ≡ Some n → n.attack ≡ x
-    → is_winning n.rest ≡ true
-    → n ≡ winning_node x
+pub winning-is : (t : List Node) (i : ℕ) (n : Node) (x : Point)
+    → IsTable t → slice_get t i ≡ Some n → n.attack ≡ x → is_winning n.rest ≡ true → n ≡ winning_node x
 winning-is t i n x table at plays win =
     let none = (table.nodes i n at).winning win in
     let rest = by_rest n.rest win in
@@ -161,9 +154,8 @@ pub leaf_node : (t : List Node) (i : ℕ) (x : Point) → StandsFor t i (Leaf x)
 unfolding StandsFor
 leaf_node t i x h = AtNode-parts (slice_get t i) (λ n. (n.attack ≡ x) × (is_winning n.rest ≡ true)) h
 
-pub fork_node : (t : List Node) (i : ℕ) (x : Point) (bs : Branches) → StandsFor t i (Fork x bs)
-    → (n : Node) × (slice_get t i ≡ Some n)
-    × ((n.attack ≡ x) × AnswersBriefly (answers_of n) (replies_of bs) × StandsForAll t (answers_of n) bs)
+pub fork_node : (t : List Node) (i : ℕ) (x : Point) (bs : Branches) → StandsFor t i (Fork x bs) → (n : Node)
+    × (slice_get t i ≡ Some n) × ((n.attack ≡ x) × AnswersBriefly (answers_of n) (replies_of bs) × StandsForAll t (answers_of n) bs)
 unfolding StandsFor
 fork_node t i x bs h = search (rules, AtNode-parts)
 
@@ -171,9 +163,8 @@ pub forks_not_winning : (t : List Node) (i : ℕ) (n : Node) → IsTable t → s
     → AnswersBriefly (answers_of n) (replies_of bs) → StandsForAll t (answers_of n) bs → is_winning n.rest ≡ true → ⊥
 unfolding StandsFor
 forks_not_winning t i n table at NoBranch brief stands win = nothing_not_winning n.rest brief.0 win
-forks_not_winning t i n table at (Branch q s bs) brief stands win =
-    not_winning_by (answer (answers_of n) q) (λ j. StandsFor t j s) (winning_no_answer n q n.rest win ((table.nodes i n at).winning win))
-    stands.0
+forks_not_winning t i n table at (Branch q s bs) brief stands win = not_winning_by
+    (answer (answers_of n) q) (λ j. StandsFor t j s) (winning_no_answer n q n.rest win ((table.nodes i n at).winning win)) stands.0
 
 pub compiled-lower : (t : List Node) → IsCompiled t → NamesLower t
 compiled-lower t ok = record { lower = λ i n at. (ok.table.nodes i n at).below }

@@ -1,30 +1,27 @@
 -- The start that is made of answers: it has them in brief, and says what they say alone.
-use Rattle.std.proofs.Common.{◌≡◌, ℕ, zero, suc, ◌<◌, Bool, true, false, ◌||◌, ◌==◌, List, [], ◌∷◌, ◌++◌, map, length, refl, sym, IsSomeAnd, rules, sum_by, option_map, ltb-true, lt-ltb}
-use Rattle.std.proofs.Common.{ap, subst, ◌∙◌, arith, ◌↔◌, Option, Some, None, IsSome, All, Contains, nat_lt, slice_index}
+use Rattle.std.proofs.Common.{◌≡◌, ℕ, zero, suc, ◌<◌, Bool, true, false, ◌||◌, ◌==◌, List, [], ◌∷◌, ◌++◌, map, length, refl, sym, IsSomeAnd}
+use Rattle.std.proofs.Common.{rules, sum_by, option_map, ltb-true, lt-ltb, ap, subst, ◌∙◌, arith, ◌↔◌, Option, Some, None, IsSome, All}
+use Rattle.std.proofs.Common.{Contains, nat_lt, slice_index}
 use Rattle.std.specs.List.{list_all, AllByRecursion}
 use Rattle.std.specs.Option.{option_or}
 use Rattle.std.proofs.lemmas.Bool.{or_right}
 use Rattle.std.proofs.lemmas.Bool.Decides.{Decides-eqb}
 use Rattle.std.proofs.lemmas.List.Folds.{list_all-append}
 use Rattle.std.proofs.lemmas.List.Elements.{All-cons, All-nil, All-from_recursion, Contains-append_left, Contains-append_cases}
-use Rattle.game_rules.proofs.Common.{Grid, points_of, outcome, after, LosesOr}
-use Rattle.game_rules.specs.declared.RuleKind.{RuleKind}
-use Rattle.game_rules.specs.declared.Point.{Point}
+use Rattle.strategy_compiler.proofs.Common.{Grid, outcome, after, LosesOr, RuleKind, Point, Node, Reply, Rest, Answers, answer, listed_node}
+use Rattle.strategy_compiler.proofs.Common.{named, names_below, rest_nodes, is_rising, greatest, depth, NamesLower, renumbered_answers}
+use Rattle.strategy_compiler.proofs.Common.{renumbered_reply, Accepted, AcceptedStart, arrivals, SaysSame, StartSaysSame, is_in_list}
+use Rattle.strategy_compiler.proofs.Common.{completed_from, place_in, visits, ArePlaces, IsMadeFrom, brief_answers, answers_beside}
+use Rattle.strategy_compiler.proofs.Common.{commonest_next, rest_of, answers_alone, AnswersEach, start_order, AnswersBranches, Branches}
+use Rattle.strategy_compiler.proofs.Common.{IsMadeOfAnswers, IsStartOfBranches, replies_of}
+use Rattle.game_rules.proofs.Common.{points_of}
 use Rattle.game_rules.proofs.Boards.{and_left, and_right}
-use Rattle.strategy_graph.specs.declared.Node.{Node}
-use Rattle.strategy_graph.specs.declared.Reply.{Reply}
-use Rattle.strategy_graph.specs.declared.Rest.{Rest}
-use Rattle.strategy_graph.proofs.Common.{Answers, answer, listed_node, named, names_below, rest_nodes, is_rising, greatest, depth}
-use Rattle.strategy_graph.proofs.Common.{NamesLower, renumbered_answers, renumbered_reply, Accepted, AcceptedStart}
-use Rattle.strategy_graph.proofs.Common.{arrivals_at, arrivals, start_arrivals, SaysSame, StartSaysSame}
+use Rattle.strategy_graph.proofs.Common.{arrivals_at, start_arrivals}
 use Rattle.strategy_graph.proofs.Answering.{answer-named}
 use Rattle.strategy_graph.proofs.Copies.{iff_by, answer-renumbered, is_winning-renumbered, named-renumbered}
 use Rattle.strategy_graph.proofs.Renumbering.{renumbered_replies-agree, renumbered_rest-agree, rising-renumbered}
 use Rattle.strategy_graph.proofs.Rising.{AnsweredAsGiven, listed-given, all-next}
 use Rattle.strategy_graph.proofs.Greatest.{greatest-same}
-use Rattle.strategy_compiler.proofs.Common.{is_in_list, completed_from, place_in, visits, ArePlaces, IsMadeFrom, brief_answers}
-use Rattle.strategy_compiler.proofs.Common.{answers_beside, commonest_next, rest_of, answers_alone, AnswersEach, start_order}
-use Rattle.strategy_compiler.proofs.Common.{AnswersBranches, Branches, IsMadeOfAnswers, IsStartOfBranches, replies_of}
 use Rattle.strategy_compiler.proofs.Walking.{visited-named, named-visited, all-contains, contains-map, visits-below, walks-itself}
 use Rattle.strategy_compiler.proofs.Places.{all_by, among-place, places-apart}
 use Rattle.strategy_compiler.proofs.Copying.{visits-renumbered}
@@ -138,18 +135,17 @@ module _ (answers : List Reply) (rising : is_rising answers ≡ true) where
       nodes = made.nodes;
       start = refl;
       different = made.different;
-      below =
-          ap (list_all (λ j. nat_lt j (length u))) (named-renumbered (place_in (start_order t answers)) (brief_answers answers))
+      below = ap (list_all (λ j. nat_lt j (length u))) (named-renumbered (place_in (start_order t answers)) (brief_answers answers))
           ∙ all-mapped (named (brief_answers answers)) (λ j c. (made.each_root j (named-root j c)).inside);
       reached = λ k l. let r = made.reached k l in (r.0, start-names r.0 r.1, r.2);
-      each = All-from_recursion
-          (λ r. IsSomeAnd (answer (renumbered_answers (place_in (start_order t answers)) (brief_answers answers)) r.at)
+      each =
+          All-from_recursion (λ r. IsSomeAnd (answer (renumbered_answers (place_in (start_order t answers)) (brief_answers answers)) r.at)
           (SaysSame t r.next u)) answers made-each;
       deep = said.same_depth ∙ brief-deep (depth t);
       table_points = λ k d l. let p = made.points k d l in
           (p.0, p.1, (p.2.0, brief-inside p.2.0 (visited-named (brief_answers answers) p.2.0 p.2.1), p.2.2), p.3, p.4, p.5);
-      start_points = renumbered-points (Contains (map (λ s. s.at) answers)) (place_in (start_order t answers))
-          (brief_answers answers).replies (points-kept answers);
+      start_points = renumbered-points
+          (Contains (map (λ s. s.at) answers)) (place_in (start_order t answers)) (brief_answers answers).replies (points-kept answers);
       accepted = λ rule b all. iff_then _ _ _ (said.same_accepted rule b) (iff_by _ _ (brief-accepted rule b all t));
       count = λ rule b all. said.same_arrivals rule b ∙ brief-count rule b all t;
     }) where
@@ -197,8 +193,7 @@ module _ (answers : List Reply) (rising : is_rising answers ≡ true) where
           different = made.different;
           numbered =
               ap (completed_from u) (visits-renumbered f (λ i. is_in_list i (start_order t answers)) (places-apart (start_order t answers))
-              (brief_answers answers))
-              ∙ made.numbered;
+              (brief_answers answers)) ∙ made.numbered;
         })
 
 -- ---- the same, as the code reads it
@@ -236,10 +231,9 @@ places-agree t lower answers places are =
     (and_right (list_all (λ j. is_in_list j order) (map (λ (r : Reply). r.next) a.replies)) _ parts) in
     λ i. record { replies = replies i; rest = rest i }
 
-pub start-made : (t : List Node) → NamesLower t → (answers : List Reply) → is_rising answers ≡ true
-    → (a : Answers) (roots places : List ℕ) (u : List Node) (start : Answers) → brief_answers answers ≡ a → roots ≡ visits a
-    → IsMadeFrom t roots (completed_from t roots) u → ArePlaces (completed_from t roots) places
-    → start ≡ renumbered_answers (λ j. slice_index places j) a
+pub start-made : (t : List Node) → NamesLower t → (answers : List Reply) → is_rising answers ≡ true → (a : Answers) (roots places : List ℕ)
+    (u : List Node) (start : Answers) → brief_answers answers ≡ a → roots ≡ visits a → IsMadeFrom t roots (completed_from t roots) u
+    → ArePlaces (completed_from t roots) places → start ≡ renumbered_answers (λ j. slice_index places j) a
     → IsMadeOfAnswers t answers u start × ((bs : Branches) → AnswersBranches t answers bs → IsStartOfBranches bs u start)
 start-made t lower answers rising a roots places u start is visited made are starts =
     let here : roots ≡ visits (brief_answers answers) = visited ∙ ap visits (sym is) in

@@ -1,8 +1,8 @@
 -- Nodes unfolded: copies are the same nodes, and in a table with no two equal nodes no two are the same. So such a table holds as
 -- many different nodes as it has.
-use Rattle.std.proofs.Common.{rules, ◌≡◌, ℕ, zero, suc, ◌<◌, ◌≤◌, ◌+◌, Bool, true, false, ◌==◌, List}
-use Rattle.std.proofs.Common.{[], ◌∷◌, length, refl, sym, ap, subst, ◌∙◌, arith, Option, Some, None, nat_lt, slice_get, map}
-use Rattle.std.proofs.Common.{All, Contains, ◌++◌, ◌⊎◌, inl, inr, length-append, ltb-true}
+use Rattle.std.proofs.Common.{rules, ◌≡◌, ℕ, zero, suc, ◌<◌, ◌≤◌, ◌+◌, Bool, true, false, ◌==◌, List, [], ◌∷◌, length, refl, sym, ap, subst}
+use Rattle.std.proofs.Common.{◌∙◌, arith, Option, Some, None, nat_lt, slice_get, map, All, Contains, ◌++◌, ◌⊎◌, inl, inr, length-append}
+use Rattle.std.proofs.Common.{ltb-true}
 use Rattle.std.specs.List.{list_all, list_any, range_with_len, AllByRecursion, IsDistinct}
 use Rattle.std.proofs.lemmas.Bool.{cases_lt}
 use Rattle.std.proofs.lemmas.Option.{same_Some}
@@ -11,16 +11,12 @@ use Rattle.std.proofs.lemmas.List.Folds.{list_all-append}
 use Rattle.std.proofs.lemmas.List.Elements.{All-from_recursion}
 use Rattle.std.proofs.lemmas.Map.Steps.{length-le_from_distinct_below}
 use Rattle.game_rules.proofs.Boards.{and_left, and_right}
-use Rattle.strategy_graph.specs.declared.Node.{Node}
-use Rattle.strategy_graph.specs.declared.Reply.{Reply}
-use Rattle.strategy_graph.specs.declared.Rest.{Rest}
-use Rattle.strategy_graph.proofs.Common.{Answers, NamesLower, answers_of, named, names_below, rest_nodes, renumbered_node, renumbered_reply}
-use Rattle.strategy_graph.proofs.Common.{renumbered_rest, IsNode}
+use Rattle.strategy_compiler.proofs.Common.{Node, Reply, Rest, Answers, NamesLower, answers_of, named, names_below, rest_nodes}
+use Rattle.strategy_compiler.proofs.Common.{renumbered_node, renumbered_reply, renumbered_rest, IsNode, AreDifferent, IsCompiled, Unfolded}
+use Rattle.strategy_compiler.proofs.Common.{HoldMore, IsHeld, unfolded, unfolded_node, unfolded_nodes, unfolded_replies, unfolded_rest}
 use Rattle.strategy_graph.proofs.Naming.{slice_get-longer}
 use Rattle.strategy_graph.proofs.Filling.{IsTable-lower, names_below-more}
 use Rattle.strategy_graph.proofs.Copies.{Copies, renumbered-same}
-use Rattle.strategy_compiler.proofs.Common.{AreDifferent, IsCompiled, Unfolded, HoldMore, IsHeld, unfolded, unfolded_node, unfolded_nodes}
-use Rattle.strategy_compiler.proofs.Common.{unfolded_replies, unfolded_rest}
 unfoldable use Rattle.strategy_compiler.specs.Unfolded.{unfolded_within}
 
 -- the replies that are listed, and the rest, pass where all that is named does
@@ -51,9 +47,8 @@ module _ (f : ℕ → ℕ) (passes : ℕ → Bool) (t u : List Node) (copies : C
   within-copied zero i p = refl
   within-copied (suc k) i p =
       let c = copies.copied i p in
-      ap (unfolded_node (unfolded_within k u)) c.2
-      ∙ node-copied f passes (unfolded_within k t) (unfolded_within k u) (λ j q. within-copied k j q) c.0 c.3
-      ∙ sym (ap (unfolded_node (unfolded_within k t)) c.1)
+      ap (unfolded_node (unfolded_within k u)) c.2 ∙ node-copied f passes
+      (unfolded_within k t) (unfolded_within k u) (λ j q. within-copied k j q) c.0 c.3 ∙ sym (ap (unfolded_node (unfolded_within k t)) c.1)
 
 -- ---- the bound on the nodes that follow one another plays no part, and nor do the nodes after them
 
@@ -64,8 +59,7 @@ node-inside (n ∷ t) (suc i) l = node-inside t i (omega arith)
 
 node-agree : (at at' : ℕ → Unfolded) (i : ℕ) (n : Node) → names_below (answers_of n) i ≡ true → ((j : ℕ) → j < i → at' j ≡ at j)
     → unfolded_node at' (Some n) ≡ unfolded_node at (Some n)
-node-agree at at' i n below same =
-    ap (λ (m : Node). unfolded_node at' (Some m)) (sym (renumbered-same n))
+node-agree at at' i n below same = ap (λ (m : Node). unfolded_node at' (Some m)) (sym (renumbered-same n))
     ∙ node-copied (λ j. j) (λ j. nat_lt j i) at at' (λ j e. same j (ltb-true _ _ e)) n below
 
 module _ (t : List Node) (lower : NamesLower t) where
@@ -83,9 +77,8 @@ module _ (t : List Node) (lower : NamesLower t) where
   within-longer more (suc k) i l =
       let n = node-inside t i l in
       ap (unfolded_node (unfolded_within k (t ++ more))) (slice_get-longer t more i n.0 n.1)
-      ∙ node-agree (unfolded_within k t) (unfolded_within k (t ++ more)) i n.0 (lower.lower i n.0 n.1)
-      (λ j low. within-longer more k j (omega arith))
-      ∙ ap (unfolded_node (unfolded_within k t)) (sym n.1)
+      ∙ node-agree (unfolded_within k t) (unfolded_within k (t ++ more)) i n.0
+      (lower.lower i n.0 n.1) (λ j low. within-longer more k j (omega arith)) ∙ ap (unfolded_node (unfolded_within k t)) (sym n.1)
 
   within-enough : (k m i : ℕ) → i < k → i < m → unfolded_within m t i ≡ unfolded_within k t i
   unfolding unfolded_within
@@ -108,8 +101,7 @@ pub unfolded-copied : (f : ℕ → ℕ) (passes : ℕ → Bool) (t u : List Node
 unfolded-copied f passes t u copies lower lower' i p =
     let most : ℕ = suc (i + f i) in
     within-enough u lower' most (suc (f i)) (f i) (omega arith) (omega arith)
-    ∙ within-copied f passes t u copies most i p
-    ∙ within-enough t lower (suc i) most i (omega arith) (omega arith)
+    ∙ within-copied f passes t u copies most i p ∙ within-enough t lower (suc i) most i (omega arith) (omega arith)
 
 -- answers that name copies, or name nodes of a table that grows, have the same nodes
 pub answers-copied : (f : ℕ → ℕ) (passes : ℕ → Bool) (t u : List Node) → Copies f passes t u → NamesLower t → NamesLower u → (a : Answers)
@@ -167,12 +159,10 @@ module _ (t : List Node) (lower : NamesLower t) (different : AreDifferent t) whe
   apart-below (suc k) i j room l h e =
       let n = node-inside t i (omega arith) in
       let m = node-inside t j (omega arith) in
-      let at : unfolded_node (unfolded t) (Some n.0) ≡ unfolded_node (unfolded t) (Some m.0) =
-      ap (unfolded_node (unfolded t)) (sym n.1) ∙ sym (unfolded-step t lower i) ∙ e ∙ unfolded-step t lower j
-      ∙ ap (unfolded_node (unfolded t)) m.1 in
+      let at : unfolded_node (unfolded t) (Some n.0) ≡ unfolded_node (unfolded t) (Some m.0) = ap (unfolded_node (unfolded t)) (sym n.1)
+      ∙ sym (unfolded-step t lower i) ∙ e ∙ unfolded-step t lower j ∙ ap (unfolded_node (unfolded t)) m.1 in
       let same : n.0 ≡ m.0 =
-      nodes-apart (unfolded t) (λ x. nat_lt x k)
-      (λ x y p q f. apart-below k x y (omega arith) (ltb-true _ _ p) (ltb-true _ _ q) f) n.0 m.0
+      nodes-apart (unfolded t) (λ x. nat_lt x k) (λ x y p q f. apart-below k x y (omega arith) (ltb-true _ _ p) (ltb-true _ _ q) f) n.0 m.0
       (names_below-more (answers_of n.0) i k (omega arith) (lower.lower i n.0 n.1))
       (names_below-more (answers_of m.0) j k (omega arith) (lower.lower j m.0 m.1)) at in
       different.different i j m.0 (n.1 ∙ ap Some same) m.1
@@ -210,11 +200,10 @@ module _ (u : List Node) where
   other-at : (ws : List Unfolded) (xs : List ℕ) → AreAt u ws xs → (w : Unfolded) (x : ℕ) → unfolded u x ≡ w
       → ((i : ℕ) → slice_get ws i ≡ Some w → ⊥) → AllByRecursion (λ y. (x == y) ≡ false) xs
   other-at _ _ NoneAt w x e none = tt
-  other-at _ _ (OneAt v ws y ys l at rest) w x e none =
-      (by_test (x == y) refl, other-at ws ys rest w x e (λ i h. none (suc i) h)) where
-        by_test : (b : Bool) → (x == y) ≡ b → b ≡ false
-        by_test true same = absurd (none 0 (ap Some (sym at ∙ ap (unfolded u) (sym ((Decides-eqb x y).0 same)) ∙ e)))
-        by_test false same = refl
+  other-at _ _ (OneAt v ws y ys l at rest) w x e none = (by_test (x == y) refl, other-at ws ys rest w x e (λ i h. none (suc i) h)) where
+    by_test : (b : Bool) → (x == y) ≡ b → b ≡ false
+    by_test true same = absurd (none 0 (ap Some (sym at ∙ ap (unfolded u) (sym ((Decides-eqb x y).0 same)) ∙ e)))
+    by_test false same = refl
 
   distinct-at : (ws : List Unfolded) (xs : List ℕ) → AreAt u ws xs
       → ((i j : ℕ) (w : Unfolded) → slice_get ws i ≡ Some w → slice_get ws j ≡ Some w → i ≡ j) → IsDistinct (λ x y. x == y) xs
@@ -231,9 +220,8 @@ pub held-within : (tables : List (List Node)) (most : ℕ) (u : List Node)
 held-within tables most u find h =
     let found = numbered u h.nodes (λ w c. find w (all-at h.nodes (IsHeld tables) h.held w c)) in
     let count = count-at u h.nodes found.0 found.1 in
-    let few =
-    length-le_from_distinct_below found.0 (length u) (distinct-at u h.nodes found.0 found.1 h.different)
-    (below-at u h.nodes found.0 found.1) in
+    let few = length-le_from_distinct_below found.0
+    (length u) (distinct-at u h.nodes found.0 found.1 h.different) (below-at u h.nodes found.0 found.1) in
     let more = h.more in
     omega arith where
       all-at : (ws : List Unfolded) (P : Unfolded → Type 0) → All P ws → (w : Unfolded) → Contains ws w → P w
@@ -303,9 +291,8 @@ lower-push : (t : List Node) (n : Node) → NamesLower t → names_below (answer
 lower-push t n lower below = search (rules, pushed-node)
 
 -- the nodes of a compiler and one that is new to it, all of them held by the tables, are so many different nodes
-pub held-one_more : (tables : List (List Node)) (most : ℕ) (t : List Node) (n : Node) → IsCompiled t → IsNode n (length t)
-    → (Contains t n → ⊥) → length t ≡ most
-    → ((i : ℕ) → i < length t → IsHeld tables (unfolded t i))
+pub held-one_more : (tables : List (List Node)) (most : ℕ) (t : List Node) (n : Node)
+    → IsCompiled t → IsNode n (length t) → (Contains t n → ⊥) → length t ≡ most → ((i : ℕ) → i < length t → IsHeld tables (unfolded t i))
     → (NamesLower (t ++ n ∷ []) → IsHeld tables (unfolded (t ++ n ∷ []) (length t))) → HoldMore tables most
 held-one_more tables most t n compiled node new full held last =
     let lower = IsTable-lower t compiled.table in

@@ -1,19 +1,20 @@
 -- A tree has one table, and branches have one start: nodes that stand for a same tree in two tables are walked over alike, and are the
 -- same.
-use Rattle.std.proofs.Common.{◌≡◌, ℕ, zero, suc, ◌+◌, ◌<◌, ◌≤◌, Bool, true, false, cond, not, ◌&&◌, ◌||◌}
-use Rattle.std.proofs.Common.{◌==◌, List, [], ◌∷◌, ◌++◌, filter, IsSomeAnd, rules, find, length, get_or, refl, sym, ap, subst}
-use Rattle.std.proofs.Common.{◌∙◌, arith, Option, Some, None, nat_le, nat_eq, slice_get, fold, Contains}
+use Rattle.std.proofs.Common.{◌≡◌, ℕ, zero, suc, ◌+◌, ◌<◌, ◌≤◌, Bool, true, false, cond, not, ◌&&◌, ◌||◌, ◌==◌, List, [], ◌∷◌, ◌++◌, filter}
+use Rattle.std.proofs.Common.{IsSomeAnd, rules, find, length, get_or, refl, sym, ap, subst, ◌∙◌, arith, Option, Some, None, nat_le, nat_eq}
+use Rattle.std.proofs.Common.{slice_get, fold, Contains}
 use Rattle.std.specs.List.{list_all, cons_option, range_with_len}
 use Rattle.std.specs.Option.{option_map_or, option_eq}
 use Rattle.std.proofs.lemmas.Bool.Decides.{Decides-eqb}
 use Rattle.std.proofs.lemmas.Option.{same_Some}
 use Rattle.std.proofs.lemmas.List.Sums.{sum_by-cons}
-use Rattle.game_rules.specs.declared.Point.{Point}
+use Rattle.strategy_compiler.proofs.Common.{Point, Node, Rest, Answers, answers_of, answer, names_below, rest_node, rest_nodes, is_rising}
+use Rattle.strategy_compiler.proofs.Common.{is_winning, IsTable, Tree, Branches, Leaf, Fork, NoBranch, Branch, StandsFor, StandsForAll}
+use Rattle.strategy_compiler.proofs.Common.{IsBrief, replies_of, answers_to, commonest, times, AreDifferent, TreeHasOneTable, completed}
+use Rattle.strategy_compiler.proofs.Common.{completed_after, completed_from, completed_within, is_in_list, last, visits, visits_at}
+use Rattle.strategy_compiler.proofs.Common.{AnswersBriefly, BranchesHaveOneStart, IsStartOfBranches}
 use Rattle.game_rules.proofs.PointLists.{filter-inside}
-use Rattle.strategy_graph.specs.declared.Node.{Node}
-use Rattle.strategy_graph.specs.declared.Rest.{Rest}
 use Rattle.strategy_graph.specs.declared.Rest.TheVariants.{To, Nothing}
-use Rattle.strategy_graph.proofs.Common.{Answers, answers_of, answer, names_below, rest_node, rest_nodes, is_rising, is_winning, IsTable}
 use Rattle.std.proofs.lemmas.List.FromFn.{length-range_with_len, get_or-range_with_len}
 use Rattle.strategy_graph.proofs.Filling.{IsTable-lower}
 use Rattle.strategy_compiler.proofs.Walking.{within-enough}
@@ -24,10 +25,6 @@ use Rattle.strategy_graph.proofs.Pairs.{AtNode-some, there-at, same-pairs, pairs
 use Rattle.strategy_graph.proofs.Pairs.{node-right, node-left, node-itself, bare-pair, winning-rest, rest-to, listed-pairs}
 use Rattle.strategy_graph.proofs.Naming.{ext-slice_get}
 use Rattle.strategy_compiler.proofs.Briefs.{commonest-there}
-use Rattle.strategy_compiler.proofs.Common.{Tree, Branches, Leaf, Fork, NoBranch, Branch, StandsFor, StandsForAll, IsBrief, replies_of}
-use Rattle.strategy_compiler.proofs.Common.{answers_to, commonest, times, AreDifferent, TreeHasOneTable, completed, completed_after}
-use Rattle.strategy_compiler.proofs.Common.{completed_from, completed_within, is_in_list, last, visits, visits_at, AnswersBriefly}
-use Rattle.strategy_compiler.proofs.Common.{BranchesHaveOneStart, IsStartOfBranches}
 
 -- ---- lists that are related place by place
 
@@ -38,10 +35,8 @@ module _ (R : ℕ → ℕ → Type 0) (one : TellsApart R) where
 
   times-pairs : (i j : ℕ) (is js : List ℕ) → R i j → Pairs R is js → times i is ≡ times j js
   times-pairs i j _ _ r Ends = refl
-  times-pairs i j _ _ r (Goes x y xs ys s p) =
-      sum_by-cons (λ k. cond (k == i) 1 0) x xs
-      ∙ (λ k. cond (one.apart x i y j s r k) 1 0 + times-pairs i j xs ys r p k)
-      ∙ sym (sum_by-cons (λ k. cond (k == j) 1 0) y ys)
+  times-pairs i j _ _ r (Goes x y xs ys s p) = sum_by-cons (λ k. cond (k == i) 1 0) x xs
+      ∙ (λ k. cond (one.apart x i y j s r k) 1 0 + times-pairs i j xs ys r p k) ∙ sym (sum_by-cons (λ k. cond (k == j) 1 0) y ys)
 
   tops : ℕ → List ℕ → List ℕ → Bool
   tops j js ks = list_all (λ k. nat_le (times k js) (times j js)) ks
@@ -155,8 +150,7 @@ module _ (u v : List Node) (tu : IsTable u) (tv : IsTable v) where
         let here = AtNode-some (slice_get u i) n (λ n. (n.attack ≡ p) × (is_winning n.rest ≡ true)) at h in
         let there = AtNode-some (slice_get v j) m (λ n. (n.attack ≡ p) × (is_winning n.rest ≡ true)) at' k in
         bare-pair (AlikeBelow i) n m (here.0 ∙ sym there.0) (winning-rest n.rest here.1 ∙ sym (winning-rest m.rest there.1))
-        (ap rest_nodes (winning-rest m.rest there.1))
-        ((tu.nodes i n at).winning here.1) ((tv.nodes j m at').winning there.1)
+        (ap rest_nodes (winning-rest m.rest there.1)) ((tu.nodes i n at).winning here.1) ((tv.nodes j m at').winning there.1)
     pair-by (Fork p NoBranch) h k =
         let here = AtNode-some (slice_get u i) n (λ n. (n.attack ≡ p) × ((n.rest ≡ Nothing) × (n.replies ≡ [])) × Unit {0}) at h in
         let there = AtNode-some (slice_get v j) m (λ n. (n.attack ≡ p) × ((n.rest ≡ Nothing) × (n.replies ≡ [])) × Unit {0}) at' k in
@@ -201,9 +195,7 @@ module _ (u v : List Node) (tu : IsTable u) (tv : IsTable v) where
           let m = right-node k one i j a l in
           let m' = right-node k one i' j' a' l' in
           let same : n.0 ≡ n'.0 = same_Some _ _ (sym n.1 ∙ ap (slice_get u) e ∙ n'.1) in
-          let equal : m.0 ≡ m'.0 =
-          node-right (AlikeBelow i) (AlikeBelow i')
-          (λ x y z r s. (Decides-eqb y z).0
+          let equal : m.0 ≡ m'.0 = node-right (AlikeBelow i) (AlikeBelow i') (λ x y z r s. (Decides-eqb y z).0
           (sym (one.apart x x y z (r.0, below x i k r.1 l) (s.0, below x i' k s.1 l')) ∙ (Decides-eqb x x).1 refl)) n.0 m.0 m'.0
           (node-pair k one i j a l) (subst (λ (x : Node). NodePair (AlikeBelow i') x m'.0) (sym same) (node-pair k one i' j' a' l')) in
           dv.different j j' m'.0 (m.1 ∙ ap Some equal) m'.1
@@ -215,9 +207,7 @@ module _ (u v : List Node) (tu : IsTable u) (tv : IsTable v) where
           let m = right-node k one i j a l in
           let m' = right-node k one i' j' a' l' in
           let same : m.0 ≡ m'.0 = same_Some _ _ (sym m.1 ∙ ap (slice_get v) e ∙ m'.1) in
-          let equal : n.0 ≡ n'.0 =
-          node-left (AlikeBelow i) (AlikeBelow i')
-          (λ x y z r s. (Decides-eqb y z).0
+          let equal : n.0 ≡ n'.0 = node-left (AlikeBelow i) (AlikeBelow i') (λ x y z r s. (Decides-eqb y z).0
           (one.apart y z x x (r.0, below y i k r.1 l) (s.0, below z i' k s.1 l') ∙ (Decides-eqb x x).1 refl)) m.0 n.0 n'.0
           (node-pair k one i j a l) (subst (λ (x : Node). NodePair (AlikeBelow i') n'.0 x) (sym same) (node-pair k one i' j' a' l')) in
           du.different i i' n'.0 (n.1 ∙ ap Some equal) n'.1
@@ -247,20 +237,17 @@ module _ (u v : List Node) (tu : IsTable u) (tv : IsTable v) where
         let pair = pair-at i j n.0 m.0 n.1 m.1 h in
         subst (λ (o : Option Node). Pairs (Alike u v) (option_map_or (λ n. visits (answers_of n)) o []) (visits_at v j)) (sym n.1)
         (subst (λ (o : Option Node). Pairs (Alike u v) (visits (answers_of n.0)) (option_map_or (λ n. visits (answers_of n)) o []))
-        (sym m.1)
-        (pairs-append (Alike u v) _ _ _ _ (pairs-weaker (AlikeBelow i) (Alike u v) (λ x y r. r.0) _ _ pair.rests)
+        (sym m.1) (pairs-append (Alike u v) _ _ _ _ (pairs-weaker (AlikeBelow i) (Alike u v) (λ x y r. r.0) _ _ pair.rests)
         (pairs-weaker (AlikeBelow i) (Alike u v) (λ x y r. r.0) _ _ pair.nexts)))
 
     within-alike : (k : ℕ) (d e : List ℕ) (i j : ℕ) → Alike u v i j → Pairs (Alike u v) d e
         → Pairs (Alike u v) (completed_within k u d i) (completed_within k v e j)
     unfolding completed_within
     within-alike zero d e i j h p = p
-    within-alike (suc k) d e i j h p =
-        by_test (is_in_list i d) (is_in_list j e) (among-pairs (Alike u v) alike-one i j d e h p)
-        (pairs-append (Alike u v) _ _ (i ∷ []) (j ∷ [])
+    within-alike (suc k) d e i j h p = by_test
+        (is_in_list i d) (is_in_list j e) (among-pairs (Alike u v) alike-one i j d e h p) (pairs-append (Alike u v) _ _ (i ∷ []) (j ∷ [])
         (fold-pairs (Alike u v) (completed_within k u) (completed_within k v) (λ d e x y r q. within-alike k d e x y r q) (visits_at u i)
-        (visits_at v j) d e (visits-alike i j h) p)
-        (Goes i j [] [] h Ends)) where
+        (visits_at v j) d e (visits-alike i j h) p) (Goes i j [] [] h Ends)) where
           by_test : (a b : Bool) → a ≡ b → Pairs (Alike u v) (fold (completed_within k u) d (visits_at u i) ++ i ∷ [])
               (fold (completed_within k v) e (visits_at v j) ++ j ∷ [])
               → Pairs (Alike u v) (cond a d (fold (completed_within k u) d (visits_at u i) ++ i ∷ []))
@@ -289,10 +276,8 @@ module _ (u v : List Node) (tu : IsTable u) (tv : IsTable v) where
 
     module _ (numbers : Pairs (Alike u v) (range_with_len 0 (length u)) (range_with_len 0 (length v))) where
       same-length : length u ≡ length v
-      same-length =
-          sym (length-range_with_len 0 (length u))
-          ∙ pairs-length (Alike u v) (range_with_len 0 (length u)) (range_with_len 0 (length v)) numbers
-          ∙ length-range_with_len 0 (length v)
+      same-length = sym (length-range_with_len 0 (length u)) ∙ pairs-length
+          (Alike u v) (range_with_len 0 (length u)) (range_with_len 0 (length v)) numbers ∙ length-range_with_len 0 (length v)
 
       number-alike : (k : ℕ) → k < length u → Alike u v k k
       number-alike k l =
@@ -303,14 +288,12 @@ module _ (u v : List Node) (tu : IsTable u) (tv : IsTable v) where
           (subst (Alike u v (get_or (range_with_len 0 (length u)) k 0)) (range-at (length v) k (omega (arith, both, l))) pair)
 
       same-number : (x z : ℕ) → x < length u → Alike u v x z → x ≡ z
-      same-number x z low h =
-          (Decides-eqb x z).0 (sym (alike-one.apart x x x z (number-alike x low) h) ∙ (Decides-eqb x x).1 refl)
+      same-number x z low h = (Decides-eqb x z).0 (sym (alike-one.apart x x x z (number-alike x low) h) ∙ (Decides-eqb x x).1 refl)
 
       -- nodes that name related nodes of the tables are one
       pair-same : (k : ℕ) → k ≤ length u → (n m : Node) → NodePair (AlikeBelow k) n m → n ≡ m
-      pair-same k l n m pair =
-          node-right (λ x y. x ≡ y) (AlikeBelow k)
-          (λ x y z e r. sym e ∙ same-number x z (lt_of x k (length u) r.1 l) r.0) n n m (node-itself n) pair where
+      pair-same k l n m pair = node-right (λ x y. x ≡ y)
+          (AlikeBelow k) (λ x y z e r. sym e ∙ same-number x z (lt_of x k (length u) r.1 l) r.0) n n m (node-itself n) pair where
             lt_of : (a b c : ℕ) → a < b → b ≤ c → a < c
             lt_of a b c h k = omega arith
 
@@ -342,23 +325,18 @@ module _ (u v : List Node) (tu : IsTable u) (tv : IsTable v) where
             (answers-from (length u) a b (Branch q s bs) hu.below x y)
 
       starts-alike : Pairs (Alike u v) (visits a) (visits b)
-      starts-alike =
-          pairs-append (Alike u v) _ _ _ _ (pairs-weaker (AlikeBelow (length u)) (Alike u v) (λ x y r. r.0) _ _ start-pair.rests)
+      starts-alike = pairs-append (Alike u v) _ _ _ _ (pairs-weaker (AlikeBelow (length u)) (Alike u v) (λ x y r. r.0) _ _ start-pair.rests)
           (pairs-weaker (AlikeBelow (length u)) (Alike u v) (λ x y r. r.0) _ _ start-pair.nexts)
 
       start-numbers : Pairs (Alike u v) (range_with_len 0 (length u)) (range_with_len 0 (length v))
-      start-numbers =
-          subst (λ (js : List ℕ). Pairs (Alike u v) js (range_with_len 0 (length v))) hu.numbered
+      start-numbers = subst (λ (js : List ℕ). Pairs (Alike u v) js (range_with_len 0 (length v))) hu.numbered
           (subst (Pairs (Alike u v) (completed_from u (visits a))) hv.numbered
           (fold-pairs (Alike u v) (completed_after u) (completed_after v) (λ d e x y r p. after-alike d e x y r p) (visits a) (visits b) []
-          []
-          starts-alike Ends))
+          [] starts-alike Ends))
 
       one-pair : (u ≡ v) × (a ≡ b)
-      one-pair = (
-        numbered-same start-numbers,
-        ap answers_of (pair-same start-numbers (length u) (omega arith) (node_of a) (node_of b) start-pair),
-      )
+      one-pair =
+          (numbered-same start-numbers, ap answers_of (pair-same start-numbers (length u) (omega arith) (node_of a) (node_of b) start-pair))
 
 -- ---- the table of a tree is one
 

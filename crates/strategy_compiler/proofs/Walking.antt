@@ -1,13 +1,12 @@
 -- The order in which a walk completes nodes: the bound on the nodes that follow one another plays no part, and the walk goes step by step.
 -- The walks that complete nodes, step by step.
-use Rattle.std.proofs.Common.{◌≡◌, ℕ, zero, suc, ◌<◌, Bool, true, false, cond, not, ◌||◌, ◌==◌, List, [], ◌∷◌, ◌++◌, map, refl, sym}
-use Rattle.std.proofs.Common.{ap, subst, ◌∙◌, arith, Option, Some, None, nat_lt, slice_get, fold, Contains, ◌+◌, ◌≤◌, reverse, length}
-use Rattle.std.proofs.Common.{get_or, ◌⊎◌, inl, inr, length-append, rules}
-use Rattle.std.specs.List.{list_all, find}
+use Rattle.std.proofs.Common.{◌≡◌, ℕ, zero, suc, ◌<◌, Bool, true, false, cond, not, ◌||◌, ◌==◌, List, [], ◌∷◌, ◌++◌, map, refl, sym, ap}
+use Rattle.std.proofs.Common.{subst, ◌∙◌, arith, Option, Some, None, nat_lt, slice_get, fold, Contains, ◌+◌, ◌≤◌, reverse, length, get_or}
+use Rattle.std.proofs.Common.{◌⊎◌, inl, inr, length-append, rules, find, ltb-true, lt-ltb}
+use Rattle.std.specs.List.{list_all}
 use Rattle.std.specs.Option.{option_map_or}
 use Rattle.std.proofs.lemmas.Bool.Decides.{Decides-eqb}
 use Rattle.std.proofs.lemmas.List.Folds.{list_any-append, list_all-append}
-use borrow.Author.Tests.{ltb-true, lt-ltb}
 use Rattle.std.proofs.lemmas.Option.{slice_get_within, slice_get_read, same_Some}
 use Rattle.std.proofs.lemmas.List.{take-append-le, get_or-set_same, get_or-set_other, reverse-append}
 use Rattle.std.proofs.lemmas.List.Elements.{Contains-append_cases, Contains-append_left, Contains-append_right}
@@ -17,11 +16,9 @@ use Rattle.std.proofs.lemmas.List.Sums.{sum_by-set}
 use Rattle.std.proofs.lemmas.Bool.{or_right}
 use Rattle.std.proofs.Math.Bool.{and_comm}
 use Rattle.game_rules.proofs.Boards.{and_left, and_right}
-use Rattle.strategy_graph.specs.declared.Node.{Node}
-use Rattle.strategy_graph.proofs.Common.{Answers, answers_of, names_below, rest_nodes, NamesLower, named}
+use Rattle.strategy_compiler.proofs.Common.{Node, Answers, answers_of, names_below, rest_nodes, NamesLower, named, visits, visits_at}
+use Rattle.strategy_compiler.proofs.Common.{is_in_list, completed_within, completed_after, IsOrder, Flags, unset, IsBetween}
 use Rattle.strategy_graph.proofs.Filling.{names_below-more}
-use Rattle.strategy_compiler.proofs.Common.{visits, visits_at, is_in_list, completed_within, completed_after, IsOrder, Flags, unset}
-use Rattle.strategy_compiler.proofs.Common.{IsBetween}
 
 -- ---- numbers among others
 
@@ -66,8 +63,7 @@ module _ (t : List Node) (lower : NamesLower t) where
   unfolding completed_within
   within-enough zero g i done l m = absurd (omega arith)
   within-enough (suc f) zero i done l m = absurd (omega arith)
-  within-enough (suc f) (suc g) i done l m =
-      ap (λ (js : List ℕ). cond (is_in_list i done) done (js ++ i ∷ []))
+  within-enough (suc f) (suc g) i done l m = ap (λ (js : List ℕ). cond (is_in_list i done) done (js ++ i ∷ []))
       (fold-same (completed_within f t) (completed_within g t) i (λ d j k. within-enough f g j d (omega arith) (omega arith))
       (visits_at t i) done (visits_at-below i))
 
@@ -75,8 +71,7 @@ module _ (t : List Node) (lower : NamesLower t) where
       → completed_after t done i ≡ fold (completed_after t) done (visits_at t i) ++ i ∷ []
   unfolding completed_after completed_within
   walked-step done i h =
-      ap (λ (b : Bool). cond b done (fold (completed_within i t) done (visits_at t i) ++ i ∷ [])) h
-      ∙ ap (λ (js : List ℕ). js ++ i ∷ [])
+      ap (λ (b : Bool). cond b done (fold (completed_within i t) done (visits_at t i) ++ i ∷ [])) h ∙ ap (λ (js : List ℕ). js ++ i ∷ [])
       (fold-same (completed_within i t) (λ d j. completed_within (suc j) t d j) i (λ d j k. within-enough i (suc j) j d k (omega arith))
       (visits_at t i) done (visits_at-below i))
 
@@ -94,9 +89,7 @@ module _ (t : List Node) (lower : NamesLower t) where
   within-kept : (f k : ℕ) (done : List ℕ) (i : ℕ) → is_in_list k done ≡ true → is_in_list k (completed_within f t done i) ≡ true
   unfolding completed_within
   within-kept zero k done i h = h
-  within-kept (suc f) k done i h =
-      by_test (is_in_list i done)
-      (among-kept k i (fold (completed_within f t) done (visits_at t i))
+  within-kept (suc f) k done i h = by_test (is_in_list i done) (among-kept k i (fold (completed_within f t) done (visits_at t i))
       (fold-kept (completed_within f t) k (λ d j. within-kept f k d j) (visits_at t i) done h)) where
         by_test : (b : Bool) → is_in_list k (fold (completed_within f t) done (visits_at t i) ++ i ∷ []) ≡ true
             → is_in_list k (cond b done (fold (completed_within f t) done (visits_at t i) ++ i ∷ [])) ≡ true
@@ -120,9 +113,7 @@ module _ (t : List Node) (lower : NamesLower t) where
   within-above : (f k : ℕ) (done : List ℕ) (i : ℕ) → i < k → is_in_list k done ≡ false → is_in_list k (completed_within f t done i) ≡ false
   unfolding completed_within
   within-above zero k done i l h = h
-  within-above (suc f) k done i l h =
-      by_test (is_in_list i done)
-      (among-other k i (fold (completed_within f t) done (visits_at t i)) l
+  within-above (suc f) k done i l h = by_test (is_in_list i done) (among-other k i (fold (completed_within f t) done (visits_at t i)) l
       ∙ fold-above (completed_within f t) k i (λ d j m. within-above f k d j (omega arith)) (visits_at t i) done (visits_at-below i)
       h) where
         by_test : (b : Bool) → is_in_list k (fold (completed_within f t) done (visits_at t i) ++ i ∷ []) ≡ false
@@ -318,8 +309,7 @@ module _ (t : List Node) (whole : List ℕ) where
           let way = walk.on_way in
           record {
             so_far = walk.so_far;
-            ahead =
-                ap (λ (d : List ℕ). fold (completed_after t) d xs)
+            ahead = ap (λ (d : List ℕ). fold (completed_after t) d xs)
                 (walked-first t lower order x c way.1 c-below (ap (find (λ j. not (is_in_list j order))) visits-is ∙ first-among))
                 ∙ walk.ahead;
             on_way = (
@@ -408,9 +398,8 @@ module _ (t : List Node) (whole : List ℕ) (flags : List Bool) (order path befo
 
     pub path-complete : (order' : List ℕ) → None ≡ find (λ j. not (get_or flags' j false)) (visits (answers_of n))
         → order' ≡ order ++ x ∷ [] → IsWalk t whole (set flags x true) order' (reverse before)
-    path-complete order' none e' =
-        subst (λ (o : List ℕ). IsWalk t whole (set flags x true) o (reverse before)) (sym e')
-        (walk-complete t whole lower flags order (reverse before) x n walk-at at
+    path-complete order' none e' = subst (λ (o : List ℕ). IsWalk t whole (set flags x true) o (reverse before))
+        (sym e') (walk-complete t whole lower flags order (reverse before) x n walk-at at
         (ap (λ (fs : List Bool). find (λ j. not (get_or fs j false)) (visits (answers_of n))) (sym same) ∙ sym none))
 
 -- the first step of a walk from a root that is not completed

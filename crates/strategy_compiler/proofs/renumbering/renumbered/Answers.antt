@@ -1,6 +1,5 @@
 use Rattle.std.proofs.Common.{length, refl}
-use Rattle.strategy_graph.specs.Lent.{lent_node}
-use Rattle.strategy_graph.specs.Tables.{answers_of}
+use Rattle.strategy_compiler.proofs.Common.{lent_node, answers_of}
 use Rattle.strategy_graph.proofs.Naming.{replies-below}
 use Rattle.strategy_compiler.proofs.renumbering.renumbered.Goals as goal
 

@@ -15,19 +15,17 @@ loop-answer-init c = best-none (answers_of_node c.args.answers.now)
 pub loop-answer-preserved-then-eq : goal.loop-answer-preserved-then-eq
 loop-answer-preserved-then-eq c =
     commonest-again c.args.answers.now c.loop-answer.answer-index zero_reply c.loop-answer.best c.loop-answer.most c.loop-answer.invariant
-    c.loop-answer-test.true
-    (equal_best c.loop-answer.best _ (sym c.if-eq.ensures))
+    c.loop-answer-test.true (equal_best c.loop-answer.best _ (sym c.if-eq.ensures))
 
 pub loop-answer-preserved : goal.loop-answer-preserved
-loop-answer-preserved c =
-    elim c.if-count-most.branch [
-      | then-count-most w ↦ commonest-greater c.args.answers.now c.loop-answer.answer-index zero_reply c.loop-answer.best c.loop-answer.most
-          c.times-count.result
-          c.loop-answer.invariant c.loop-answer-test.true c.times-count.ensures.count _ _ w.best-is w.most-is w.if-count-most.true
-      | else-count-most w ↦ commonest-kept c.args.answers.now c.loop-answer.answer-index zero_reply c.loop-answer.best c.loop-answer.most
-          c.times-count.result
-          c.loop-answer.invariant c.loop-answer-test.true c.times-count.ensures.count _ _ w.best-is w.most-is w.if-count-most.false
-    ]
+loop-answer-preserved c = elim c.if-count-most.branch [
+  | then-count-most w ↦ commonest-greater c.args.answers.now c.loop-answer.answer-index zero_reply c.loop-answer.best c.loop-answer.most
+      c.times-count.result
+      c.loop-answer.invariant c.loop-answer-test.true c.times-count.ensures.count _ _ w.best-is w.most-is w.if-count-most.true
+  | else-count-most w ↦ commonest-kept c.args.answers.now c.loop-answer.answer-index zero_reply c.loop-answer.best c.loop-answer.most
+      c.times-count.result
+      c.loop-answer.invariant c.loop-answer-test.true c.times-count.ensures.count _ _ w.best-is w.most-is w.if-count-most.false
+]
 
 pub returns : goal.returns
 returns c = record {

@@ -11,7 +11,5 @@ renumbered_replies-requires c = record {
 }
 
 pub new-requires-clause-rising : goal.new-requires-clause-rising
-new-requires-clause-rising c =
-    ap is_rising c.in_ok-replies.ensures.replies
-    ∙ rising-renumbered (λ j. slice_index c.args.places.now j) c.as_slice.result.now
-    ∙ ap is_rising c.as_slice.ensures.items ∙ c.requires.rising
+new-requires-clause-rising c = ap is_rising c.in_ok-replies.ensures.replies ∙ rising-renumbered
+    (λ j. slice_index c.args.places.now j) c.as_slice.result.now ∙ ap is_rising c.as_slice.ensures.items ∙ c.requires.rising

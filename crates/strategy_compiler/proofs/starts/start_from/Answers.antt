@@ -1,8 +1,7 @@
 -- The answers in brief, and what is made of them.
 use Rattle.std.proofs.Common.{◌≡◌, true, ℕ, length, ap, sym, subst, ◌∙◌}
-use Rattle.strategy_graph.specs.Tables.{is_rising, names_below}
+use Rattle.strategy_compiler.proofs.Common.{is_rising, names_below, completed_from, ArePlaces}
 use Rattle.strategy_graph.proofs.Filling.{IsTable-lower}
-use Rattle.strategy_compiler.proofs.Common.{completed_from, ArePlaces}
 use Rattle.strategy_compiler.proofs.Briefs.{brief-rising}
 use Rattle.strategy_compiler.proofs.Starting.{brief-is, brief-below, visits-low, start-made}
 use Rattle.strategy_compiler.proofs.starts.start_from.Goals as goal
@@ -38,6 +37,5 @@ returns c =
     (record { replies = c.in_ok-listed.listed; rest = c.rest_of-rest.result }) c.as_slice.result.now c.as_slice-2.result.now
     c.in_ok-table.field-0.table c.in_ok-start.start is (c.as_slice.ensures.value ∙ c.in_ok-roots.ensures.visits) c.in_ok-table.ensures.made
     (subst (ArePlaces (completed_from c.args.nodes.now c.as_slice.result.now)) (sym c.as_slice-2.ensures.value)
-    c.in_ok-table.ensures.places)
-    c.in_ok-start.ensures.start in
+    c.in_ok-table.ensures.places) c.in_ok-start.ensures.start in
     record { made = both.0; branches = both.1; few = c.in_ok-table.ensures.made.few }

@@ -16,8 +16,7 @@ loop-number-init c =
 
 pub first_open-requires : goal.first_open-requires
 first_open-requires c = record {
-  below =
-      named-in-flags c.args.nodes.now (completed_after c.args.nodes.now c.args.order.now.items c.args.root) c.loop-number.is_completed
+  below = named-in-flags c.args.nodes.now (completed_after c.args.nodes.now c.args.order.now.items c.args.root) c.loop-number.is_completed
       c.loop-number.order.items c.loop-number.path.items c.pop.new.self.items c.in-Some.number c.index-nodes-number.result
       c.loop-number.invariant c.in-Some.ensures.items c.requires.lower c.index-nodes-number.is c.loop-number.is_completed refl;
 }

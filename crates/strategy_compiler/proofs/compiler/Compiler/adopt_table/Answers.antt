@@ -37,9 +37,8 @@ returns-in_err-number-clause-full c = λ full.
     why.0 why.1
 
 pub returns-in_err-number-clause-adopts : goal.returns-in_err-number-clause-adopts
-returns-in_err-number-clause-adopts c =
-    adopted-leaves _ _ _ _ _ c.loop-i.invariant (omega (arith, c.loop-i-test.true, c.len-i-end.ensures.count)) _
-    c.in_err-number.ensures.unchanged
+returns-in_err-number-clause-adopts c = adopted-leaves _ _ _ _ _ c.loop-i.invariant
+    (omega (arith, c.loop-i-test.true, c.len-i-end.ensures.count)) _ c.in_err-number.ensures.unchanged
 
 pub returns-then-is_err-clause-adopts : goal.returns-then-is_err-clause-adopts
 returns-then-is_err-clause-adopts c =
@@ -59,17 +58,14 @@ loop-i-preserved c =
     _ _ pushed _ c.in_ok-number.ensures.put_in c.in_ok-number.ensures.node c.in_ok-number.ensures.compiled
 
 pub returns-clause-numbers : goal.returns-clause-numbers
-returns-clause-numbers c =
-    adopted-numbers _ _ _ _ _ c.loop-i.invariant (omega (arith, c.loop-i.auto.i-end, c.len-i-end.ensures.count))
-    (omega (arith, c.loop-i-test.false, c.len-i-end.ensures.count))
+returns-clause-numbers c = adopted-numbers _ _ _ _ _ c.loop-i.invariant
+    (omega (arith, c.loop-i.auto.i-end, c.len-i-end.ensures.count)) (omega (arith, c.loop-i-test.false, c.len-i-end.ensures.count))
 
 pub returns-clause-few : goal.returns-clause-few
-returns-clause-few c = λ more.
-    absurd (adopted-few _ _ _ _ c.len-i-end.ensures.table (IsTable-lower _ c.len.ensures.compiled.table)
+returns-clause-few c = λ more. absurd (adopted-few _ _ _ _ c.len-i-end.ensures.table (IsTable-lower _ c.len.ensures.compiled.table)
     (adopted-leaves _ _ _ _ _ c.loop-i.invariant (omega (arith, c.loop-i.auto.i-end, c.len-i-end.ensures.count)) _ refl)
     (adopted-numbers _ _ _ _ _ c.loop-i.invariant (omega (arith, c.loop-i.auto.i-end, c.len-i-end.ensures.count))
     (omega (arith, c.loop-i-test.false, c.len-i-end.ensures.count))) more)
 
 pub returns-clause-adopts : goal.returns-clause-adopts
-returns-clause-adopts c =
-    adopted-leaves _ _ _ _ _ c.loop-i.invariant (omega (arith, c.loop-i.auto.i-end, c.len-i-end.ensures.count)) _ refl
+returns-clause-adopts c = adopted-leaves _ _ _ _ _ c.loop-i.invariant (omega (arith, c.loop-i.auto.i-end, c.len-i-end.ensures.count)) _ refl
