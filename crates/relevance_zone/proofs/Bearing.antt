@@ -1,13 +1,11 @@
 -- Further stones of the defender that a zone bears, before and after a move; and that they make no five.
-use Rattle.std.proofs.Common.{◌≡◌, inl, inr, ℕ, ◌+◌, ◌≤◌, ◌<◌, true, false, cond, ◌&&◌, not, sym, ap}
-use Rattle.std.proofs.Common.{subst, ◌∙◌, arith, Option, Some, None, rules}
+use Rattle.std.proofs.Common.{◌≡◌, inl, inr, ℕ, ◌+◌, ◌≤◌, ◌<◌, true, false, cond, ◌&&◌, not, sym, ap, subst, ◌∙◌, arith, Option, Some, None}
+use Rattle.std.proofs.Common.{rules}
 use Rattle.std.proofs.lemmas.Bool.{both_ways, cases_Bool, false_from_ne_true}
-use Rattle.game_rules.proofs.Common.{Grid, IsBoard, is_on, is_empty, holds, put, cell_at, along, other}
-use Rattle.game_rules.proofs.Common.{stone_at, run_of, stones_ahead, stones_behind, line_bound, wins_on, five}
-use Rattle.game_rules.specs.declared.RuleKind.{RuleKind}
-use Rattle.game_rules.specs.declared.Side.{Side}
+use Rattle.relevance_zone.proofs.Common.{Grid, IsBoard, is_empty, put, other, RuleKind, Side, Point, stones_in, is_clear_at, is_clear_of}
+use Rattle.relevance_zone.proofs.Common.{is_in_window, Zone, Bears, Covers, IsHarmless}
+use Rattle.game_rules.proofs.Common.{is_on, holds, cell_at, along, stone_at, run_of, stones_ahead, stones_behind, line_bound, wins_on, five}
 use Rattle.game_rules.specs.declared.Axis.{Axis}
-use Rattle.game_rules.specs.declared.Point.{Point}
 use Rattle.game_rules.proofs.Axes.{some_axis}
 use Rattle.game_rules.proofs.Boards.{and_left, and_right, is_empty-on, is_empty-put, same_or_apart, empty_holds, stone_kept, stone_of-other}
 use Rattle.game_rules.proofs.Boards.{holds-put_other, holds-put_same}
@@ -17,7 +15,6 @@ use Rattle.game_rules.proofs.OneLine.{empty-before, holds-put_others, wins_alike
 use Rattle.game_rules.proofs.Positions.{IsBoard-put, holds-other}
 use Rattle.game_rules.proofs.Rows.{all_range}
 use Rattle.game_rules.proofs.Wins.{row_wins-five}
-use Rattle.relevance_zone.proofs.Common.{stones_in, is_clear_at, is_clear_of, is_in_window, Zone, Bears, Covers, IsHarmless}
 use Rattle.relevance_zone.proofs.Counts.{count_all, visits-once, visits-never, stones_in-put, stones_in-other, filled}
 
 -- a board has no further stones

@@ -1,14 +1,11 @@
 -- Zones of a node by those of the nodes that it names. The bound on the nodes that follow one another changes nothing once it is
 -- above the number of the node.
 use Rattle.std.proofs.Common.{◌≡◌, inl, inr, ℕ, zero, suc, ◌<◌, true, List, Option, Some, None, slice_get, refl, ap, arith}
-use Rattle.game_rules.proofs.Common.{Grid}
-use Rattle.game_rules.specs.declared.RuleKind.{RuleKind}
-use Rattle.game_rules.specs.declared.Side.{Side}
+use Rattle.relevance_zone.proofs.Common.{Grid, RuleKind, Side, Zone, Withstands, NodeHasZone, HasZoneWithin, HasZone}
 use Rattle.strategy_graph.specs.declared.Node.{Node}
 use Rattle.strategy_graph.proofs.Common.{Answers, answers_of, rest_node, names_below, NamesLower}
 use Rattle.strategy_graph.proofs.Answering.{answer-below}
 use Rattle.strategy_graph.proofs.Naming.{rest-below}
-use Rattle.relevance_zone.specs.Zones.{Zone, Withstands, NodeHasZone, HasZoneWithin, HasZone}
 
 -- what holds of the nodes below k serves as well where the answers name only those
 module _ (Has Also : ℕ → Grid → Zone → Type 0) (k : ℕ) (also : (j : ℕ) → j < k → (b : Grid) (z : Zone) → Has j b z → Also j b z)
@@ -30,31 +27,26 @@ module _ (Has Also : ℕ → Grid → Zone → Type 0) (k : ℕ) (also : (j : �
   node-also : (rule : RuleKind) (o : Option Node) (b : Grid) (z : Zone)
       → ((n : Node) → o ≡ Some n → names_below (answers_of n) k ≡ true) → NodeHasZone rule s o Has b z → NodeHasZone rule s o Also b z
   node-also rule None b z below h = h
-  node-also rule (Some n) b z below h = elim h.2 [
-    | inl wins ↦ (h.0, h.1, inl wins)
-    | inr w ↦ (h.0, h.1, inr (withstands-also (answers_of n) _ z (below n refl) w))
-  ]
+  node-also rule (Some n) b z below h =
+      elim h.2 [ inl wins ↦ (h.0, h.1, inl wins) | inr w ↦ (h.0, h.1, inr (withstands-also (answers_of n) _ z (below n refl) w)) ]
 
 module _ (rule : RuleKind) (t : List Node) (lower : NamesLower t) (s : Side) where
   within-enough : (f m i : ℕ) → i < f → i < m → (b : Grid) (z : Zone) → HasZoneWithin f rule t s i b z → HasZoneWithin m rule t s i b z
   unfolding HasZoneWithin
   within-enough zero m i l h b z k = absurd (omega arith)
   within-enough (suc f) zero i l h b z k = absurd (omega arith)
-  within-enough (suc f) (suc m) i l h b z k =
-      node-also (HasZoneWithin f rule t s) (HasZoneWithin m rule t s) i
-      (λ j below c y has. within-enough f m j (omega (arith, below, l)) (omega (arith, below, h)) c y has) s rule (slice_get t i) b z
-      (lower.lower i) k
+  within-enough (suc f) (suc m) i l h b z k = node-also (HasZoneWithin f rule t s) (HasZoneWithin m rule t s) i
+      (λ j below c y has. within-enough f m j (omega (arith, below, l)) (omega (arith, below, h)) c y has) s rule
+      (slice_get t i) b z (lower.lower i) k
 
   pub zone-to_node : (i : ℕ) (b : Grid) (z : Zone) → HasZone rule t s i b z → NodeHasZone rule s (slice_get t i) (HasZone rule t s) b z
   unfolding HasZoneWithin
-  zone-to_node i b z h =
-      node-also (HasZoneWithin i rule t s) (HasZone rule t s) i
+  zone-to_node i b z h = node-also (HasZoneWithin i rule t s) (HasZone rule t s) i
       (λ j below c y has. within-enough i (suc j) j below (omega arith) c y has) s rule (slice_get t i) b z (lower.lower i) h
 
   pub zone-by_node : (i : ℕ) (b : Grid) (z : Zone) → NodeHasZone rule s (slice_get t i) (HasZone rule t s) b z → HasZone rule t s i b z
   unfolding HasZoneWithin
-  zone-by_node i b z h =
-      node-also (HasZone rule t s) (HasZoneWithin i rule t s) i
+  zone-by_node i b z h = node-also (HasZone rule t s) (HasZoneWithin i rule t s) i
       (λ j below c y has. within-enough (suc j) i j (omega arith) below c y has) s rule (slice_get t i) b z (lower.lower i) h
 
 -- what has a zone goes by the nodes that are named

@@ -1,21 +1,18 @@
 -- How many stones stand in a window: what one more changes, and which window a run of five fills.
-use Rattle.std.proofs.Common.{◌≡◌, inl, inr, ℕ, zero, suc, ◌+◌, ◌-◌, ◌≤◌, ◌<◌, Bool, true, false, cond, List, []}
-use Rattle.std.proofs.Common.{◌∷◌, refl, ap, ◌∙◌, arith, Option, Some, None, count_by, rules}
+use Rattle.std.proofs.Common.{◌≡◌, inl, inr, ℕ, zero, suc, ◌+◌, ◌-◌, ◌≤◌, ◌<◌, Bool, true, false, cond, List, [], ◌∷◌, refl, ap, ◌∙◌, arith}
+use Rattle.std.proofs.Common.{Option, Some, None, count_by, rules}
 use Rattle.std.specs.List.{range_with_len}
 use Rattle.std.proofs.lemmas.Bool.{both_ways, cases_lt, false_from_ne_true}
 use Rattle.std.proofs.lemmas.List.Sums.{sum_by-cons}
-use Rattle.game_rules.proofs.Common.{Grid, IsBoard, is_on, is_empty, holds, put, along, is_at, other, stone_at, stones_ahead}
-use Rattle.game_rules.proofs.Common.{stones_behind}
-use Rattle.game_rules.specs.declared.Side.{Side}
+use Rattle.relevance_zone.proofs.Common.{Grid, IsBoard, is_empty, put, other, Side, Point, stones_in, is_in_window}
+use Rattle.game_rules.proofs.Common.{is_on, holds, along, is_at, stone_at, stones_ahead, stones_behind}
 use Rattle.game_rules.specs.declared.Axis.{Axis}
-use Rattle.game_rules.specs.declared.Point.{Point}
 use Rattle.game_rules.proofs.Boards.{and_left, is_empty-on, same_or_apart, empty_holds, holds-put_other, holds-put_same, stone_of-other}
 use Rattle.game_rules.proofs.Lines.{along-steps, along-then, along-same, along-zero}
 use Rattle.game_rules.proofs.Points.{is_at-Some, is_same_point-itself, apart-is_same_point}
 use Rattle.game_rules.proofs.Positions.{stone_at-other}
 use Rattle.game_rules.proofs.Rows.{any_found}
 use Rattle.game_rules.proofs.Runs.{ahead_leads, behind_leads}
-use Rattle.relevance_zone.proofs.Common.{stones_in, is_in_window}
 
 -- ---- counts over a range
 
@@ -116,8 +113,7 @@ module _ (b : Grid) (s : Side) (d : Axis) (q : Point) (mine : holds b s q ≡ tr
     by_point (Some p) e h = (p, λ k l. ap (stone_at b s) (along-then d q p 0 z k 0 e) ∙ reached (0 + k) (z + 0) (omega arith) (omega arith))
 
   -- a run of five or more fills a window
-  pub filled : 5 ≤ 1 + stones_ahead b s d q + stones_behind b s d q
-      → (p : Point) × ((k : ℕ) → k < 5 → stone_at b s (along d p k 0) ≡ true)
+  pub filled : 5 ≤ 1 + stones_ahead b s d q + stones_behind b s d q → (p : Point) × ((k : ℕ) → k < 5 → stone_at b s (along d p k 0) ≡ true)
   filled long = elim (cases_lt (stones_behind b s d q) 4) [
     | inl few ↦ from (stones_behind b s d q) (omega arith) (omega arith)
     | inr many ↦ from 4 (omega arith) (omega arith)

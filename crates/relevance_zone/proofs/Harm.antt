@@ -1,18 +1,16 @@
 -- What has a zone is accepted: by induction on the nodes that follow one another, at each position with further stones of the
 -- defender that the zone bears. The attack of the answer in turn is a point of its zone, so it is empty there, and no move before it
 -- fills the board.
-use Rattle.std.proofs.Common.{◌≡◌, inl, inr, ℕ, zero, suc, true, false, List, Option, Some, None, slice_get, nat_eq, refl, sym, ap}
-use Rattle.std.proofs.Common.{subst, ◌∙◌, arith, IsSomeAnd, rules}
+use Rattle.std.proofs.Common.{◌≡◌, inl, inr, ℕ, zero, suc, true, false, List, Option, Some, None, slice_get, nat_eq, refl, sym, ap, subst}
+use Rattle.std.proofs.Common.{◌∙◌, arith, IsSomeAnd, rules}
 use Rattle.std.specs.Option.{option_or}
 use Rattle.std.proofs.lemmas.Bool.{cases_Bool}
 use Rattle.std.proofs.lemmas.Bool.Decides.{nat_tests}
-use Rattle.game_rules.proofs.Common.{Grid, IsBoard, IsPosition, is_empty, put, empties_of, five, outcome, has_fouls, mover}
-use Rattle.game_rules.proofs.Common.{after, other, WinsOr, LosesOr}
-use Rattle.game_rules.specs.declared.RuleKind.{RuleKind}
-use Rattle.game_rules.specs.declared.Side.{Side}
+use Rattle.relevance_zone.proofs.Common.{Grid, IsBoard, is_empty, put, other, RuleKind, Side, Point, Zone, Bears, Withstands, NodeHasZone}
+use Rattle.relevance_zone.proofs.Common.{HasZoneWithin, HasZone, AcceptedRootByZone}
+use Rattle.game_rules.proofs.Common.{IsPosition, empties_of, five, outcome, has_fouls, mover, after, WinsOr, LosesOr}
 use Rattle.game_rules.specs.declared.Outcome.{Outcome}
 use Rattle.game_rules.specs.declared.Outcome.TheVariants.{Refused, Wins as WinsNow, Fouls, GoesOn}
-use Rattle.game_rules.specs.declared.Point.{Point}
 use Rattle.game_rules.proofs.Boards.{empties_of-put, other-other}
 use Rattle.game_rules.proofs.Outcomes.{five-outcome, quiet_move, no_foul}
 use Rattle.game_rules.proofs.Points.{taken_refused}
@@ -23,7 +21,6 @@ use Rattle.strategy_graph.specs.declared.roots.Root.TheVariants.{Attack, Defend}
 use Rattle.strategy_graph.proofs.Common.{Answers, answers_of, answer, rest_node, is_winning, Meets, AcceptedNode, AcceptedWithin, Accepted}
 use Rattle.strategy_graph.proofs.Common.{AcceptedRoot, RootWins, root_depth}
 use Rattle.strategy_graph.proofs.Soundness.{accepted-wins, accepted-start-wins}
-use Rattle.relevance_zone.proofs.Common.{Zone, Bears, Withstands, NodeHasZone, HasZoneWithin, HasZone, AcceptedRootByZone}
 use Rattle.relevance_zone.proofs.Bearing.{bears_itself, was_empty, five_same, bears_attack, bears_reply, bears_harmless, no_five}
 
 -- two points that are empty one after the other are not the last
@@ -88,12 +85,11 @@ module _ (rule : RuleKind) (s : Side) (Has : ℕ → Grid → Zone → Type 0) (
       by_answer empty h =
           let later = attack h.node h.before h.zone h.has in
           let more = not_last c (other s) q later.0 lawful.board empty (h.bears.points later.0 later.1 later.2) in
-          let quiet : five rule c (mover c) q ≡ false =
-          ap (λ (t : Side). five rule c t q) turn ∙ no_five s z b c bears rule w.short q in
+          let quiet : five rule c (mover c) q ≡ false = ap (λ (t : Side). five rule c t q) turn ∙ no_five s z b c bears rule w.short q in
           elim (quiet_move rule c q empty quiet more) [
             | inl on ↦
-                let next : Next h.node (after c q) = held h.node h.before (after c q) h.zone h.has
-                (subst (λ (t : Side). Bears s h.zone h.before (put c t q)) (sym turn) h.bears)
+                let next : Next h.node (after c q) =
+                held h.node h.before (after c q) h.zone h.has (subst (λ (t : Side). Bears s h.zone h.before (put c t q)) (sym turn) h.bears)
                 (IsPosition-after rule c q lawful on) (mover-then rule c q lawful on ∙ ap other turn ∙ other-other s) in
                 met GoesOn (Some h.node) on h.given next
             | inr foul ↦ met (Fouls foul.0) (answer a q) foul.1 refl tt
@@ -116,16 +112,15 @@ module _ (rule : RuleKind) (s : Side) (Has : ℕ → Grid → Zone → Type 0) (
     by_replies w quiet =
         let then : Bears s z (put b s n.attack) (put c s n.attack) = bears_attack s z b c bears n.attack free empty in
         let later = attack w.rest (put b s n.attack) w.zone w.passed in
-        let more = not_last c s n.attack later.0 lawful.board empty
-        (then.points later.0 (w.covered.points later.0 later.1) later.2) in
-        let on : outcome rule c n.attack ≡ GoesOn = goes_on_by rule c n.attack (ap (has_fouls rule) turn ∙ calm) empty
-        (ap (λ (t : Side). five rule c t n.attack) turn ∙ quiet) more in
+        let more = not_last c s n.attack later.0 lawful.board empty (then.points later.0 (w.covered.points later.0 later.1) later.2) in
+        let on : outcome rule c n.attack ≡ GoesOn =
+        goes_on_by rule c n.attack (ap (has_fouls rule) turn ∙ calm) empty (ap (λ (t : Side). five rule c t n.attack) turn ∙ quiet) more in
         let same : Bears s z (put b s n.attack) (after c n.attack) =
         subst (λ (t : Side). Bears s z (put b s n.attack) (put c t n.attack)) (sym turn) then in
         by_outcome GoesOn on (
           ap is_winning w.named,
-          replies_met (answers_of n) (put b s n.attack) (after c n.attack) z w same (IsPosition-after rule c n.attack lawful on)
-              (mover-then rule c n.attack lawful on ∙ ap other turn),
+          replies_met (answers_of n) (put b s n.attack) (after c n.attack) z w same
+              (IsPosition-after rule c n.attack lawful on) (mover-then rule c n.attack lawful on ∙ ap other turn),
         )
 
   node_accepted : (o : Option Node) (b c : Grid) (z : Zone) → has_fouls rule s ≡ false → NodeHasZone rule s o Has b z → Bears s z b c
@@ -156,9 +151,8 @@ module _ (rule : RuleKind) (t : List Node) (s : Side) where
       → IsPosition rule c → mover c ≡ s → AcceptedWithin f rule t i c
   unfolding HasZoneWithin AcceptedWithin
   within calm zero i b c z h bears lawful turn = absurd h
-  within calm (suc f) i b c z h bears lawful turn =
-      node_accepted rule s (HasZoneWithin f rule t s) (AcceptedWithin f rule t) (within calm f) (attack_in f) (slice_get t i) b c z calm h
-      bears lawful turn
+  within calm (suc f) i b c z h bears lawful turn = node_accepted rule s
+      (HasZoneWithin f rule t s) (AcceptedWithin f rule t) (within calm f) (attack_in f) (slice_get t i) b c z calm h bears lawful turn
 
 -- ---- the laws
 
