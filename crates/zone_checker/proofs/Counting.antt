@@ -3,25 +3,16 @@ use Rattle.std.proofs.Common.{◌≡◌, inl, inr, ℕ, zero, suc, ◌+◌, ◌<
 use Rattle.std.proofs.Common.{None, slice_get, refl, sym, ap, subst, ◌∙◌, arith, ◌≤◌, length, take, drop, get_or}
 use Rattle.std.specs.Option.{option_or}
 use Rattle.std.proofs.lemmas.List.{drop_more, take-append-drop, take_all, take_more}
-use Rattle.game_rules.proofs.Common.{Grid, five, is_empty, other, points_of, put}
-use Rattle.game_rules.specs.declared.RuleKind.{RuleKind}
-use Rattle.game_rules.specs.declared.Side.{Side}
-use Rattle.game_rules.specs.declared.Point.{Point}
-use Rattle.strategy_graph.specs.declared.Node.{Node}
-use Rattle.strategy_graph.specs.declared.Reply.{Reply}
-use Rattle.strategy_graph.specs.declared.roots.Root.{Root}
-use Rattle.strategy_graph.specs.declared.roots.Root.TheVariants.{Attack, Defend}
-use Rattle.strategy_graph.proofs.Common.{Answers, NamesLower, answer, answers_of, listed_node, names_below, rest_node}
+use Rattle.zone_checker.proofs.Common.{Grid, five, is_empty, other, points_of, put, RuleKind, Side, Point, Node, Reply, Root, Attack}
+use Rattle.zone_checker.proofs.Common.{Defend, Answers, NamesLower, answer, answers_of, listed_node, names_below, rest_node, Zone, HasZone}
+use Rattle.zone_checker.proofs.Common.{Stopped, Took, asked_of, Stop, AnswersHavePairsBy, ComesTo, HasPairs, ReplyHasPairsBy, RootHasPairs}
+use Rattle.zone_checker.proofs.Common.{asked_rest}
 use Rattle.strategy_graph.proofs.Answering.{answer-below}
 use Rattle.strategy_graph.proofs.Naming.{rest-below}
-use Rattle.relevance_zone.specs.Zones.{Zone, HasZone}
-use Rattle.zone_checker.specs.Walks.{Stopped, Took, asked_of}
-use Rattle.zone_checker.specs.declared.walk.Stop.{Stop}
 use Rattle.zone_checker.specs.declared.walk.Stop.TheVariants.{Zoneless, Spent, Memory}
-use Rattle.zone_checker.specs.Pairs.{AnswersHavePairs, AnswersHavePairsBy, ComesTo, HasPairs, NodeHasPairs, ReplyHasPairs}
-use Rattle.zone_checker.specs.Pairs.{ReplyHasPairsBy, RootHasPairs, asked_rest}
-unfoldable use Rattle.zone_checker.specs.Pairs.{HasPairsWithin}
+use Rattle.zone_checker.specs.Pairs.{AnswersHavePairs, NodeHasPairs, ReplyHasPairs}
 use Rattle.zone_checker.proofs.Steps.{same_answer}
+unfoldable use Rattle.zone_checker.specs.Pairs.{HasPairsWithin}
 
 -- ---- numbers of points one after another
 
@@ -30,8 +21,7 @@ module _ (Has : Point → ℕ → Type 0) where
   comes-join [] qs m k h g = subst (ComesTo Has qs) (omega arith) g
   comes-join (p ∷ ps) qs m k h g = (h.0, h.1 + k, h.2, comes-join ps qs h.1 k h.3 g, omega arith)
 
-  comes-split : (ps qs : List Point) (n : ℕ) → ComesTo Has (ps ++ qs) n
-      → (m k : ℕ) × ComesTo Has ps m × ComesTo Has qs k × (n ≡ m + k)
+  comes-split : (ps qs : List Point) (n : ℕ) → ComesTo Has (ps ++ qs) n → (m k : ℕ) × ComesTo Has ps m × ComesTo Has qs k × (n ≡ m + k)
   comes-split [] qs n h = (0, n, refl, h, omega arith)
   comes-split (p ∷ ps) qs n h =
       let g = comes-split ps qs h.1 h.3 in
@@ -83,8 +73,7 @@ module _ (Zoned : ℕ → Grid → Zone → Type 0) (Paired Also : ℕ → Grid 
   node-also : (o : Option Node) (b : Grid) (n : ℕ) → ((d : Node) → o ≡ Some d → names_below (answers_of d) k ≡ true)
       → NodeHasPairs rule s o Zoned Paired b n → NodeHasPairs rule s o Zoned Also b n
   node-also None b n below h = h
-  node-also (Some d) b n below h =
-      answers-also (answers_of d) (below d refl) (asked_rest rule s b d) (asked-named rule s b d) _ n h
+  node-also (Some d) b n below h = answers-also (answers_of d) (below d refl) (asked_rest rule s b d) (asked-named rule s b d) _ n h
 
 module _ (rule : RuleKind) (t : List Node) (s : Side) where
   module _ (lower : NamesLower t) where
@@ -175,17 +164,16 @@ module _ (rule : RuleKind) (s : Side) (Zoned : ℕ → Grid → Zone → Type 0)
   answers-some : (o : Option ℕ) (a : Answers) → ((j : ℕ) → o ≡ Some j → rest_node a.rest ≡ Some j) → (b : Grid)
       → ((n : ℕ) → AnswersHavePairs o s a Zoned Paired b n → ⊥) → ⊥
   answers-some None a named b none = none 0 refl
-  answers-some (Some r) a named b none = some r b (λ k passed. comes-some (ReplyHasPairs s a Zoned Paired r b) replied _
-      (λ m others. none (k + m) (k, m, passed, others, refl)))
-    where
-      answered : (o : Option ℕ) → (j : ℕ) × (option_or o (rest_node a.rest) ≡ Some j)
-      answered None = (r, named r refl)
-      answered (Some j) = (j, refl)
+  answers-some (Some r) a named b none = some r b
+      (λ k passed. comes-some (ReplyHasPairs s a Zoned Paired r b) replied _ (λ m others. none (k + m) (k, m, passed, others, refl))) where
+        answered : (o : Option ℕ) → (j : ℕ) × (option_or o (rest_node a.rest) ≡ Some j)
+        answered None = (r, named r refl)
+        answered (Some j) = (j, refl)
 
-      replied : (q : Point) → ((n : ℕ) → ReplyHasPairs s a Zoned Paired r b q n → ⊥) → ⊥
-      replied q none =
-          let by = answered (listed_node a.replies q) in
-          some by.0 (put b (other s) q) (λ n paired. none n (inr (by.0, by.1, λ idle. none 0 (inl (idle, refl)), paired)))
+        replied : (q : Point) → ((n : ℕ) → ReplyHasPairs s a Zoned Paired r b q n → ⊥) → ⊥
+        replied q none =
+            let by = answered (listed_node a.replies q) in
+            some by.0 (put b (other s) q) (λ n paired. none n (inr (by.0, by.1, λ idle. none 0 (inl (idle, refl)), paired)))
 
   node-some : (o : Option Node) (b : Grid) → ((n : ℕ) → NodeHasPairs rule s o Zoned Paired b n → ⊥) → ⊥
   node-some None b none = none 0 refl
@@ -220,8 +208,7 @@ module _ (Has : Point → ℕ → Type 0) (ps : List Point) where
       → Took (ComesTo Has (take i ps)) old mid → Took (Has q) mid new → Took (ComesTo Has (take (i + 1) ps)) old new
   taken-more i q old mid new l here before now = record {
     pairs = before.pairs + now.pairs;
-    paired = subst (λ qs. ComesTo Has qs (before.pairs + now.pairs))
-        (sym (take_more ps i q l ∙ ap (λ p. take i ps ++ p ∷ []) (here q)))
+    paired = subst (λ qs. ComesTo Has qs (before.pairs + now.pairs)) (sym (take_more ps i q l ∙ ap (λ p. take i ps ++ p ∷ []) (here q)))
         (comes-join Has (take i ps) (q ∷ []) before.pairs now.pairs before.paired (now.pairs, 0, now.paired, refl, omega arith));
     all = omega arith;
   }
@@ -236,8 +223,7 @@ module _ (Has : Point → ℕ → Type 0) (ps : List Point) where
         → ((d : Point) → get_or ps i d ≡ q) → Took (ComesTo Has (take i ps)) old mid → ((n : ℕ) → Has q n → mid < n)
         → (n : ℕ) → ComesTo Has qs n → old < n
     taken-short one i q old mid l here before short n h =
-        let parts = comes-split Has (take i ps) (drop i ps) n
-        (subst (λ rs. ComesTo Has rs n) (sym (take-append-drop i ps ∙ points)) h) in
+        let parts = comes-split Has (take i ps) (drop i ps) n (subst (λ rs. ComesTo Has rs n) (sym (take-append-drop i ps ∙ points)) h) in
         let last = subst (λ rs. ComesTo Has rs parts.1) (drop_more ps i q l ∙ ap (λ p. p ∷ drop (i + 1) ps) (here q)) parts.3 in
         let same = comes-same Has one (take i ps) before.pairs parts.0 before.paired parts.2 in
         let less = short last.0 last.2 in

@@ -1,18 +1,14 @@
 -- Marks that are made: opened point by point, blank, or with one point more.
-use Rattle.std.proofs.Common.{◌≡◌, inl, inr, ℕ, ◌+◌, ◌*◌, ◌<◌, Bool, true, false, cond, ◌||◌, refl, sym, ap, subst, ◌∙◌, arith}
-use Rattle.std.proofs.Common.{List, [], ◌∷◌, ◌++◌, length, get_or, set, length-set, slice_get}
+use Rattle.std.proofs.Common.{◌≡◌, inl, inr, ℕ, ◌+◌, ◌*◌, ◌<◌, Bool, true, false, cond, ◌||◌, refl, sym, ap, subst, ◌∙◌, arith, List, []}
+use Rattle.std.proofs.Common.{◌∷◌, ◌++◌, length, get_or, set, length-set, slice_get}
 use Rattle.std.proofs.lemmas.Bool.{cases_lt}
 use Rattle.std.proofs.lemmas.List.{get_or-set_same, get_or-set_other, get_or_push, get_or_append_left}
-use Rattle.game_rules.proofs.Common.{Grid, IsBoard, is_on, is_same_point, place_of, points_of}
-use Rattle.game_rules.specs.declared.Side.{Side}
-use Rattle.game_rules.specs.declared.Axis.{Axis}
-use Rattle.game_rules.specs.declared.Axis.TheVariants.{Row, Column, Down, Up}
-use Rattle.game_rules.specs.declared.Point.{Point}
+use Rattle.zone_checker.proofs.Common.{Grid, IsBoard, is_on, is_same_point, place_of, points_of, Side, Axis, Row, Column, Down, Up, Point}
+use Rattle.zone_checker.proofs.Common.{Mark, AreOpened, IsEntered, blank, mark_at, spare_of}
 use Rattle.game_rules.proofs.Boards.{Apart, place_fits, places_differ, same_or_apart}
 use Rattle.game_rules.proofs.Places.{points_get, points_length}
 use Rattle.game_rules.proofs.Points.{is_same_point-itself, apart-is_same_point}
-use Rattle.zone_checker.specs.declared.marks.Mark.{Mark}
-use Rattle.zone_checker.specs.Marks.{AreOpened, IsEntered, IsOpenedAt, blank, mark_at, spare_of}
+use Rattle.zone_checker.specs.Marks.{IsOpenedAt}
 use Rattle.zone_checker.proofs.Steps.{get_or-from_get}
 
 -- the marks of the first i points
@@ -51,8 +47,7 @@ entered-set b ms p w m ok on size wide inside spare =
       size = length-set ms (place_of b p) m;
       inside = λ q. elim (same_or_apart p q) [
         | inl same ↦ subst (λ (v : Point). (mark_at b (set ms (place_of b p) m) v).inside ≡ (is_same_point p v || (mark_at b ms v).inside))
-            same
-            (ap (λ (n : Mark). n.inside) here ∙ inside ∙ sym (ap (λ r. r || (mark_at b ms p).inside) (is_same_point-itself p)))
+            same (ap (λ (n : Mark). n.inside) here ∙ inside ∙ sym (ap (λ r. r || (mark_at b ms p).inside) (is_same_point-itself p)))
         | inr apart ↦ ap (λ (n : Mark). n.inside) (there q apart)
             ∙ sym (ap (λ r. r || (mark_at b ms q).inside) (apart-is_same_point p q apart))
       ];

@@ -1,7 +1,6 @@
 -- The greatest zone of a node by those of its answers: it has the fewest points and bears the most.
-use Rattle.std.proofs.Common.{◌≡◌, inl, inr, ℕ, zero, suc, ◌+◌, ◌-◌, ◌≤◌, ◌<◌, min, Bool, true, false, cond, ◌||◌, refl, sym, ap}
-use Rattle.std.proofs.Common.{subst, ◌∙◌, arith, List, [], ◌∷◌, length, map, get_or}
-use Rattle.std.specs.Prelude.{Option, Some, None}
+use Rattle.std.proofs.Common.{◌≡◌, inl, inr, ℕ, zero, suc, ◌+◌, ◌-◌, ◌≤◌, ◌<◌, min, Bool, true, false, cond, ◌||◌, refl, sym, ap, subst}
+use Rattle.std.proofs.Common.{◌∙◌, arith, List, [], ◌∷◌, length, map, get_or, Option, Some, None}
 use Rattle.std.specs.List.{list_any}
 use Rattle.std.proofs.lemmas.Bool.{both_ways, or_cases, eqb-true, eq-eqb}
 use Rattle.std.proofs.lemmas.Bool.Decides.{nat_tests}
@@ -10,17 +9,13 @@ use Rattle.game_rules.proofs.Lines.{along-then, along-same, along-zero}
 use Rattle.game_rules.proofs.Points.{is_at-Some, is_at-here}
 use Rattle.game_rules.proofs.Rows.{any_found, any_in_range}
 use Rattle.game_rules.proofs.Tests.{or_none, or_right as or_last}
-use Rattle.game_rules.proofs.Common.{Grid, is_on, along, place_of, is_at, axes}
-use Rattle.game_rules.specs.declared.Axis.{Axis}
-use Rattle.game_rules.specs.declared.Axis.TheVariants.{Row, Column, Down, Up}
-use Rattle.game_rules.specs.declared.Point.{Point}
+use Rattle.zone_checker.proofs.Common.{Grid, is_on, along, place_of, Axis, Row, Column, Down, Up, Point, Zone, Covers, Mark, ANY}
+use Rattle.zone_checker.proofs.Common.{AreCovered, LiesUnder, blank, covered, harms, kept_back, mark_at, spare_of, zone_of, is_full_at}
+use Rattle.zone_checker.proofs.Common.{is_full_through, SayMore}
+use Rattle.game_rules.proofs.Common.{is_at, axes}
 use Rattle.relevance_zone.specs.Windows.{is_in_window}
-use Rattle.relevance_zone.specs.Zones.{Zone, Covers, IsHarmless}
-use Rattle.zone_checker.specs.declared.marks.Mark.{Mark}
-use Rattle.zone_checker.specs.declared.marks.TheConstants.{ANY}
-use Rattle.zone_checker.specs.Marks.{AreCovered, LiesUnder, bearing, blank, covered, harms, kept_back, less}
-use Rattle.zone_checker.specs.Marks.{mark_at, spare_of, zone_of, is_full_at, is_full_through}
-use Rattle.zone_checker.specs.Replies.{SayMore}
+use Rattle.relevance_zone.specs.Zones.{IsHarmless}
+use Rattle.zone_checker.specs.Marks.{bearing, less}
 
 -- ---- numbers
 
@@ -61,10 +56,8 @@ more-then b one two three h k = record {
 }
 
 pub more-covers : (b : Grid) (old new : List Mark) (n : ℕ) → SayMore b old new → Covers 0 (zone_of b new n) (zone_of b old n)
-more-covers b old new n h = record {
-  points = h.inside;
-  windows = λ d p. let more = bearing-more n _ _ (h.spare d p) in omega (arith, more);
-}
+more-covers b old new n h =
+    record { points = h.inside; windows = λ d p. let more = bearing-more n _ _ (h.spare d p) in omega (arith, more) }
 
 mark-covered : (b : Grid) (old others new : List Mark) → AreCovered old others new → (p : Point)
     → mark_at b new p ≡ covered (mark_at b old p) (mark_at b others p)

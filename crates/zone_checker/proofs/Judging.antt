@@ -1,23 +1,14 @@
 -- What the zone that was found, or that there is none, says of a root.
 use Rattle.std.proofs.Common.{◌≡◌, ℕ, ◌-◌, false, sym, subst, arith, List}
-use Rattle.game_rules.proofs.Common.{Grid, IsPosition, has_fouls}
-use Rattle.game_rules.specs.declared.RuleKind.{RuleKind}
-use Rattle.game_rules.specs.declared.Side.{Side}
-use Rattle.strategy_graph.specs.declared.Node.{Node}
-use Rattle.strategy_graph.specs.declared.roots.Root.{Root}
-use Rattle.strategy_graph.specs.declared.roots.Root.TheVariants.{Attack, Defend}
-use Rattle.strategy_graph.specs.declared.Reply.{Reply}
-use Rattle.strategy_graph.specs.declared.Rest.TheVariants.{To}
-use Rattle.strategy_graph.proofs.Common.{Answers, RootWins, root_depth}
-use Rattle.relevance_zone.specs.Zones.{Zone, AcceptedRootByZone}
+use Rattle.zone_checker.proofs.Common.{Grid, RuleKind, Side, Node, Root, Attack, Defend, Reply, To, Answers, Zone, Mark, IsGreatest}
+use Rattle.zone_checker.proofs.Common.{zone_of, RootHasPairs, Took, asked_of}
+use Rattle.game_rules.proofs.Common.{IsPosition, has_fouls}
+use Rattle.strategy_graph.proofs.Common.{RootWins, root_depth}
+use Rattle.relevance_zone.specs.Zones.{AcceptedRootByZone}
 use Rattle.relevance_zone.proofs.Harm.{zones-win}
-use Rattle.zone_checker.specs.declared.marks.Mark.{Mark}
 use Rattle.zone_checker.specs.declared.checks.ZoneVerdict.TheVariants.{Accepted, Refused}
-use Rattle.zone_checker.specs.Marks.{IsGreatest, zone_of}
-use Rattle.zone_checker.specs.Pairs.{RootHasPairs}
 use Rattle.zone_checker.specs.Roots.{IsRootZone, attacker}
 use Rattle.zone_checker.specs.Verdicts.{IsVerdict}
-use Rattle.zone_checker.specs.Walks.{Took, asked_of}
 
 module _ (rule : RuleKind) (t : List Node) (b : Grid) where
   root-accepted : (r : Root) (ms : List Mark) → has_fouls rule (attacker r b) ≡ false
@@ -35,8 +26,8 @@ module _ (rule : RuleKind) (t : List Node) (b : Grid) where
         → has_fouls rule s ≡ false → IsGreatest (IsRootZone rule t s r c) c ms → Took (RootHasPairs rule t s r c) work left
         → IsVerdict rule t r work b (Accepted moves (work - left))
     accepted-verdict moves left ms lawful depth calm best took =
-        let accepted = root-accepted r ms (subst (λ v. has_fouls rule v ≡ false) side calm)
-        (subst (λ (v : Side). IsGreatest (IsRootZone rule t v r b) b ms) side
+        let accepted = root-accepted r ms
+        (subst (λ v. has_fouls rule v ≡ false) side calm) (subst (λ (v : Side). IsGreatest (IsRootZone rule t v r b) b ms) side
         (subst (λ (d : Grid). IsGreatest (IsRootZone rule t s r d) d ms) same best)) in
         let pairs : took.pairs ≡ work - left = omega arith in (
           accepted,
@@ -44,8 +35,7 @@ module _ (rule : RuleKind) (t : List Node) (b : Grid) where
           omega arith,
           subst (λ m. RootWins rule r m b) (sym depth) (zones-win rule t r b lawful accepted),
           subst (λ (v : Side). RootHasPairs rule t v r b (work - left)) side
-              (subst (λ (d : Grid). RootHasPairs rule t s r d (work - left)) same
-              (subst (RootHasPairs rule t s r c) pairs took.paired)),
+              (subst (λ (d : Grid). RootHasPairs rule t s r d (work - left)) same (subst (RootHasPairs rule t s r c) pairs took.paired)),
         )
 
     pub refused-verdict : ((z : Zone) → IsRootZone rule t s r c z → ⊥) → IsVerdict rule t r work b Refused

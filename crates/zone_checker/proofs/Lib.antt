@@ -1,5 +1,7 @@
 -- The laws of marks and of the walk.
 
+-- the words of the crate, in one place
+mod Common
 -- marks in lists, and the windows of a point
 mod Marking
 -- the greatest zone of a node by those of its answers

@@ -1,31 +1,19 @@
 -- Marks in lists, and the windows of a point one after another.
 use Rattle.std.proofs.Common.{◌≡◌, inl, inr, ℕ, zero, suc, ◌+◌, ◌-◌, ◌≤◌, ◌<◌, Bool, true, false, cond, ◌&&◌, not, refl, sym, ap, ◌∙◌}
-use Rattle.std.proofs.Common.{arith, List, length, nat_le, get_or, ◌*◌, eq-eqb}
-use Rattle.std.specs.Prelude.{Option, Some, None}
-use Rattle.std.specs.List.{list_all, count_by, range_with_len}
+use Rattle.std.proofs.Common.{arith, List, length, nat_le, get_or, ◌*◌, eq-eqb, Option, Some, None, count_by}
+use Rattle.std.specs.List.{list_all, range_with_len}
 use Rattle.std.proofs.lemmas.Bool.{both_ways, cases_lt, false_from_ne_true, le-leb, lt-leb}
 use Rattle.std.proofs.lemmas.List.{get_or_default}
 use Rattle.std.proofs.lemmas.List.Sums.{sum_by-cons}
-use Rattle.game_rules.proofs.Common.{Grid, IsBoard, is_on, holds, along, other, place_of, stone_at}
-use Rattle.game_rules.specs.declared.Side.{Side}
-use Rattle.game_rules.specs.declared.Axis.{Axis}
-use Rattle.game_rules.specs.declared.Point.{Point}
+use Rattle.zone_checker.proofs.Common.{Grid, IsBoard, is_on, holds, along, other, place_of, Side, Axis, Point, stones_in, is_clear_at}
+use Rattle.zone_checker.proofs.Common.{is_clear_of, Mark, ANY, blank, room, mark_at, spare_of, is_full_at, is_full_through}
+use Rattle.game_rules.proofs.Common.{stone_at}
 use Rattle.game_rules.proofs.Boards.{place_fits}
 use Rattle.game_rules.proofs.Rows.{all_in_range, all_range, any_found, any_none}
 use Rattle.stone_board.specs.Steps.{kept_on}
-use Rattle.relevance_zone.specs.Windows.{stones_in, is_clear_at, is_clear_of}
-use Rattle.zone_checker.specs.declared.marks.Mark.{Mark}
-use Rattle.zone_checker.specs.declared.marks.TheConstants.{ANY}
-use Rattle.zone_checker.specs.Marks.{blank, room, mark_at, spare_of, is_full_at, is_full_through}
+use Rattle.stone_board.proofs.Looks.{kept-Some}
 
--- what is kept on the board is there, and what is not is not on the board
-kept : (b : Grid) (o : Option Point) (q : Point) → kept_on b o ≡ Some q → (o ≡ Some q) × (is_on b q ≡ true)
-kept b None q h = cc
-kept b (Some r) q h = by_test (is_on b r) refl h where
-  by_test : (t : Bool) → is_on b r ≡ t → cond t (Some r) None ≡ Some q → (let o : Option Point = Some r in o ≡ Some q) × (is_on b q ≡ true)
-  by_test true e k = let same : r ≡ q = cc in (k, ap (is_on b) (sym same) ∙ e)
-  by_test false e k = cc
-
+-- what is not kept on the board is not on it
 lost : (b : Grid) (s : Side) (o : Option Point) → kept_on b o ≡ None → is_clear_at b s o ≡ false
 lost b s None h = refl
 lost b s (Some r) h = by_test (is_on b r) refl h where
@@ -69,7 +57,7 @@ module _ (b : Grid) (s : Side) (d : Axis) (p : Point) where
 
   pub room-held : (k : ℕ) (q : Point) → k < 5 → kept_on b (along d p k 0) ≡ Some q → holds b s q ≡ true → room b s d p ≡ Some ANY
   room-held k q l h mine =
-      let here = kept b (along d p k 0) q h in
+      let here = kept-Some b (along d p k 0) q h in
       any_room k l (ap (is_clear_at b s) here.0 ∙ ap (λ t. is_on b q && not t) mine ∙ and_false (is_on b q)) where
         and_false : (t : Bool) → (t && false) ≡ false
         and_false true = refl
@@ -79,19 +67,18 @@ module _ (b : Grid) (s : Side) (d : Axis) (p : Point) where
   pub counted-more : (k n m : ℕ) (q : Point) → Counted b s d p k n → kept_on b (along d p k 0) ≡ Some q → holds b s q ≡ false
       → n + mark (holds b (other s) q) ≡ m → Counted b s d p (k + 1) m
   counted-more k n m q h there clear sum =
-      let here = kept b (along d p k 0) q there in
+      let here = kept-Some b (along d p k 0) q there in
       let last = count_last (λ j. stone_at b (other s) (along d p j 0)) k 0 in
-      let same : mark (stone_at b (other s) (along d p (0 + k) 0)) ≡ mark (holds b (other s) q) =
-      ap (λ j. mark (stone_at b (other s) (along d p j 0))) (omega arith)
-      ∙ ap (λ (o : Option Point). mark (stone_at b (other s) o)) here.0 in
+      let same : mark (stone_at b (other s) (along d p (0 + k) 0)) ≡ mark (holds b (other s) q) = ap
+      (λ j. mark (stone_at b (other s) (along d p j 0))) (omega arith) ∙ ap (λ (o : Option Point). mark (stone_at b (other s) o)) here.0 in
       let before = h.count in
       let one : k + 1 ≡ suc k = omega arith in
       record {
         clear = λ j l. elim (cases_lt j k) [
           | inl less ↦ h.clear j less
           | inr more ↦ let this : k ≡ j = omega arith in
-              ap (λ i. is_clear_at b s (along d p i 0)) (sym this) ∙ ap (is_clear_at b s) here.0
-              ∙ ap (λ t. t && not (holds b s q)) here.1 ∙ ap not clear
+              ap (λ i. is_clear_at b s (along d p i 0)) (sym this)
+              ∙ ap (is_clear_at b s) here.0 ∙ ap (λ t. t && not (holds b s q)) here.1 ∙ ap not clear
         ];
         count = rw one (omega (arith, last, same, before, sum));
       }
@@ -120,7 +107,7 @@ module _ (b : Grid) (ms : List Mark) (d : Axis) (q : Point) where
       → is_full_through b ms d q ≡ true
   unfolding is_full_through
   full-there k p l h none = any_found (λ k. is_full_at b ms d (along d q 0 k)) 5 0 k (omega arith) (omega arith)
-      (ap (is_full_at b ms d) (kept b (along d q 0 k) p h).0 ∙ eq-eqb _ 0 none)
+      (ap (is_full_at b ms d) (kept-Some b (along d q 0 k) p h).0 ∙ eq-eqb _ 0 none)
 
   pub full-nowhere : ((k : ℕ) → k < 5 → is_full_at b ms d (along d q 0 k) ≡ false) → is_full_through b ms d q ≡ false
   unfolding is_full_through

@@ -1,20 +1,11 @@
 -- Replies one after another.
 use Rattle.std.proofs.Common.{◌≡◌, inl, inr, ℕ, ◌+◌, ◌<◌, true, refl, sym, ap, subst, ◌∙◌, arith, List, length, get_or}
 use Rattle.std.proofs.lemmas.Bool.{both_ways, cases_lt}
-use Rattle.game_rules.proofs.Common.{Grid, is_empty, other, points_of, put}
-use Rattle.game_rules.specs.declared.Side.{Side}
-use Rattle.game_rules.specs.declared.Point.{Point}
-use Rattle.game_rules.specs.declared.RuleKind.{RuleKind}
-use Rattle.strategy_graph.specs.declared.Node.{Node}
-use Rattle.strategy_graph.specs.declared.Reply.{Reply}
-use Rattle.strategy_graph.proofs.Common.{Answers, answer}
-use Rattle.relevance_zone.specs.Zones.{Zone, HasZone, IsWithstood, Withstands}
-use Rattle.zone_checker.specs.declared.marks.Mark.{Mark}
-use Rattle.zone_checker.specs.declared.walk.Stop.{Stop}
-use Rattle.zone_checker.specs.Marks.{AreCovered, IsGreatest, LiesUnder, zone_of}
-use Rattle.zone_checker.specs.Pairs.{HasPairs, NeedsNoWalk, ReplyHasPairsBy}
-use Rattle.zone_checker.specs.Walks.{HasToWalk, IsIdle, IsWithstoodBy, Stopped, Took, asked_of}
-use Rattle.zone_checker.specs.Replies.{AreReplied, IsReplied, SayMore}
+use Rattle.zone_checker.proofs.Common.{Grid, is_empty, other, points_of, put, Side, Point, RuleKind, Node, Reply, Answers, answer, Zone}
+use Rattle.zone_checker.proofs.Common.{HasZone, IsWithstood, Withstands, Mark, Stop, AreCovered, IsGreatest, LiesUnder, zone_of, HasPairs}
+use Rattle.zone_checker.proofs.Common.{ReplyHasPairsBy, IsWithstoodBy, Stopped, Took, asked_of, AreReplied, IsReplied, SayMore}
+use Rattle.zone_checker.specs.Pairs.{NeedsNoWalk}
+use Rattle.zone_checker.specs.Walks.{HasToWalk, IsIdle}
 use Rattle.zone_checker.proofs.Greatest.{harm-under, harmless-zone, more-then}
 use Rattle.zone_checker.proofs.Steps.{withstood-more, reply-taken, reply-harmless, reply-walked, reply-fails, same_answer}
 use Rattle.zone_checker.proofs.Counting.{stopped-then}
@@ -45,11 +36,8 @@ module _ (s : Side) (a : Answers) (Has : ℕ → Grid → Zone → Type 0) (b : 
 
   pub replied-all : (old new : List Mark) → ps ≡ points_of b → RepliedTo (length ps) old new
       → AreReplied s a Has b passed (points_of b) old new
-  replied-all old new points h = subst (λ (qs : List Point). AreReplied s a Has b passed qs old new) points (record {
-    more = h.more;
-    withstood = h.withstood;
-    greatest = h.greatest;
-  })
+  replied-all old new points h = subst (λ (qs : List Point). AreReplied s a Has b passed qs old new) points
+      (record { more = h.more; withstood = h.withstood; greatest = h.greatest })
 
 -- ---- one reply, as the walk asks it
 
@@ -93,10 +81,9 @@ module _ (rule : RuleKind) (t : List Node) (s : Side) (replies : List Reply) (re
     reply-stopped left stop = stopped-then (HasZone rule t s j c) (IsWithstoodBy rule t s (asked_of replies rest) b) left left
         (HasPairs rule t s j c) (ReplyHasPairsBy rule t s (asked_of replies rest) rest b q) stop
         (λ none. reply-fails s (asked_of replies rest) (HasZone rule t s) b passed rest refl best q j walk.given walk.empty walk.harm
-        (subst (λ (d : Grid). (z : Zone) → HasZone rule t s j d z → ⊥) after none))
-        (λ short n h. elim h [
+        (subst (λ (d : Grid). (z : Zone) → HasZone rule t s j d z → ⊥) after none)) (λ short n h. elim h [
           | inl idle ↦ absurd (needed idle.0)
-          | inr walks ↦ short n (subst (λ (d : Grid). HasPairs rule t s j d n) (sym after)
-              (subst (λ k. HasPairs rule t s k (put b (other s) q) n)
+          | inr walks ↦ short n
+              (subst (λ (d : Grid). HasPairs rule t s j d n) (sym after) (subst (λ k. HasPairs rule t s k (put b (other s) q) n)
               (same_answer walks.0 j (answer (asked_of replies rest) q) walks.1 walk.given) walks.3))
         ])

@@ -1,34 +1,21 @@
 -- One step of the walk: what a reply leaves, what all replies leave, and the greatest zone of a node.
-use Rattle.std.proofs.Common.{◌≡◌, inl, inr, ℕ, ◌+◌, ◌-◌, ◌≤◌, ◌<◌, Bool, true, false, refl, sym, ap, subst, ◌∙◌, arith}
-use Rattle.std.proofs.Common.{List, [], ◌∷◌, zero, suc, cond, length, map, get_or, nat_le}
-use Rattle.std.specs.Prelude.{Option, Some, None, slice_get}
+use Rattle.std.proofs.Common.{◌≡◌, inl, inr, ℕ, ◌+◌, ◌-◌, ◌≤◌, ◌<◌, Bool, true, false, refl, sym, ap, subst, ◌∙◌, arith, List, [], ◌∷◌}
+use Rattle.std.proofs.Common.{zero, suc, cond, length, map, get_or, nat_le, Option, Some, None, slice_get}
 use Rattle.std.proofs.lemmas.Bool.{both_ways, cases_Bool, leb-true, leb-false, or_cases, or_left, or_right}
 use Rattle.std.proofs.lemmas.Option.{same_Some}
-use Rattle.game_rules.proofs.Common.{Grid, IsBoard, along, is_on, is_empty, five, put, other, place_of, points_of, is_same_point}
-use Rattle.game_rules.specs.declared.RuleKind.{RuleKind}
-use Rattle.game_rules.specs.declared.Side.{Side}
-use Rattle.game_rules.specs.declared.Axis.{Axis}
-use Rattle.game_rules.specs.declared.Axis.TheVariants.{Row, Column, Down, Up}
-use Rattle.game_rules.specs.declared.Point.{Point}
+use Rattle.zone_checker.proofs.Common.{Grid, IsBoard, along, is_on, is_empty, five, put, other, place_of, points_of, is_same_point}
+use Rattle.zone_checker.proofs.Common.{RuleKind, Side, Axis, Row, Column, Down, Up, Point, Node, Rest, To, Answers, answers_of, answer}
+use Rattle.zone_checker.proofs.Common.{listed_node, stones_in, is_clear_at, is_clear_of, Zone, Covers, IsWithstood, NodeHasZone, Withstands}
+use Rattle.zone_checker.proofs.Common.{Mark, ANY, AreCovered, AreOpened, IsEntered, IsGreatest, LiesUnder, blank, harms, kept_back, mark_at}
+use Rattle.zone_checker.proofs.Common.{room, spare_of, zone_of, AreReplied, IsReplied, SayMore}
 use Rattle.game_rules.proofs.Boards.{and_left, is_empty-on}
 use Rattle.game_rules.proofs.Lines.{along-zero}
 use Rattle.game_rules.proofs.Places.{points_get}
 use Rattle.game_rules.proofs.Rows.{all_in_range}
 use Rattle.game_rules.proofs.Points.{is_same_point-itself, is_same_point-same}
-use Rattle.strategy_graph.specs.declared.Node.{Node}
-use Rattle.strategy_graph.specs.declared.Rest.{Rest}
-use Rattle.strategy_graph.specs.declared.Rest.TheVariants.{To}
-use Rattle.strategy_graph.proofs.Common.{Answers, answers_of, answer, listed_node}
-use Rattle.relevance_zone.specs.Windows.{stones_in, is_clear_at, is_clear_of}
-use Rattle.relevance_zone.specs.Zones.{Zone, Covers, IsWithstood, NodeHasZone, Withstands}
-use Rattle.zone_checker.specs.declared.marks.Mark.{Mark}
-use Rattle.zone_checker.specs.declared.marks.TheConstants.{ANY}
-use Rattle.zone_checker.specs.Marks.{AreCovered, AreOpened, HasFour, IsEntered, IsGreatest, LiesUnder, blank, harms}
-use Rattle.zone_checker.specs.Marks.{kept_back, mark_at, room, spare_of, zone_of}
-use Rattle.zone_checker.specs.Replies.{AreReplied, IsReplied, SayMore}
+use Rattle.zone_checker.specs.Marks.{HasFour}
 use Rattle.zone_checker.proofs.Greatest.{more-none, more-then, more-covers, covered-old, covered-others, under-covered, under-back}
-use Rattle.zone_checker.proofs.Greatest.{back-covers}
-use Rattle.zone_checker.proofs.Greatest.{harmless-zone, harm-under, bearing-few}
+use Rattle.zone_checker.proofs.Greatest.{back-covers, harmless-zone, harm-under, bearing-few}
 
 covers-then : (one two three : Zone) (k : ℕ) → Covers 0 one two → Covers k two three → Covers k one three
 covers-then one two three k h g = record {
@@ -57,10 +44,7 @@ module _ (s : Side) (a : Answers) (Has : ℕ → Grid → Zone → Type 0) (b : 
     zone = w.zone;
     passed = w.passed;
     covered = covers-then z y w.zone 1 covers w.covered;
-    replies = λ q empty. elim (w.replies q empty) [
-      | inl h ↦ inl h
-      | inr h ↦ inr (h.0, h.1, h.2, h.3, covers-then z y h.1 0 covers h.4)
-    ];
+    replies = λ q empty. elim (w.replies q empty) [ inl h ↦ inl h | inr h ↦ inr (h.0, h.1, h.2, h.3, covers-then z y h.1 0 covers h.4) ];
   }
 
   -- what withstands a reply does so where the marks say more
@@ -74,11 +58,8 @@ module _ (s : Side) (a : Answers) (Has : ℕ → Grid → Zone → Type 0) (b : 
   module _ (passed : List Mark) (rest : ℕ) (named : a.rest ≡ To rest) (best : IsGreatest (Has rest b) b passed) (q : Point) where
     -- a point that is taken needs no answer
     pub reply-taken : (ms : List Mark) → is_empty b q ≡ false → IsReplied s a Has b passed q ms ms
-    reply-taken ms taken = record {
-      more = more-none b ms;
-      withstood = λ n empty. absurd (both_ways _ taken empty);
-      greatest = λ z w under. under;
-    }
+    reply-taken ms taken =
+        record { more = more-none b ms; withstood = λ n empty. absurd (both_ways _ taken empty); greatest = λ z w under. under }
 
     -- a reply that is not listed and does no harm is passed over
     pub reply-harmless : (ms : List Mark) → listed_node a.replies q ≡ None → harms b passed q ≡ false → IsReplied s a Has b passed q ms ms
@@ -106,13 +87,8 @@ module _ (s : Side) (a : Answers) (Has : ℕ → Grid → Zone → Type 0) (b : 
           → AreCovered old found new → length found ≡ length old → IsReplied s a Has b passed q old new
       reply-walked found old new greatest covered size = record {
         more = covered-old b old found new covered;
-        withstood = λ n _. inr (
-          j,
-          zone_of b found n,
-          given,
-          greatest.zones n,
-          more-covers b found new n (covered-others b old found new covered size),
-        );
+        withstood = λ n _. inr
+            (j, zone_of b found n, given, greatest.zones n, more-covers b found new n (covered-others b old found new covered size));
         greatest = λ z w under.
             let own = own_zone z w in
             let below = greatest.greatest own.0 own.1 in
@@ -143,12 +119,11 @@ module _ (s : Side) (a : Answers) (Has : ℕ → Grid → Zone → Type 0) (b : 
   unfolding room
   room_clear d p k h clear = by_test (nat_le (stones_in b (other s) d p) 3) refl
       (sym (ap (λ t. cond t (cond (nat_le (stones_in b (other s) d p) 3) (Some (3 - stones_in b (other s) d p)) None) (Some ANY)) clear)
-      ∙ h)
-    where
-      by_test : (u : Bool) → nat_le (stones_in b (other s) d p) 3 ≡ u → cond u (Some (3 - stones_in b (other s) d p)) None ≡ Some k
-          → stones_in b (other s) d p + k ≡ 3
-      by_test false f h = cc
-      by_test true f h = let same : 3 - stones_in b (other s) d p ≡ k = cc in let few = leb-true _ 3 f in omega (arith, same, few)
+      ∙ h) where
+        by_test : (u : Bool) → nat_le (stones_in b (other s) d p) 3 ≡ u → cond u (Some (3 - stones_in b (other s) d p)) None ≡ Some k
+            → stones_in b (other s) d p + k ≡ 3
+        by_test false f h = cc
+        by_test true f h = let same : 3 - stones_in b (other s) d p ≡ k = cc in let few = leb-true _ 3 f in omega (arith, same, few)
 
   -- a window without room shows that nothing is withstood
   pub four-fails : HasFour b s → (z : Zone) → Withstands s a Has b z → ⊥
@@ -194,10 +169,9 @@ module _ (s : Side) (a : Answers) (Has : ℕ → Grid → Zone → Type 0) (b : 
   }
 
   -- the marks that open, with those of the rest kept back, and then each reply: the greatest zone with which all are withstood
-  pub replies-greatest : (passed opened first last : List Mark) (rest : ℕ) → IsBoard b → a.rest ≡ To rest
-      → IsGreatest (Has rest b) b passed → AreOpened b s opened → AreCovered opened (map kept_back passed) first
-      → length (map kept_back passed) ≡ length opened → AreReplied s a Has b passed (points_of b) first last
-      → IsGreatest (Withstands s a Has b) b last
+  pub replies-greatest : (passed opened first last : List Mark) (rest : ℕ) → IsBoard b → a.rest ≡ To rest → IsGreatest (Has rest b) b passed
+      → AreOpened b s opened → AreCovered opened (map kept_back passed) first → length (map kept_back passed) ≡ length opened
+      → AreReplied s a Has b passed (points_of b) first last → IsGreatest (Withstands s a Has b) b last
   replies-greatest passed opened first last rest ok named best open_marks covered size replied = record {
     size = replied.more.size ∙ covered.size ∙ open_marks.size;
     zones = λ n. record {
@@ -218,12 +192,11 @@ module _ (s : Side) (a : Answers) (Has : ℕ → Grid → Zone → Type 0) (b : 
           let place = place_of b q in
           let on = is_empty-on b q empty in
           let there = get_or-from_get (points_of b) place q (points_get b q on) in
-          subst (λ p. IsWithstood s a Has b (zone_of b last n) (zone_of b passed (n + 1)) p) (there.1 q)
-          (replied.withstood place n q there.0 (subst (λ p. is_empty b p ≡ true) (sym (there.1 q)) empty));
+          subst (λ p. IsWithstood s a Has b (zone_of b last n) (zone_of b passed (n + 1)) p)
+          (there.1 q) (replied.withstood place n q there.0 (subst (λ p. is_empty b p ≡ true) (sym (there.1 q)) empty));
     };
     greatest = λ z w. replied.greatest z w
-        (under-covered b opened (map kept_back passed) first covered z (opened_lies opened z open_marks w)
-        (under-back b passed z w.zone
+        (under-covered b opened (map kept_back passed) first covered z (opened_lies opened z open_marks w) (under-back b passed z w.zone
         (best.greatest w.zone (subst (λ k. Has k b w.zone) (same_rest w.rest rest a.rest w.named named) w.passed)) w.covered));
   }
 
@@ -250,8 +223,7 @@ module _ (rule : RuleKind) (s : Side) (Has : ℕ → Grid → Zone → Type 0) (
   ]
 
   -- an attack that leaves replies
-  pub node-greatest : five rule b s n.attack ≡ false
-      → IsGreatest (Withstands s (answers_of n) Has (put b s n.attack)) (put b s n.attack) ms
+  pub node-greatest : five rule b s n.attack ≡ false → IsGreatest (Withstands s (answers_of n) Has (put b s n.attack)) (put b s n.attack) ms
       → length ms ≡ length b.cells → IsGreatest (NodeHasZone rule s (Some n) Has b) b marks
   node-greatest quiet best size = record {
     size = entered.size ∙ size;

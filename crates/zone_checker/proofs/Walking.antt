@@ -1,29 +1,18 @@
 -- The walk at a node: its greatest zone, or that it has none.
-use Rattle.std.proofs.Common.{◌≡◌, inl, inr, ℕ, ◌<◌, true, false, sym, ap, subst, ◌∙◌, arith, ◌+◌, ◌-◌, List, length}
-use Rattle.std.proofs.Common.{slice_get, refl, Bool, ◌&&◌, not, cond, Some, None}
-use Rattle.std.proofs.Common.{length-set}
+use Rattle.std.proofs.Common.{◌≡◌, inl, inr, ℕ, ◌<◌, true, false, sym, ap, subst, ◌∙◌, arith, ◌+◌, ◌-◌, List, length, slice_get, refl, Bool}
+use Rattle.std.proofs.Common.{◌&&◌, not, cond, Some, None, length-set}
 use Rattle.std.proofs.lemmas.Bool.{both_ways}
-use Rattle.game_rules.proofs.Common.{Grid, IsBoard, is_empty, five, lift, place_of, put, stone_of}
+use Rattle.zone_checker.proofs.Common.{Grid, IsBoard, is_empty, five, place_of, put, RuleKind, Side, Point, Node, Reply, Rest, To, Answers}
+use Rattle.zone_checker.proofs.Common.{NamesLower, answer, answers_of, names_below, rest_node, Zone, HasZone, NodeHasZone, Withstands, Mark}
+use Rattle.zone_checker.proofs.Common.{Stop, HasPairs, AnswersHavePairsBy, asked_rest, IsWithstoodBy, Stopped, Took, asked_of, IsEntered}
+use Rattle.zone_checker.proofs.Common.{IsGreatest, blank, mark_at, zone_of}
+use Rattle.game_rules.proofs.Common.{lift, stone_of}
 use Rattle.game_rules.proofs.Boards.{lift-put}
 use Rattle.stone_board.specs.Steps.{holds_stone}
 use Rattle.stone_board.proofs.Stones.{put-holds_stone}
-use Rattle.game_rules.specs.declared.RuleKind.{RuleKind}
-use Rattle.game_rules.specs.declared.Side.{Side}
-use Rattle.game_rules.specs.declared.Point.{Point}
-use Rattle.strategy_graph.specs.declared.Node.{Node}
-use Rattle.strategy_graph.specs.declared.Reply.{Reply}
-use Rattle.strategy_graph.specs.declared.Rest.{Rest}
-use Rattle.strategy_graph.specs.declared.Rest.TheVariants.{To}
-use Rattle.strategy_graph.proofs.Common.{Answers, NamesLower, answer, answers_of, names_below, rest_node}
 use Rattle.strategy_graph.proofs.Answering.{answer-below}
-use Rattle.relevance_zone.specs.Zones.{Zone, HasZone, NodeHasZone, Withstands}
 use Rattle.relevance_zone.proofs.ByNode.{zone-to_node, zone-by_node}
-use Rattle.zone_checker.specs.declared.marks.Mark.{Mark}
-use Rattle.zone_checker.specs.declared.walk.Stop.{Stop}
-use Rattle.zone_checker.specs.Pairs.{HasPairs, AnswersHavePairsBy, asked_rest}
-use Rattle.zone_checker.specs.Walks.{IsWithstoodBy, Stopped, Took, asked_of}
 use Rattle.zone_checker.proofs.Counting.{pairs-by_node, pairs-to_node, stopped-then}
-use Rattle.zone_checker.specs.Marks.{IsEntered, IsGreatest, blank, mark_at, zone_of}
 use Rattle.zone_checker.proofs.Steps.{five-greatest, node-greatest}
 
 module _ (rule : RuleKind) (t : List Node) (lower : NamesLower t) (s : Side) (i : ℕ) (b : Grid) (n : Node)
@@ -44,10 +33,7 @@ module _ (rule : RuleKind) (t : List Node) (lower : NamesLower t) (s : Side) (i 
   taken-fails taken z h = both_ways _ taken (has_node z h).1
 
   pub restless-fails : five rule b s n.attack ≡ false → ((r : ℕ) → n.rest ≡ To r → ⊥) → (z : Zone) → HasZone rule t s i b z → ⊥
-  restless-fails quiet none z h = elim (has_node z h).2 [
-    | inl wins ↦ both_ways _ quiet wins
-    | inr w ↦ none w.rest w.named
-  ]
+  restless-fails quiet none z h = elim (has_node z h).2 [ inl wins ↦ both_ways _ quiet wins | inr w ↦ none w.rest w.named ]
 
   asked-by : is_empty b n.attack ≡ true → (e : Bool) → five rule b s n.attack ≡ e
       → asked_rest rule s b n ≡ cond (not e) (rest_node n.rest) None
@@ -67,10 +53,8 @@ module _ (rule : RuleKind) (t : List Node) (lower : NamesLower t) (s : Side) (i 
 
     pub left-greatest : is_empty b n.attack ≡ true → (ms marks : List Mark) → IsEntered b n.attack ms marks
         → IsGreatest (Withstands s (record { replies = n.replies; rest = To r }) (HasZone rule t s) (put b s n.attack)) (put b s n.attack)
-        ms
-        → length ms ≡ length b.cells → IsGreatest (HasZone rule t s i b) b marks
-    left-greatest empty ms marks entered best size =
-        of_node marks (node-greatest rule s (HasZone rule t s) n b ms marks entered empty quiet
+        ms → length ms ≡ length b.cells → IsGreatest (HasZone rule t s i b) b marks
+    left-greatest empty ms marks entered best size = of_node marks (node-greatest rule s (HasZone rule t s) n b ms marks entered empty quiet
         (subst (λ a. IsGreatest (Withstands s a (HasZone rule t s) (put b s n.attack)) (put b s n.attack) ms) (sym same) best) size)
 
     -- the board after the attack, on which the answers are asked

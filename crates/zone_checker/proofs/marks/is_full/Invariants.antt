@@ -1,6 +1,5 @@
 use Rattle.std.proofs.Common.{◌≡◌, ◌<◌, ℕ, false}
-use Rattle.game_rules.proofs.Common.{along}
-use Rattle.zone_checker.specs.Marks.{is_full_at}
+use Rattle.zone_checker.proofs.Common.{along, is_full_at}
 use Rattle.zone_checker.proofs.marks.is_full.Given as goal
 
 abbrev pub invariant-loop-k : goal.invariant-loop-k

@@ -1,8 +1,7 @@
 use Rattle.std.proofs.Common.{◌≡◌, ◌+◌, List, [], ◌∷◌, ◌++◌, length, sym, ap, subst, arith}
 use Rattle.std.proofs.lemmas.List.{get_or_default, length-append}
 use Rattle.std.proofs.lemmas.List.Sums.{AllPass-from_list_all}
-use Rattle.game_rules.proofs.Common.{is_on}
-use Rattle.zone_checker.specs.declared.marks.Mark.{Mark}
+use Rattle.zone_checker.proofs.Common.{is_on, Mark}
 use Rattle.game_rules.proofs.Places.{points_on}
 use Rattle.zone_checker.proofs.Filling.{OpenedTo, opened-push, opened-all}
 use Rattle.zone_checker.proofs.marks.opened.Goals as goal

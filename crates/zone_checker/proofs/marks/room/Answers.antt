@@ -1,9 +1,8 @@
 use Rattle.std.proofs.Common.{◌≡◌, ◌+◌, sym, ap, subst, ◌∙◌, arith}
-use Rattle.game_rules.proofs.Common.{holds, other}
-use Rattle.game_rules.specs.declared.Side.{Side}
+use Rattle.zone_checker.proofs.Common.{holds, other, Side}
 use Rattle.zone_checker.proofs.Marking.{Counted, mark, counted-more, room-off, room-held, room-clear, room-none}
-use Rattle.zone_checker.proofs.marks.room.Goals as goal
 use Rattle.zone_checker.proofs.marks.room.Goals.{then-holds-2, else-holds-2}
+use Rattle.zone_checker.proofs.marks.room.Goals as goal
 
 pub returns-in_default : goal.returns-in_default
 returns-in_default c = record {

@@ -1,16 +1,10 @@
-use Rattle.std.proofs.Common.{rules, ◌≡◌, ℕ, ◌+◌, ◌<◌, refl, sym, ap, subst, ◌∙◌, arith, List, length}
-use Rattle.std.proofs.Common.{get_or}
+use Rattle.std.proofs.Common.{rules, ◌≡◌, ℕ, ◌+◌, ◌<◌, refl, sym, ap, subst, ◌∙◌, arith, List, length, get_or}
 use Rattle.std.proofs.lemmas.Result.{err_from_is_err_and}
 use Rattle.std.proofs.lemmas.List.{get_or_default, length-map}
-use Rattle.game_rules.proofs.Common.{Grid, put, other, points_of}
-use Rattle.game_rules.specs.declared.Side.{Side}
-use Rattle.game_rules.specs.declared.Point.{Point}
+use Rattle.zone_checker.proofs.Common.{Grid, put, other, points_of, Side, Point, HasZone, AreCovered, IsEntered, IsGreatest, kept_back}
+use Rattle.zone_checker.proofs.Common.{Mark, IsWithstoodBy, asked_of}
 use Rattle.strategy_graph.specs.Lent.{lent_node}
 use Rattle.strategy_graph.proofs.Filling.{IsTable-lower}
-use Rattle.relevance_zone.specs.Zones.{HasZone}
-use Rattle.zone_checker.specs.Marks.{AreCovered, IsEntered, IsGreatest, kept_back}
-use Rattle.zone_checker.specs.declared.marks.Mark.{Mark}
-use Rattle.zone_checker.specs.Walks.{IsWithstoodBy, asked_of}
 use Rattle.zone_checker.proofs.Counting.{answers-short, answers-took, pairs-some, replies-one, stopped-then, taken-all, taken-more}
 use Rattle.zone_checker.proofs.Counting.{taken-short}
 use Rattle.zone_checker.proofs.Replying.{idle-took, reply-idle, reply-found, reply-took, reply-stopped, replied-more, replied-all}
@@ -26,32 +20,28 @@ node_zone-returns-then-walk-eq0-clause-found g t c = λ n h.
     let some = pairs-some g.R.Rule.KIND c.args.ground.table.now c.args.ground.side c.args.i c.args.walk.now.board n h in omega arith
 
 pub node_zone-returns-then-not-is_empty-clause-found : goal.node_zone-returns-then-not-is_empty-clause-found
-node_zone-returns-then-not-is_empty-clause-found g t c = λ z h.
-    taken-fails g.R.Rule.KIND _ (IsTable-lower _ c.node-node.ensures.table) _ c.args.i
-    c.args.walk.now.board (lent_node c.node-node.result) c.node-node.ensures.node (sym c.is_empty.ensures.empty ∙ c.if-not-is_empty.true) z
-    h
+node_zone-returns-then-not-is_empty-clause-found g t c =
+    λ z h. taken-fails g.R.Rule.KIND _ (IsTable-lower _ c.node-node.ensures.table) _ c.args.i c.args.walk.now.board
+    (lent_node c.node-node.result) c.node-node.ensures.node (sym c.is_empty.ensures.empty ∙ c.if-not-is_empty.true) z h
 
 pub node_zone-returns-then-is_five_point-clause-found : goal.node_zone-returns-then-is_five_point-clause-found
 node_zone-returns-then-is_five_point-clause-found g t c =
-    won-greatest g.R.Rule.KIND _ (IsTable-lower _ c.node-node.ensures.table) _ c.args.i
-    c.args.walk.now.board (lent_node c.node-node.result) c.node-node.ensures.node
-    (sym c.is_five_point.ensures.five ∙ c.if-is_five_point.true)
+    won-greatest g.R.Rule.KIND _ (IsTable-lower _ c.node-node.ensures.table) _ c.args.i c.args.walk.now.board
+    (lent_node c.node-node.result) c.node-node.ensures.node (sym c.is_five_point.ensures.five ∙ c.if-is_five_point.true)
     (sym c.is_empty.ensures.empty ∙ c.if-not-is_empty.false) c.in-Ok.marks.items c.enter.new.marks.items c.enter.ensures.entered
     c.in-Ok.ensures.blanks c.in-Ok.ensures.size
 
 pub node_zone-returns-then-is_five_point-clause-took : goal.node_zone-returns-then-is_five_point-clause-took
 node_zone-returns-then-is_five_point-clause-took g t c =
-    won-took g.R.Rule.KIND _ (IsTable-lower _ c.node-node.ensures.table) _ c.args.i
-    c.args.walk.now.board (lent_node c.node-node.result) c.node-node.ensures.node
-    (sym c.is_five_point.ensures.five ∙ c.if-is_five_point.true)
+    won-took g.R.Rule.KIND _ (IsTable-lower _ c.node-node.ensures.table) _ c.args.i c.args.walk.now.board
+    (lent_node c.node-node.result) c.node-node.ensures.node (sym c.is_five_point.ensures.five ∙ c.if-is_five_point.true)
     (sym c.is_empty.ensures.empty ∙ c.if-not-is_empty.false) c.args.walk.now.left (omega arith)
 
 pub node_zone-returns-in_default-rest : goal.node_zone-returns-in_default-rest
 node_zone-returns-in_default-rest g t c = record {
-  found = restless-fails g.R.Rule.KIND _ (IsTable-lower _ c.node-node.ensures.table) _ c.args.i
-      c.args.walk.now.board (lent_node c.node-node.result) c.node-node.ensures.node
-      (sym c.is_five_point.ensures.five ∙ c.if-is_five_point.false)
-      c.in_default-rest.not-To;
+  found = restless-fails g.R.Rule.KIND _
+      (IsTable-lower _ c.node-node.ensures.table) _ c.args.i c.args.walk.now.board (lent_node c.node-node.result) c.node-node.ensures.node
+      (sym c.is_five_point.ensures.five ∙ c.if-is_five_point.false) c.in_default-rest.not-To;
   same = refl;
   took = tt;
 }
@@ -72,25 +62,21 @@ node_zone-lift-requires g t c = record {
 }
 
 pub node_zone-returns-in-Ok-withstood-clause-same : goal.node_zone-returns-in-Ok-withstood-clause-same
-node_zone-returns-in-Ok-withstood-clause-same g t c =
-    lifted-same c.args.walk.now.board _ _ c.args.ground.side c.node-node.result.attack
+node_zone-returns-in-Ok-withstood-clause-same g t c = lifted-same c.args.walk.now.board _ _ c.args.ground.side c.node-node.result.attack
     (sym c.is_empty.ensures.empty ∙ c.if-not-is_empty.false) c.put.ensures.put c.withstand-withstood.ensures.same _ c.lift.ensures.lift
 
 pub node_zone-returns-in-Err-clause-same : goal.node_zone-returns-in-Err-clause-same
-node_zone-returns-in-Err-clause-same g t c =
-    lifted-same c.args.walk.now.board _ _ c.args.ground.side c.node-node.result.attack
+node_zone-returns-in-Err-clause-same g t c = lifted-same c.args.walk.now.board _ _ c.args.ground.side c.node-node.result.attack
     (sym c.is_empty.ensures.empty ∙ c.if-not-is_empty.false) c.put.ensures.put c.withstand-withstood.ensures.same _ c.lift.ensures.lift
 
 pub node_zone-returns-in-Ok-withstood-clause-took : goal.node_zone-returns-in-Ok-withstood-clause-took
-node_zone-returns-in-Ok-withstood-clause-took g t c =
-    left-took g.R.Rule.KIND _ (IsTable-lower _ c.node-node.ensures.table) _ c.args.i
+node_zone-returns-in-Ok-withstood-clause-took g t c = left-took g.R.Rule.KIND _ (IsTable-lower _ c.node-node.ensures.table) _ c.args.i
     c.args.walk.now.board (lent_node c.node-node.result) c.node-node.ensures.node c.in-To.rest c.in-To.is
     (sym c.is_five_point.ensures.five ∙ c.if-is_five_point.false) c.put.new.self c.put.ensures.put
     (sym c.is_empty.ensures.empty ∙ c.if-not-is_empty.false) c.args.walk.now.left _ (omega arith) c.in-Ok-withstood.ensures.took
 
 pub node_zone-returns-in-Err-clause-found : goal.node_zone-returns-in-Err-clause-found
-node_zone-returns-in-Err-clause-found g t c =
-    left-stopped g.R.Rule.KIND _ (IsTable-lower _ c.node-node.ensures.table) _ c.args.i
+node_zone-returns-in-Err-clause-found g t c = left-stopped g.R.Rule.KIND _ (IsTable-lower _ c.node-node.ensures.table) _ c.args.i
     c.args.walk.now.board (lent_node c.node-node.result) c.node-node.ensures.node c.in-To.rest c.in-To.is
     (sym c.is_five_point.ensures.five ∙ c.if-is_five_point.false) c.put.new.self c.put.ensures.put
     (sym c.is_empty.ensures.empty ∙ c.if-not-is_empty.false) c.args.walk.now.left c.in-Err.stop (omega arith) c.in-Err.ensures.found
@@ -201,14 +187,12 @@ reply_all-returns-in_err-reply-clause-replied g t c =
     rw (p.1, p.2) (stopped-then _ _ c.loop-q.walk.left c.args.walk.now.left _ _ c.in_err-reply.field-0.0 (λ none. none)
     (taken-short _ c.args.ground.points.now _ c.requires.points
     (replies-one _ _ _ (asked_of c.args.asked.replies.now c.args.asked.rest) _ _) c.loop-q.q-index _ _ _ c.loop-q-test.true here
-    c.loop-q.invariant.taken)
-    (rw c.loop-q.invariant.board at c.in_err-reply.ensures.replied))
+    c.loop-q.invariant.taken) (rw c.loop-q.invariant.board at c.in_err-reply.ensures.replied))
 
 -- ---- the answers of a node
 
 pub withstand-returns-in-Ok-None-clause-found : goal.withstand-returns-in-Ok-None-clause-found
-withstand-returns-in-Ok-None-clause-found g t c =
-    four-fails c.args.ground.side (asked_of c.args.asked.replies.now c.args.asked.rest)
+withstand-returns-in-Ok-None-clause-found g t c = four-fails c.args.ground.side (asked_of c.args.asked.replies.now c.args.asked.rest)
     (HasZone g.R.Rule.KIND c.args.ground.table.now c.args.ground.side) c.args.walk.now.board
     (rw c.in-Ok-None.field-0-is at c.in-Ok-None.ensures.opened)
 

@@ -1,7 +1,5 @@
 use Rattle.std.proofs.Common.{◌≡◌, ◌+◌, ◌*◌, take}
-use Rattle.relevance_zone.specs.Zones.{HasZone}
-use Rattle.zone_checker.specs.Pairs.{ComesTo, ReplyHasPairsBy}
-use Rattle.zone_checker.specs.Walks.{Took, asked_of}
+use Rattle.zone_checker.proofs.Common.{HasZone, ComesTo, ReplyHasPairsBy, Took, asked_of}
 use Rattle.zone_checker.proofs.Replying.{RepliedTo}
 use Rattle.zone_checker.proofs.walk.+zones.Given as goal
 
