@@ -1,14 +1,12 @@
 -- What a cover that is told shows, and a reply that is told to be open.
 use Rattle.std.proofs.Common.{◌≡◌, ℕ, suc, ◌+◌, ◌≤◌, ◌<◌, Bool, true, false, not, ◌&&◌, ◌||◌, refl, sym, ap, subst, ◌∙◌, List, [], ◌∷◌}
-use Rattle.std.proofs.Common.{length, Option, Some, None, find, filter, arith, rules, zero, cond, add-one}
-use Rattle.std.specs.Prelude.{slice_index_or}
-use Rattle.std.specs.List.{Any, AllByRecursion, count_by, list_any}
+use Rattle.std.proofs.Common.{length, Option, Some, None, find, filter, arith, rules, zero, cond, add-one, slice_index_or, Any, count_by}
+use Rattle.std.specs.List.{AllByRecursion, list_any}
 use Rattle.std.specs.Option.{option_map_or}
 use Rattle.std.proofs.lemmas.Bool.Decides.{nat_tests}
 use Rattle.std.proofs.lemmas.List.Folds.{Any-from_list_any, list_any-from_Any}
-use Rattle.game_rules.proofs.Common.{Grid, IsBoard, is_on, points_of, outcome, after, goes_on, precedes, mover}
-use Rattle.game_rules.proofs.Common.{WinsOr, LosesOr, WinsWithin, loses_or}
-use Rattle.game_rules.specs.Games.{WinsAfter}
+use Rattle.game_rules.proofs.Common.{Grid, IsBoard, is_on, points_of, outcome, after, goes_on, precedes, mover, WinsOr, LosesOr, WinsWithin}
+use Rattle.game_rules.proofs.Common.{loses_or, WinsAfter}
 use Rattle.game_rules.specs.declared.RuleKind.{RuleKind}
 use Rattle.game_rules.specs.declared.Outcome.{Outcome}
 use Rattle.game_rules.specs.declared.Outcome.TheVariants.{Refused, Wins, Fouls, Draws, GoesOn}
@@ -59,12 +57,11 @@ among-moves f (p ∷ parts) zero part l at h =
     let here : f p ≡ true = ap f at ∙ h in
     let same : p.moves ≡ part.moves = ap (λ (x : Part). x.moves) at in
     rw here (omega (arith, same))
-among-moves f (p ∷ parts) (suc k) part l at h =
-    by-first p (f p) (filter f parts) (among-moves f parts k part (omega (arith, l)) at h) where
-      by-first : (p : Part) (r : Bool) (later : List Part) → part.moves ≤ most_moves later
-          → part.moves ≤ most_moves (cond r (p ∷ later) later)
-      by-first p true later few = omega (arith, few)
-      by-first p false later few = few
+among-moves f (p ∷ parts) (suc k) part l at h = by-first p (f p) (filter f parts) (among-moves f parts k part (omega (arith, l)) at h) where
+  by-first : (p : Part) (r : Bool) (later : List Part) → part.moves ≤ most_moves later
+      → part.moves ≤ most_moves (cond r (p ∷ later) later)
+  by-first p true later few = omega (arith, few)
+  by-first p false later few = few
 
 -- a test that holds nowhere holds at no point of the board
 none-at : (b : Grid) (f : Point → Bool) (q : Point) → is_on b q ≡ true → list_any f (points_of b) ≡ false → f q ≡ false
@@ -78,8 +75,7 @@ none-before : (f : Point → Bool) (q : Point) (ps : List Point) → Rising ps �
     → list_any (λ r. f r && precedes r q) ps ≡ false
 none-before f q [] rising found = cc
 none-before f q (x ∷ ps) rising found = by-first (f x) found (none-before f q ps rising.1) where
-  by-first : (r : Bool) → cond r (Some x) (find f ps) ≡ Some q
-      → (find f ps ≡ Some q → list_any (λ p. f p && precedes p q) ps ≡ false)
+  by-first : (r : Bool) → cond r (Some x) (find f ps) ≡ Some q → (find f ps ≡ Some q → list_any (λ p. f p && precedes p q) ps ≡ false)
       → (r && precedes x q || list_any (λ p. f p && precedes p q) ps) ≡ false
   by-first true h later =
       let same : x ≡ q = cc in
@@ -173,8 +169,7 @@ module _ (rule : RuleKind) (parts : List Part) (b : Grid) (m r k : ℕ) (told : 
   told-moves : most_moves (used_parts rule parts b) ≡ m
   unfolding cover_of
   told-moves = by-found (find (is_open rule parts b) (points_of b)) told where
-    by-found : (o : Option Point)
-        → option_map_or Open o (Covered (most_moves (used_parts rule parts b))
+    by-found : (o : Option Point) → option_map_or Open o (Covered (most_moves (used_parts rule parts b))
         (count_by (λ q. goes_on (outcome rule b q)) (points_of b)) (length (used_parts rule parts b))) ≡ Covered m r k
         → most_moves (used_parts rule parts b) ≡ m
     by-found None e = cc
@@ -259,7 +254,5 @@ module _ (rule : RuleKind) (parts : List Part) (b : Grid) (m r k : ℕ) (ok : Is
       subst (λ (n : ℕ). WinsWithin rule n c) (sym (add-one m)) wins
 
 pub covers-win : CoversWin
-covers-win rule parts b m r k ok won told = record {
-  replies = replies-won rule parts b m r k ok won told;
-  attacks = attack-won rule parts b m r k ok won told;
-}
+covers-win rule parts b m r k ok won told =
+    record { replies = replies-won rule parts b m r k ok won told; attacks = attack-won rule parts b m r k ok won told }

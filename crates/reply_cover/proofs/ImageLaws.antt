@@ -59,8 +59,7 @@ listed c ok =
     let image = board_image Identity c in
     sym (cells-same (cell_at image) (cell_at c) (points_of c) (all_implied _ (is_on c) (points_of c) (λ q on.
     let same : cell_at image q ≡ cell_at c q = cell_there (cell_at c) (points_of c) (place_of c q) q Empty (points_get c q on) in
-    rw (same, same_cell-itself (cell_at c q)) refl) (points_on c)))
-    ∙ ap (λ (b : Grid). b.cells) (takes_back Identity c ok refl).boards
+    rw (same, same_cell-itself (cell_at c q)) refl) (points_on c))) ∙ ap (λ (b : Grid). b.cells) (takes_back Identity c ok refl).boards
 
 -- ---- images
 
@@ -79,26 +78,13 @@ module _ (s : Symmetry) (b c : Grid) (sized : IsSized b c) where
 
   image-made : is_image s b c ≡ true → c ≡ board_image s b
   unfolding is_image image_at
-  image-made h = grid_eq c (board_image s b) sized.wide sized.high
-      (sym (listed c sized.board)
-      ∙ cells-same (cell_at c) image_at (points_of c) (and_right (fits s b.width b.height) _ h)
-      ∙ ap (map image_at) points-same)
+  image-made h = grid_eq c (board_image s b) sized.wide sized.high (sym (listed c sized.board)
+      ∙ cells-same (cell_at c) image_at (points_of c) (and_right (fits s b.width b.height) _ h) ∙ ap (map image_at) points-same)
 
   made-image : fits s b.width b.height ≡ true → c ≡ board_image s b → is_image s b c ≡ true
   unfolding is_image image_at
   made-image fit e = rw fit (same-cells (cell_at c) image_at (points_of c)
       (listed c sized.board ∙ ap (λ (g : Grid). g.cells) e ∙ ap (map image_at) (sym points-same)))
-
--- each symmetry is one of the eight
-place_among : Symmetry → ℕ
-place_among Identity = 0
-place_among Half = 1
-place_among FlipX = 2
-place_among FlipY = 3
-place_among Quarter = 4
-place_among ThreeQuarter = 5
-place_among Diagonal = 6
-place_among AntiDiagonal = 7
 
 eight-hold : (f : Symmetry → Bool) (s : Symmetry) → f s ≡ true → list_any f symmetries ≡ true
 eight-hold f Identity h = rw h refl
@@ -140,6 +126,5 @@ unfolding is_turned
 made-turned b c ok made =
     let wide : c.width ≡ b.width = ap (λ (g : Grid). g.width) made.image in
     let high : c.height ≡ b.height = ap (λ (g : Grid). g.height) made.image in
-    rw (eq-eqb c.width b.width wide, eq-eqb c.height b.height high)
-    (eight-hold (λ s. is_image s b c) made.symmetry
+    rw (eq-eqb c.width b.width wide, eq-eqb c.height b.height high) (eight-hold (λ s. is_image s b c) made.symmetry
     (made-image made.symmetry b c (record { board = ok; wide = wide; high = high }) made.fitting made.image))

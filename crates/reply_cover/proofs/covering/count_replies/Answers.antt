@@ -1,5 +1,4 @@
-use Rattle.std.proofs.Common.{◌∙◌, ap, refl, subst, length, arith}
-use Rattle.std.specs.List.{count_by}
+use Rattle.std.proofs.Common.{◌∙◌, ap, refl, subst, length, arith, count_by}
 use Rattle.game_rules.proofs.Common.{Grid, IsBoard, goes_on, outcome, points_of}
 use Rattle.game_rules.proofs.Places.{points_few}
 use Rattle.reply_cover.proofs.covering.count_replies.Goals as goal

@@ -1,5 +1,4 @@
-use Rattle.std.proofs.Common.{◌≡◌, ◌≤◌, ◌+◌, length}
-use Rattle.std.specs.List.{count_by}
+use Rattle.std.proofs.Common.{◌≡◌, ◌≤◌, ◌+◌, length, count_by}
 use Rattle.game_rules.proofs.Common.{goes_on, outcome, points_of}
 use Rattle.reply_cover.proofs.covering.count_replies.Given as goal
 
