@@ -2,15 +2,13 @@
 use Rattle.std.proofs.Common.{◌≡◌, ◌⊎◌, inl, inr, refl, sym, ap, subst, ◌∙◌, ℕ, ◌+◌, List, [], ◌∷◌, Option, Some, None, IfSome, true}
 use Rattle.std.proofs.Common.{add-zero, arith}
 use Rattle.std.specs.List.{AllByRecursion, cons_option}
-use Rattle.game_rules.proofs.Common.{Grid, IsBoard, WinsOr, LosesOr, WinsWithin, after, outcome}
-use Rattle.game_rules.specs.Games.{WinsAfter}
+use Rattle.game_rules.proofs.Common.{Grid, IsBoard, WinsOr, LosesOr, WinsWithin, after, outcome, WinsAfter, mover}
 use Rattle.game_rules.specs.declared.RuleKind.{RuleKind}
 use Rattle.game_rules.specs.declared.Outcome.{Outcome}
 use Rattle.game_rules.specs.declared.Outcome.TheVariants.{Refused, Wins, Fouls, Draws, GoesOn}
 use Rattle.game_rules.specs.declared.Point.{Point}
 use Rattle.game_rules.proofs.Positions.{IsBoard-put}
-use Rattle.game_rules.specs.Play.{mover}
-use Rattle.strategy_graph.specs.Roots.{AcceptedRoot, root_depth}
+use Rattle.strategy_graph.proofs.Common.{AcceptedRoot, root_depth}
 use Rattle.strategy_graph.specs.declared.roots.Root.{Root}
 use Rattle.strategy_graph.specs.declared.roots.Root.TheVariants.{Attack, Defend}
 use Rattle.strategy_graph.proofs.Soundness.{accepted-wins}
@@ -34,8 +32,8 @@ use Rattle.file_loading.specs.HeldFiles.{IsUnhinderedShelf}
 use Rattle.file_loading.specs.ManyFiles.{AreTableFiles}
 use Rattle.file_loading.proofs.FileRunLaws.{Speaks, files-answer, files-shown, shows-then}
 use Rattle.cover_command.specs.PartFiles.{part_by, parts_of}
-use Rattle.cover_command.specs.Covers.{AttackLacks, AttackSays, CoverLacks, CoverSays, IsCoverRun, IsCoverShown}
-use Rattle.cover_command.specs.Covers.{IsToldCover, IsWonAsTold, TellsOpen, cover_line, covers_command}
+use Rattle.cover_command.specs.Covers.{AttackLacks, AttackSays, CoverLacks, CoverSays, IsCoverRun, IsCoverShown, IsToldCover, IsWonAsTold}
+use Rattle.cover_command.specs.Covers.{TellsOpen, cover_line, covers_command}
 
 -- ---- what is kept of accepted tables
 
@@ -57,8 +55,7 @@ kept-won work shelf [] [] h = tt
 kept-won work shelf [] (file ∷ files) h = absurd h
 kept-won work shelf (name ∷ names) [] h = absurd h
 kept-won work shelf (name ∷ names) (file ∷ files) h =
-    part-won file.root file (parts_of files) h.0.at.lawful.board h.0.fit.accepted h.0.at.moves
-    (kept-won work shelf names files h.1)
+    part-won file.root file (parts_of files) h.0.at.lawful.board h.0.fit.accepted h.0.at.moves (kept-won work shelf names files h.1)
 
 -- ---- what is said of a position
 
@@ -91,8 +88,7 @@ module _ (rule : RuleKind) (parts : List Part) (won : AllByRecursion IsWonPart p
     attack-won (Fouls f) is done said = let other = ap status_number said.0 in absurd (omega (arith, done, other))
     attack-won Draws is done said = let other = ap status_number said.0 in absurd (omega (arith, done, other))
 
-    attack-lacks : (o : Outcome) → status_number status ≡ 9 → AttackSays rule parts b p o status text
-        → AttackLacks rule parts b p o text
+    attack-lacks : (o : Outcome) → status_number status ≡ 9 → AttackSays rule parts b p o status text → AttackLacks rule parts b p o text
     attack-lacks Wins lacks said = let other = ap status_number said.0 in absurd (omega (arith, lacks, other))
     attack-lacks GoesOn lacks said =
         told-open (after b p) (IsBoard-put b (mover b) p ok) 1 (cover_of rule parts (after b p)) refl lacks said
@@ -138,8 +134,7 @@ said-answers attack parts file status text said = by-attack attack said where
 pub cover-answers : (work : ℕ) (attack : Option Point) (names : List (List ℕ)) (run : Run) → IsCoverRun work attack names run
     → (files : List TableFile) → IsUnhinderedShelf (λ shelf. AreTableFiles work (Some shelf) names files) run
     → AnswersTold (of_position (covers_command work attack names files)) run
-cover-answers work attack names run is files free =
-    files-answer (covers_command work attack names)
+cover-answers work attack names run is files free = files-answer (covers_command work attack names)
     (λ fs file status text says. said-answers attack (parts_of fs) file status text says) work names run files free is
 
 -- what statuses 0 and 9 of `cover` show

@@ -32,6 +32,5 @@ kept-few work names shelf parts h are =
 -- what is kept of files and of one more
 pub kept-more : (old new : List Part) (file : TableFile) → new ≡ old ++ parts_of (file ∷ []) → (files : List TableFile)
     → old ≡ parts_of files → new ≡ parts_of (files ++ file ∷ [])
-kept-more old new file added files kept =
-    added ∙ ap (λ (ps : List Part). ps ++ parts_of (file ∷ [])) kept
+kept-more old new file added files kept = added ∙ ap (λ (ps : List Part). ps ++ parts_of (file ∷ [])) kept
     ∙ sym (filter_map-append (λ (f : TableFile). part_by f.root f) files (file ∷ []))
