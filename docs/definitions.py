@@ -51,7 +51,7 @@ def text_of_crate(repository, crate, found):
         if words:
             yield f"\n-- {crate.name}.specs.{module}: {crate.headers[module]}"
         for it in words:
-            yield from ["", f"-- {it.comment}" if it.comment else f"-- {NO_COMMENT}", *it.lines]
+            yield from ["", f"-- {it.comment}" if it.comment else f"-- {NO_COMMENT}", *it.text().splitlines()]
 
 
 def words_of_toolchain(named):

@@ -25,7 +25,7 @@ def of_words(found):
 
 def lines_of(words):
     """How many lines these definitions have."""
-    return sum(len([line for line in it.lines if line.strip()]) for it in words)
+    return sum(len([line for line in it.text().splitlines() if line.strip()]) for it in words)
 
 
 def counts(found):
@@ -76,7 +76,7 @@ def title_of(header):
 
 def in_full(word):
     """A definition: its comment, and its text without what matters to proofs alone."""
-    lines = [FOR_PROOFS.sub(r"    \1", line.rstrip()) for line in word.lines if line.strip()]
+    lines = [FOR_PROOFS.sub(r"    \1", line.rstrip()) for line in word.text().splitlines() if line.strip()]
     return [word.comment or NO_COMMENT, "", *lines, ""]
 
 

@@ -20,7 +20,9 @@ class Unread(Exception):
 
 @dataclass(eq=False)
 class Word:
-    """A definition of specs: its comment, its lines as they stand, and the names that it gives, its constructors included."""
+    """A definition of specs: its comment, its lines, the names that it gives, its constructors included, and what the block of a module
+    that it stands in is given, if it stands in one.
+    """
 
     crate: str
     module: str
@@ -29,9 +31,13 @@ class Word:
     lines: list = field(default_factory=list)
     names: list = field(default_factory=list)
     scope: dict = field(default_factory=dict)
+    given: str = ""
 
     def text(self):
-        return "\n".join(self.lines)
+        """The definition as it stands, with the head of its block."""
+        if not self.given:
+            return "\n".join(self.lines)
+        return "\n".join([f"module _ {self.given} where", *(f"  {line}" for line in self.lines)])
 
 
 @dataclass(eq=False)
@@ -165,11 +171,11 @@ class ModuleReader:
     def __init__(self, crate, module):
         self.crate, self.module = crate, module
         self.words, self.comment, self.header = [], [], ""
-        self.indent, self.has_begun = 0, False
+        self.indent, self.has_begun, self.given = 0, False, ""
 
     def line(self, line):
         if self.indent and line and not line.startswith(" "):
-            self.indent = 0
+            self.indent, self.given = 0, ""
         inner = line[self.indent :]
         if not line.strip():
             return self.drop_comment()
@@ -180,6 +186,11 @@ class ModuleReader:
             return self.use(line)
         if re.fullmatch(r"(?:unfoldable |abbrev )?mutual", line):
             self.indent = 2
+            return None
+        block = re.fullmatch(r"module _ (.+) where", line)
+        if block:
+            self.drop_comment()
+            self.indent, self.given = 2, block.group(1)
             return None
         if inner[0] in " })]":
             return self.add(inner)
@@ -210,7 +221,7 @@ class ModuleReader:
         kind, name = found.groups()
         if self.words and name == self.words[-1].name and not kind:
             return self.add(line)
-        word = Word(self.crate.name, self.module, name, sentence(" ".join(self.comment)), [line], [name])
+        word = Word(self.crate.name, self.module, name, sentence(" ".join(self.comment)), [line], [name], given=self.given)
         self.words.append(word)
         self.comment = []
         return None
@@ -227,7 +238,7 @@ class ModuleReader:
 
 def parts_of(word):
     """The parts of a definition, each with the names that it binds: what stands before the equations, and each equation."""
-    parts, equation = [[word.lines[0]]], re.compile(rf"{re.escape(word.name)}(?: |$)")
+    given, parts, equation = bound_in(word.given), [[f"{word.given} {word.lines[0]}".strip()]], re.compile(rf"{re.escape(word.name)}(?: |$)")
     for line in word.lines[1:]:
         if equation.match(line):
             parts.append([line])
@@ -235,7 +246,7 @@ def parts_of(word):
             parts[-1].append(line)
     for number, part in enumerate(parts):
         text = "\n".join(part)
-        bound = bound_in(text)
+        bound = bound_in(text) | given
         bound.update(re.findall(rf"^\s+(?:pub )?({NAME}) :", text, re.M) if number == 0 else [])
         left = re.split(r"\s=(?:\s|$)", text)[0] if number else ""
         yield text, bound, set(cited_in(left)[1:])
