@@ -1,5 +1,5 @@
 -- The drawing of a session has the board of the brain, line by line.
-use Rattle.std.proofs.Common.{◌≡◌, ◌≢◌, ℕ, Bool, true, false, cond, not, ◌==◌, List, [], ◌∷◌, ◌++◌, refl, sym, ap, subst, ◌∙◌, arith}
+use Rattle.std.proofs.Common.{◌≡◌, ◌≢◌, ℕ, Bool, true, false, cond, ◌==◌, List, [], ◌∷◌, ◌++◌, refl, sym, ap, subst, ◌∙◌, arith}
 use Rattle.std.proofs.Common.{Option, Some, None, IfSome, fold, option_map, rules}
 use Rattle.std.proofs.lemmas.Option.{same_Some}
 use Rattle.brain_session.proofs.Common.{Grid, IsBoard, is_same_point, mover, outcome, RuleKind, Side, White, Outcome, Point, Command, Start}

@@ -1,5 +1,5 @@
 -- A game in which something is followed, a held node or a win of the brain's own: what each later command does to it.
-use Rattle.std.proofs.Common.{◌≡◌, ℕ, suc, ◌<◌, Bool, true, false, cond, List, [], ◌∷◌, refl, sym, ap, subst, ◌∙◌, not, Option, Some, None}
+use Rattle.std.proofs.Common.{◌≡◌, ℕ, suc, ◌<◌, Bool, true, false, cond, List, [], ◌∷◌, refl, sym, ap, subst, ◌∙◌, Option, Some, None}
 use Rattle.std.proofs.Common.{is_some, rules}
 use Rattle.brain_session.proofs.Common.{Grid, is_empty, outcome, after, IsPosition, mover, other, WinsOr, LosesOr, RuleKind, Foul, Outcome}
 use Rattle.brain_session.proofs.Common.{Refused, Fouls, Draws, GoesOn, Point, Side, one_later, HeldTable, Answer, Move, Error, ErrorText}

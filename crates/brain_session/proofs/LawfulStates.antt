@@ -1,6 +1,6 @@
 -- What is true of the brain's state whatever it was told, as far as held games need it: the moves of a game that is not ended
 -- went on from a lawful position, and those of an ended one did so up to the last.
-use Rattle.std.proofs.Common.{◌≡◌, ℕ, Bool, true, false, not, List, [], ◌∷◌, refl, sym, ap, subst, ◌∙◌, IfSome, ◌≢◌, Option, Some, leb-true}
+use Rattle.std.proofs.Common.{◌≡◌, ℕ, Bool, true, false, List, [], ◌∷◌, refl, sym, ap, subst, ◌∙◌, IfSome, ◌≢◌, Option, Some, leb-true}
 use Rattle.std.proofs.Common.{rules}
 use Rattle.brain_session.proofs.Common.{Grid, IsBoard, is_on, put, IsPosition, outcome, mover, other, RuleKind, Side, White, Point}
 use Rattle.brain_session.proofs.Common.{HeldTable, Command, Reaction, BatchStone, Game, board_of, empty_board, new_game, Place, NoBoard}

@@ -31,6 +31,7 @@ mod BatchRoom
 -- what a session says and where it stands, command by command; how a session over devices goes on and ends
 pub mod SessionLaws
 mod Serving
+mod Turns
 -- games in which something is followed, whatever it is: each later command
 pub mod FollowedGames
 -- held games go well, each legal reply in one is answered, and whoever answers by an accepted table wins

@@ -1,7 +1,7 @@
 -- What a session has read, said and become when it comes to its next line, and how it may end there.
 use Rattle.std.proofs.Common.{◌≡◌, ◌≢◌, ◌<◌, ◌≤◌, ◌+◌, Bool, true, false, cond, List, [], ◌∷◌, ◌++◌, length, take, refl, sym, ap, subst}
-use Rattle.std.proofs.Common.{◌∙◌, append_assoc, add_comm, arith, length-append, Option, Some, None, ◌⊎◌, inl, inr, ℕ, IfSome}
-use Rattle.std.proofs.Common.{option_to_list, rules}
+use Rattle.std.proofs.Common.{◌∙◌, append_assoc, add_comm, arith, length-append, Option, ◌⊎◌, inl, inr, ℕ, IfSome}
+use Rattle.std.proofs.Common.{rules}
 use Rattle.std.specs.Io.KnownBytes.{IsAtEnd}
 use Rattle.std.proofs.lemmas.List.{append-nil, map-append}
 use Rattle.std.proofs.Math.Seq.{take-append_seam}
@@ -85,18 +85,18 @@ SoFar-begun s left output reader fresh = subst (λ (x : ReaderState). SoFar (rec
 
 -- ---- what was read
 
--- one more line is read, where a call tells what may be a command
-pub Asked-told : (r : Reading) (v : Served) (told : Option Command) (c : Command) (next : ReaderState) (left : Option (List ℕ))
-    → SoFar r v → told ≡ Some c → (r.reader.ended ≡ true → told ≡ None) → TakesCommands r.reader r.left (option_to_list told) next left
-    → next.taken ≤ MAX_SESSION_BYTES → (KnowsEnd r.reader r.left → KnowsEnd next left) → Asked (read_on r next left) v c
-Asked-told r v told c next left so_far is asks took few knows =
-    let one = one_line c took.lines (ap option_to_list (sym is) ∙ took.are) in
+-- one more line is read, where a call tells its command
+pub Asked-told : (r : Reading) (v : Served) (c : Command) (next : ReaderState) (left : Option (List ℕ)) → SoFar r v → r.reader.ended ≢ true
+    → TakesCommands r.reader r.left (c ∷ []) next left → next.taken ≤ MAX_SESSION_BYTES
+    → (KnowsEnd r.reader r.left → KnowsEnd next left) → Asked (read_on r next left) v c
+Asked-told r v c next left so_far reading took few knows =
+    let one = one_line c took.lines took.are in
     record {
       told = so_far.told;
       line = one.0;
       is = one.2;
       read = record {
-        takes = told_then r so_far.told so_far.read (open_tells r so_far.told so_far.read (λ e. let none = asks e in cc))
+        takes = told_then r so_far.told so_far.read (open_tells r so_far.told so_far.read reading)
             (one.0 ∷ []) next left (subst (λ (ls : List LineText). TakesLines r.reader r.left ls next left) one.1 took.takes);
         few = few;
         knows = knows so_far.read.knows;
@@ -144,16 +144,15 @@ pub record AskedInTurn (r : Reading) (v : Served) (c : Command) (last : Option �
   pub line : Asked r v c
   pub reads : ReadsAfterAnswers (asked line.told) r.left_before r.left last
 
-pub AskedInTurn-told : (r : Reading) (v : Served) (told : Option Command) (c : Command) (next : ReaderState) (left : Option (List ℕ))
-    (last last_next : Option ℕ) (so_far : SoFar r v) → told ≡ Some c → (r.reader.ended ≡ true → told ≡ None)
-    → TakesCommands r.reader r.left (option_to_list told) next left → next.taken ≤ MAX_SESSION_BYTES
-    → (KnowsEnd r.reader r.left → KnowsEnd next left) → ReadsInTurn r (asked so_far.told) last
+pub AskedInTurn-told : (r : Reading) (v : Served) (c : Command) (next : ReaderState) (left : Option (List ℕ))
+    (last last_next : Option ℕ) (so_far : SoFar r v) → r.reader.ended ≢ true → TakesCommands r.reader r.left (c ∷ []) next left
+    → next.taken ≤ MAX_SESSION_BYTES → (KnowsEnd r.reader r.left → KnowsEnd next left) → ReadsInTurn r (asked so_far.told) last
     → ReadsNoFurther r.reader next r.left left last last_next
     → r.reader.taken + length next.kept < next.taken + length r.reader.kept → AskedInTurn (read_on r next left) v c last_next
 unfolding Asked-told
-AskedInTurn-told r v told c next left last last_next so_far is asks took few knows turn further grows = record {
-  line = Asked-told r v told c next left so_far is asks took few knows;
-  reads = reads_told r v so_far next left last last_next turn further (λ e. let none = asks e in cc) grows;
+AskedInTurn-told r v c next left last last_next so_far reading took few knows turn further grows = record {
+  line = Asked-told r v c next left so_far reading took few knows;
+  reads = reads_told r v so_far next left last last_next turn further reading grows;
 }
 
 -- and it is answered
@@ -177,6 +176,11 @@ wrote_one r goes_on old new is = search (rules, writes_none, writes_one)
 
 goes_on_from : (r : Reaction) (old new : Output) → IsWritten r true old new → r ≢ Ends
 goes_on_from r old new is = search rules
+
+-- a command after which the session goes on is not END
+pub goes_on : (s t : State) (c : Command) (old new : Output) → IsAnswered s c true t old new → c ≢ End
+goes_on s t c old new answered is =
+    goes_on_from (brain_step s c).reaction old new answered.wrote (ap (λ d. (brain_step s d).reaction) is ∙ end_ends s)
 
 -- END says nothing
 wrote_end : (r : Reaction) (old new : Output) → r ≡ Ends → IsWritten r false old new → new ≡ old
@@ -204,12 +208,11 @@ pub SoFar-answered : (r : Reading) (v : Served) (c : Command) (next : State) (wr
 SoFar-answered r v c next written so_far answered =
     let all : asked (so_far.told ++ (so_far.line ∷ [])) ≡ asked so_far.told ++ (c ∷ []) =
     map-append command_told so_far.told (so_far.line ∷ []) ∙ ap (λ d. asked so_far.told ++ (d ∷ [])) so_far.is in
-    let goes_on : c ≢ End = λ is. goes_on_from (brain_step v.after c).reaction v.output_after written answered.wrote
-    (ap (λ d. (brain_step v.after d).reaction) is ∙ end_ends v.after) in
     record {
       told = so_far.told ++ (so_far.line ∷ []);
       read = so_far.read;
-      no_end = subst HasNoEnd (sym all) (HasNoEnd-push (asked so_far.told) c so_far.no_end goes_on);
+      no_end = subst HasNoEnd (sym all) (HasNoEnd-push (asked so_far.told) c so_far.no_end
+          (goes_on v.after next c v.output_after written answered));
       answered = subst (HasAnswered (served_on v next written)) (sym all)
           (answered_then v (asked so_far.told) so_far.no_end so_far.answered next (c ∷ []) written
           (answered.state ∙ sym (state-one v.after c))

@@ -10,6 +10,7 @@ pub mod OwnGames
 pub mod RootGames
 pub mod Memory
 pub mod Serving
+pub mod Turns
 pub mod Kept
 pub mod Nearer
 pub mod Drawings

@@ -19,7 +19,7 @@ use std::marker::Model;
 use stone_board::Board;
 
 /// A stone of a batch: where it stands, and whether it is the brain's own.
-#[derive(Clone, Copy, Debug, PartialEq, Eq)]
+#[derive(Clone, Copy)]
 pub struct BatchStone {
     pub at: Point,
     pub own: bool,

@@ -2,19 +2,16 @@
 //! read.
 #![tactic(auto)]
 
-ghost use Rattle.brain_session.specs.Memory.{takes_none};
-ghost use Rattle.renju_io.specs.LineReads.{ReadsNoFurther};
-ghost use Rattle.renju_io.specs.Lines.{KeepsLine, KnowsEnd, TakesTooMany, reads_for, told_lines};
-ghost use Rattle.renju_io.specs.declared.TheConstants.{MAX_SESSION_BYTES};
-ghost use Rattle.std.specs.Io.KnownBytes.{IsAtEnd};
-ghost use Rattle.std.specs.Option.{option_to_list};
-ghost use Rattle.std.specs.Prelude.{◌≡◌, ◌≢◌, ◌+◌, ◌<◌, ◌≤◌, ◌⊎◌, IfErr, IfSome, IsErrOf, IsSome, OnOk, [], false, true, length, Ok, Err, None, IfOk};
-ghost use Rattle.std.specs.Prelude.{◌↔◌, map};
-ghost use Rattle.renju_io.specs.Asked.{GivesByEach, IsAskedAtMost, IsAskedWithin, IsNotAsked};
-ghost use Rattle.renju_io.specs.Faults.{HasRisen, HasStayed, HasNotFallen};
-ghost use Rattle.renju_io.specs.Told.{CutAfter, FailsAfter, GivesSome};
+ghost use Rattle.brain_session.specs.Serving.{HasAnswered, IsReadToEnd, StopsAtRead, StopsAtStep, StopsAtWrite, StopsInTurn, IsTooLong, within_limit, output_of, served};
+ghost use Rattle.brain_session.specs.Turns.{AnswersCommand, GoesOn, ReadsCommand};
 ghost use Rattle.gomocup_text.specs.Commands.{command_told, commands};
-ghost use Rattle.brain_session.specs.Serving.{HasAnswered, IsReadToEnd, StopsAtRead, StopsAtStep, StopsAtWrite, StopsInTurn, IsTooLong, within_limit, IsAnswered, IsHalfAnswered, TakesCommands, output_of, served};
+ghost use Rattle.renju_io.specs.Asked.{GivesByEach, IsAskedAtMost, IsNotAsked};
+ghost use Rattle.renju_io.specs.Faults.{HasRisen, HasStayed, HasNotFallen};
+ghost use Rattle.renju_io.specs.Lines.{told_lines};
+ghost use Rattle.renju_io.specs.Told.{CutAfter, FailsAfter, GivesSome};
+ghost use Rattle.renju_io.specs.declared.TheConstants.{MAX_SESSION_BYTES};
+ghost use Rattle.std.specs.Option.{option_to_list};
+ghost use Rattle.std.specs.Prelude.{◌≡◌, ◌≢◌, ◌+◌, ◌⊎◌, ◌↔◌, Bool, IfSome, IsErrOf, IsOk, OnOk, Ok, Err, None, Result, map};
 
 use crate::{Brain, Reaction};
 use gomocup_text::{Command, read_command, write_answer};
@@ -86,12 +83,44 @@ pub fn serve<S: Source, O: Sink>(
     let Ok(mut lines) = LineReader::new(alloc) else {
         return Err(ServeError::Memory);
     };
-    while let Some(command) = next_command(&mut lines, source)? {
-        if !answer(alloc, brain, &command, sink)? {
-            return Ok(());
-        }
+    let mut next = next_command(&mut lines, source);
+    while let Ok(Some(command)) = next {
+        next = turn(alloc, brain, &command, &mut lines, source, sink);
     }
-    Ok(())
+    ended(next)
+}
+
+/// How a session ends where no command is left, or with this error.
+fn ended(next: Result<Option<Command>, ServeError>) -> Result<(), ServeError>
+    ensures ok { IsOk result ↔ IsOk next }
+    ensures failed { (e : ServeError) → IsErrOf result e ↔ IsErrOf next e }
+{
+    match next {
+        Ok(_) => Ok(()),
+        Err(error) => Err(error),
+    }
+}
+
+/// One turn: the command is stepped and its answer written, and then the next command is read, unless the session ends.
+fn turn<S: Source, O: Sink>(
+    alloc: Global,
+    brain: &mut Brain,
+    command: &Command,
+    lines: &mut LineReader,
+    source: &mut S,
+    sink: &mut O,
+) -> Result<Option<Command>, ServeError>
+    ensures turned { (answered : Result Bool ServeError)
+        × AnswersCommand O.written O.faults O.asked answered command.now brain.old sink.old brain.new sink.new
+        × GoesOn S.left S.last S.faults S.asked answered result lines.old source.old lines.new source.new }
+    ensures in_turn { (command.now ≡ Command.End) ⊎ IsErrOf result ServeError.WriteFailed ⊎ IsErrOf result ServeError.Memory →
+        source.new ≡ source.old }
+{
+    match answer(alloc, brain, command, sink) {
+        Ok(true) => next_command(lines, source),
+        Ok(false) => Ok(None),
+        Err(error) => Err(error),
+    }
 }
 
 /// The command of the next line, or none at the end of input.
@@ -99,29 +128,12 @@ fn next_command<S: Source>(
     lines: &mut LineReader,
     source: &mut S,
 ) -> Result<Option<Command>, ServeError>
-    ensures told { IfOk result (λ c. TakesCommands lines.old (S.left source.old) (option_to_list c) lines.new (S.left source.new)) }
-    ensures advances { IfOk result (λ c. IsSome c →
-        lines.old.taken + length lines.new.kept < lines.new.taken + length lines.old.kept) }
-    ensures limit { OnOk result (lines.new.taken ≤ MAX_SESSION_BYTES) }
-    ensures end { result ≡ Ok None → (lines.new ≡ record lines.old { ended = true }) × (lines.old.kept ≡ [])
-        × (KnowsEnd lines.old (S.left source.old) → IsAtEnd (S.left source.new)) }
-    ensures knows_end { KnowsEnd lines.old (S.left source.old) → KnowsEnd lines.new (S.left source.new) }
-    ensures asks_no_more { lines.old.ended ≡ true →
-        (result ≡ Ok None) × (lines.new ≡ lines.old) × (source.new ≡ source.old) }
-    ensures failed { IsErrOf result ServeError.ReadFailed → FailsAfter S.left S.faults source.old source.new }
-    ensures stays { IsErrOf result ServeError.ReadFailed → KeepsLine lines.old (S.left source.old) lines.new (S.left source.new) }
-    ensures past { IsErrOf result ServeError.Exhausted → TakesTooMany lines.old (S.left source.old) lines.new (S.left source.new) }
-    ensures no_other { IfErr result (λ e. (e ≡ ServeError.ReadFailed) ⊎ (e ≡ ServeError.Exhausted)) }
-    ensures uncounted { result ≢ Err ServeError.ReadFailed → HasStayed (S.faults source.old) (S.faults source.new) }
-    ensures counted { HasNotFallen (S.faults source.old) (S.faults source.new) }
-    ensures no_further { OnOk result (ReadsNoFurther lines.old lines.new (S.left source.old) (S.left source.new) (S.last source.old) (S.last source.new)) }
-    ensures few_reads { OnOk result (IsAskedWithin (reads_for lines.old) (reads_for lines.new) (S.asked source.old) (S.asked source.new)) }
-    ensures few_past { IsErrOf result ServeError.Exhausted → IsAskedWithin (reads_for lines.old) lines.new.taken (S.asked source.old) (S.asked source.new) }
-    ensures few_failed { IsErrOf result ServeError.ReadFailed → IsAskedWithin (reads_for lines.old) (lines.new.taken + 1) (S.asked source.old) (S.asked source.new) }
+    ensures read { ReadsCommand S.left S.last S.faults S.asked result lines.old source.old lines.new source.new }
 {
     match lines.next(source) {
         Ok(line) => Ok(command_of_line(line, lines.text())),
-        Err(error) => Err(unread(error)),
+        Err(ReadError::Failed) => Err(ServeError::ReadFailed),
+        Err(ReadError::Exhausted) => Err(ServeError::Exhausted),
     }
 }
 
@@ -137,18 +149,6 @@ fn command_of_line(line: Line, text: &[u8]) -> Option<Command>
     }
 }
 
-/// Why a session ends where no line was read.
-fn unread(error: ReadError) -> ServeError
-    ensures failed { result ≡ ServeError.ReadFailed ↔ error ≡ ReadError.Failed }
-    ensures exhausted { result ≡ ServeError.Exhausted ↔ error ≡ ReadError.Exhausted }
-    ensures no_other { (result ≡ ServeError.ReadFailed) ⊎ (result ≡ ServeError.Exhausted) }
-{
-    match error {
-        ReadError::Failed => ServeError::ReadFailed,
-        ReadError::Exhausted => ServeError::Exhausted,
-    }
-}
-
 /// Steps the command and writes the answer, if there is one, and answers whether the session goes on.
 fn answer<O: Sink>(
     alloc: Global,
@@ -156,19 +156,7 @@ fn answer<O: Sink>(
     command: &Command,
     sink: &mut O,
 ) -> Result<bool, ServeError>
-    ensures ends { result ≡ Ok false → command.now ≡ Command.End }
-    ensures stepped { IfOk result (λ goes_on. IsAnswered brain.old command.now goes_on brain.new
-        (output_of O.written O.asked sink.old) (output_of O.written O.asked sink.new)) }
-    ensures write_failed { IsErrOf result ServeError.WriteFailed → IsHalfAnswered brain.old command.now brain.new
-        (output_of O.written O.asked sink.old) (output_of O.written O.asked sink.new) }
-    ensures memory { IsErrOf result ServeError.Memory
-        → (takes_none brain.old command.now ≡ false) × (brain.new ≡ brain.old)
-        × (output_of O.written O.asked sink.new ≡ output_of O.written O.asked sink.old) }
-    ensures no_other { IfErr result (λ e. (e ≡ ServeError.WriteFailed) ⊎ (e ≡ ServeError.Memory)) }
-    ensures written_last { IsErrOf result ServeError.WriteFailed → CutAfter O.written O.faults sink.old sink.new }
-    ensures sink_failed { IsErrOf result ServeError.WriteFailed → HasRisen (O.faults sink.old) (O.faults sink.new) }
-    ensures sink_uncounted { result ≢ Err ServeError.WriteFailed → HasStayed (O.faults sink.old) (O.faults sink.new) }
-    ensures sink_counted { HasNotFallen (O.faults sink.old) (O.faults sink.new) }
+    ensures answered { AnswersCommand O.written O.faults O.asked result command.now brain.old sink.old brain.new sink.new }
 {
     match brain.step(command) {
         Ok(Reaction::Silent) => Ok(true),
