@@ -59,25 +59,13 @@ pub fn quiet_search<R: Rule>(
     Ok(told(compiler, ended))
 }
 
-/// What the last round says.
+/// What the last round says: its node, if it is one of the compiler.
 fn told(compiler: &Compiler, ended: Ended) -> Option<u32>
     ensures node { IfSome result (λ i. i < length compiler.now) }
 {
     match ended {
-        Ended::Proved(win) => within(compiler, win),
-        Ended::Disproved | Ended::Spent => None,
-    }
-}
-
-/// The node, if it is one of the compiler.
-fn within(compiler: &Compiler, win: Option<u32>) -> Option<u32>
-    ensures node { IfSome result (λ i. i < length compiler.now) }
-{
-    let node = win?;
-    if node < compiler.len() {
-        Some(node)
-    } else {
-        None
+        Ended::Proved(Some(node)) if node < compiler.len() => Some(node),
+        _ => None,
     }
 }
 
