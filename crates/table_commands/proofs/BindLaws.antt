@@ -1,5 +1,6 @@
 -- The command `bind`: how far its files are bound, its answers, and what its runs show.
 use Rattle.std.proofs.Common.{◌≡◌, ◌⊎◌, inl, inr, refl, ap, ◌∙◌, ℕ, ◌<◌, List, [], ◌∷◌, ◌++◌, length, arith, Option, Some, IfSome, rules}
+use Rattle.std.proofs.Common.{Result, Ok, Err, IfOk}
 use Rattle.strategy_graph.specs.declared.TheConstants.{MAX_NODES}
 use Rattle.strategy_compiler.proofs.Common.{HoldMore}
 use Rattle.table_commands.proofs.Common.{BRAIN_WORK, TableFile, Files, Book, Status, Done, status_number, Run, IsTableFile, AreNames}
@@ -65,19 +66,24 @@ module _ (names : List (List ℕ)) (shelf : Change (Option Files)) (binder : Boo
         omega (arith, count, size, some)
 
     -- all files are bound
-    pub says-book : (book : Book) (text : List ℕ) → book ≡ binder → IsWellFormed book → IsTextOfBook book text
-        → BindSays names shelf Done text
-    says-book book text same well told = inl (record {
+    says-book : {text : List ℕ} → IsWellFormed binder → IsTextOfBook binder text → BindSays names shelf Done text
+    says-book well told = inl (record {
       files = all.files;
       accepted = all.accepted;
       few = bound-few all.files binder all.kept;
       sound = all.sound;
-      book = book;
+      book = binder;
       well_formed = well;
-      bound = rw same all.kept;
+      bound = all.kept;
       ends = refl;
       told = told;
     })
+
+    -- and so is the book that was written of them
+    pub says-written : {E : Type 0} (r : Result Answer E) → IfOk r (λ answer. answer.status ≡ Done) → IfOk r (λ _. IsWellFormed binder)
+        → IfOk r (λ answer. IsTextOfBook binder answer.text) → IfOk r (λ answer. BindSays names shelf answer.status answer.text)
+    says-written (Ok answer) ends well told = rw ends (says-book well told)
+    says-written (Err e) ends well told = tt
 
 -- ---- answers
 

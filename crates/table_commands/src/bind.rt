@@ -4,11 +4,12 @@
 //! written. The earliest file that cannot be added decides what is told, and the input is not asked.
 #![tactic(auto)]
 
-ghost use Rattle.std.specs.Prelude.{◌≡◌, ◌≢◌, ◌↔◌, ℕ, List, Option, length, map, IfOk, IsTrue, OnErr, string_bytes};
+ghost use Rattle.std.specs.Prelude.{◌≡◌, ◌≢◌, ◌↔◌, ◌<◌, ℕ, List, Option, length, map, IfOk, IsTrue, OnErr, string_bytes};
 ghost use Rattle.renju_io.specs.Asked.{IsAskedAtMost};
 ghost use Rattle.renju_io.specs.Faults.{HasNotFallen, HasStayed};
 ghost use Rattle.command_base.specs.Statuses.{status_number};
 ghost use Rattle.command_base.specs.Runs.{Change, IsUnasked, change, program_run};
+ghost use Rattle.table_book.specs.Books.{IsTextOfBook, IsWellFormed};
 ghost use Rattle.table_commands.specs.Binds.{AreNames, BindSays, IsBind};
 
 use crate::MAX_FILES;
@@ -98,11 +99,19 @@ fn bind_files<F: Shelf>(
         binder: Binder::new(alloc),
     };
     match load_files(alloc, names, BRAIN_WORK, &mut binding, shelf)? {
-        None => {
-            let Binding { binder } = binding;
-            let book = binder.finish()?;
-            Ok(Answer::written(Status::Done, write_book(alloc, &book)?))
-        }
+        None => book_of(alloc, binding),
         Some(told) => Ok(told),
     }
+}
+
+/// The book of the files that were bound, written.
+fn book_of(alloc: Global, binding: Binding) -> Result<Answer, AllocError>
+    requires some { 0 < length binding.binder.entries }
+    ensures status { IfOk result (λ answer. answer.status ≡ Status.Done) }
+    ensures well_formed { IfOk result (λ _. IsWellFormed binding.binder) }
+    ensures text { IfOk result (λ answer. IsTextOfBook binding.binder answer.text) }
+{
+    let Binding { binder } = binding;
+    let book = binder.finish()?;
+    Ok(Answer::written(Status::Done, write_book(alloc, &book)?))
 }
