@@ -11,6 +11,7 @@ use proof_number::{ProofAnswer, proof_number};
 use proof_tree::ProofTree;
 use row_shapes::{FivePoints, Freestyle, Rule};
 use std::alloc::Global;
+use std::process::Abort;
 use stone_board::{Board, Point, Side};
 use strategy_compiler::Compiler;
 use test_boards::position_of;
@@ -73,16 +74,26 @@ const CLOSED_THREES: (&str, &str) = (
 
 const COUNTED: u64 = 351_370;
 
-/// How many moves a search of fours plays that finds no win and counts that many positions.
-fn played_by_fours(alloc: Global, memory: &mut FourMemory<Freestyle>) -> Option<u64> {
-    let position = position_of::<Freestyle>(alloc, CLOSED_THREES.0, CLOSED_THREES.1)?;
-    let mut view = Counting { position, plays: 0 };
-    let found = fours_of(alloc, &mut view, memory, &mut Compiler::new(alloc));
-    if found == Some(FourAnswer::None) {
-        Some(view.plays)
-    } else {
-        None
+/// A view of the position with these stones.
+fn counting_view(rt: &(impl Abort + AllocGlobal), stones: (&str, &str)) -> Counting<Freestyle> {
+    let position = position_of::<Freestyle>(rt.alloc(), stones.0, stones.1);
+    Counting {
+        position: position.expect(rt, "a position"),
+        plays: 0,
     }
+}
+
+/// How many moves a search of fours plays that finds no win and counts that many positions.
+fn played_by_fours(rt: &(impl Abort + AllocGlobal), memory: &mut FourMemory<Freestyle>) -> u64 {
+    let mut view = counting_view(rt, CLOSED_THREES);
+    let found = fours_of(
+        rt.alloc(),
+        &mut view,
+        memory,
+        &mut Compiler::new(rt.alloc()),
+    );
+    same(rt, found, Some(FourAnswer::None));
+    view.plays
 }
 
 /// What the search of fours answers.
@@ -102,9 +113,9 @@ fn fours_of(
 #[test]
 fn a_search_of_fours_remembers_positions(rt: HostRuntime) {
     let mut memory = FourMemory::new(rt.alloc());
-    let first = played_by_fours(rt.alloc(), &mut memory).expect(&rt, "no win");
+    let first = played_by_fours(&rt, &mut memory);
     same(&rt, first < COUNTED / 4, true);
-    let second = played_by_fours(rt.alloc(), &mut memory).expect(&rt, "no win");
+    let second = played_by_fours(&rt, &mut memory);
     same(&rt, second < first, true);
 }
 
@@ -116,26 +127,26 @@ const FIVE_THREES: (&str, &str) = (
 );
 
 /// How many moves a search by threats plays that finds no win.
-fn played_by_threats(alloc: Global) -> Option<u64> {
-    let position = position_of::<Freestyle>(alloc, FIVE_THREES.0, FIVE_THREES.1)?;
-    let mut view = Counting { position, plays: 0 };
-    let found = threats_of(alloc, &mut view, &mut Compiler::new(alloc));
-    if found == Some(ProofAnswer::None) {
-        Some(view.plays)
-    } else {
-        None
-    }
+fn played_by_threats(rt: &(impl Abort + AllocGlobal)) -> u64 {
+    let mut view = counting_view(rt, FIVE_THREES);
+    same(rt, threats_of(rt, &mut view), Some(ProofAnswer::None));
+    view.plays
 }
 
 /// What the search by threats answers.
 fn threats_of(
-    alloc: Global,
+    rt: &(impl Abort + AllocGlobal),
     view: &mut Counting<Freestyle>,
-    compiler: &mut Compiler,
 ) -> Option<ProofAnswer> {
-    let mut tree = ProofTree::new(alloc).ok()?;
+    let mut tree = ProofTree::new(rt.alloc()).expect(rt, "a tree");
+    let mut compiler = Compiler::new(rt.alloc());
     proof_number::<Freestyle, Counting<Freestyle>>(
-        alloc, view, 6, 10_000_000, &mut tree, compiler,
+        rt.alloc(),
+        view,
+        6,
+        10_000_000,
+        &mut tree,
+        &mut compiler,
     ).ok()
 }
 
@@ -143,6 +154,6 @@ fn threats_of(
 /// positions from the first one, by 2 k moves: 56,980 in all.
 #[test]
 fn a_search_by_threats_remembers_positions(rt: HostRuntime) {
-    let played = played_by_threats(rt.alloc()).expect(&rt, "no win");
+    let played = played_by_threats(&rt);
     same(&rt, played < 56_980 / 2, true);
 }

@@ -8,9 +8,9 @@ use foul_judge::{Outcome, Seen};
 use four_search::{FourAnswer, four_search};
 use line_tables::LineTables;
 use row_shapes::{ExactFive, Freestyle, Renju, Rule};
-use std::alloc::{AllocError, Global};
+use std::alloc::Global;
 use std::process::Abort;
-use stone_board::{Point, Side};
+use stone_board::{Point, Points, Side};
 use strategy_compiler::Compiler;
 use test_boards::position_of;
 
@@ -35,17 +35,13 @@ impl Draws {
         (self.number >> 33) as u32
     }
 
-    /// The points that the draws of a position name.
-    fn points(&mut self, alloc: Global) -> Result<Vec<Point>, AllocError> {
-        let mut points = Vec::new(alloc);
-        for _ in 0..120 {
-            let k = self.draw() % 81;
-            points.push(Point {
-                x: (3 + k % 9) as u8,
-                y: (3 + k / 9) as u8,
-            })?;
+    /// The point that a draw names.
+    fn point(&mut self) -> Point {
+        let k = self.draw() % 81;
+        Point {
+            x: (3 + k % 9) as u8,
+            y: (3 + k / 9) as u8,
         }
-        Ok(points)
     }
 }
 
@@ -73,16 +69,17 @@ fn play<R: Rule, V: Seen<R>>(view: &mut V, p: Point) -> bool {
     }
 }
 
-/// Plays each of the points that can be played, and notes it.
+/// Plays each of the points of a position that can be played, and notes it.
 fn play_each<R: Rule>(
     rt: &impl Abort,
     tables: &mut LineTables<R>,
-    points: &[Point],
-    played: &mut Vec<Point>,
+    draws: &mut Draws,
+    played: &mut Points,
 ) {
-    for p in points {
-        if play::<R, LineTables<R>>(tables, *p) {
-            played.push(*p).expect(rt, "memory");
+    for _ in 0..120 {
+        let p = draws.point();
+        if play::<R, LineTables<R>>(tables, p) {
+            played.push(p).expect(rt, "memory");
             compare::<R>(rt, tables);
         }
     }
@@ -96,36 +93,36 @@ fn take_back<R: Rule>(rt: &impl Abort, tables: &mut LineTables<R>, played: &[Poi
     }
 }
 
-/// Plays the points over these tables and takes them back, so that the tables are as before. Tells whether the position that they
-/// lead to is won.
+/// Plays the points of a position over these tables and takes them back, so that the tables are as before. Tells whether the position
+/// is won.
 fn play_and_take_back<R: Rule>(
     rt: &(impl Abort + AllocGlobal),
     tables: &mut LineTables<R>,
-    points: &[Point],
+    draws: &mut Draws,
 ) -> bool {
-    let mut played = Vec::new(rt.alloc());
-    play_each::<R>(rt, tables, points, &mut played);
+    let mut played = Points::new(rt.alloc());
+    play_each::<R>(rt, tables, draws, &mut played);
     let is_won = is_won::<R>(rt.alloc(), tables).expect(rt, "an answer");
     take_back::<R>(rt, tables, played.as_slice());
     is_won
 }
 
 /// The same from the empty board on.
-fn replay<R: Rule>(rt: &(impl Abort + AllocGlobal), points: &[Point]) -> bool {
+fn replay<R: Rule>(rt: &(impl Abort + AllocGlobal), draws: &mut Draws) -> bool {
     let position = position_of::<R>(rt.alloc(), "", "").expect(rt, "a position");
     let tables = LineTables::<R>::new(rt.alloc(), &position);
     let mut tables = tables.expect(rt, "tables");
-    let is_won = play_and_take_back::<R>(rt, &mut tables, points);
+    let is_won = play_and_take_back::<R>(rt, &mut tables, draws);
     same(rt, tables.board().same(position.board()), true);
     is_won
 }
 
-/// Replays the points under the rule whose turn it is.
-fn replay_in_turn(rt: &(impl Abort + AllocGlobal), turn: usize, points: &[Point]) -> bool {
+/// Replays the next position under the rule whose turn it is.
+fn replay_in_turn(rt: &(impl Abort + AllocGlobal), turn: usize, draws: &mut Draws) -> bool {
     match turn % 3 {
-        0 => replay::<Freestyle>(rt, points),
-        1 => replay::<ExactFive>(rt, points),
-        _ => replay::<Renju>(rt, points),
+        0 => replay::<Freestyle>(rt, draws),
+        1 => replay::<ExactFive>(rt, draws),
+        _ => replay::<Renju>(rt, draws),
     }
 }
 
@@ -134,8 +131,7 @@ fn line_tables_follow_the_positions_of_a_drill(rt: HostRuntime) {
     let mut draws = Draws { number: 0 };
     let mut wins: u32 = 0;
     for (i, replies) in REPLIES.as_bytes().iter().enumerate() {
-        let points = draws.points(rt.alloc()).expect(&rt, "memory");
-        if replay_in_turn(&rt, i, points.as_slice()) {
+        if replay_in_turn(&rt, i, &mut draws) {
             wins = wins.saturating_add(1);
         }
         if *replies == b'1' {

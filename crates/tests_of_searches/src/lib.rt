@@ -7,8 +7,6 @@
 #![tactic(auto)]
 
 #[cfg(test)]
-mod answers;
-#[cfg(test)]
 mod compared;
 #[cfg(test)]
 mod counting;

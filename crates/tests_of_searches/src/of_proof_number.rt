@@ -1,151 +1,184 @@
 //! Searches on worked positions, and what the tree shows after them.
 
-ghost use Rattle.std.specs.Prelude.{◌≤◌};
-ghost use Rattle.proof_number.specs.declared.TheConstants.{MAX_DEPTH, MAX_BUDGET};
-
 use crate::compared::same;
 use foul_judge::Position;
-use proof_number::{ProofAnswer, proof_number};
+use proof_number::{MAX_BUDGET, MAX_DEPTH, ProofAnswer, proof_number};
 use proof_tree::{INFINITE, Numbers, ProofTree};
-use row_shapes::{Freestyle, Renju, Rule};
-use std::alloc::Global;
+use row_shapes::{Rule, RuleKind, under_rule};
+use std::process::Abort;
 use strategy_compiler::Compiler;
 use test_boards::position_of;
+
+/// A search of a position: its moves and its budget; the moves of its win, or that there is none, and nothing where the budget is
+/// spent; and how many nodes its tree has then at least and at most.
+struct Case {
+    name: &'static str,
+    rule: RuleKind,
+    black: &'static str,
+    white: &'static str,
+    depth: u32,
+    budget: u64,
+    moves: Option<Option<u32>>,
+    least: u32,
+    most: u32,
+}
 
 /// The four stones round a point that make a three on two axes: the three in the middle wins within three moves.
 const CROSS: &str = "7,6 6,7 8,7 7,8";
 
 const CORNERS: &str = "0,0 14,0 0,14 14,14";
 
-/// What a search answers, in numbers: the moves of a win, 0 where there is none, and 100 where the budget is spent.
-fn moves_of(answer: &ProofAnswer) -> u32 {
+static CASES: [Case; 7] = [
+    Case {
+        name: "two moves do not win by a quiet three",
+        rule: RuleKind::Freestyle,
+        black: CROSS,
+        white: CORNERS,
+        depth: 2,
+        budget: 50_000,
+        moves: Some(None),
+        least: 2,
+        most: u32::MAX,
+    },
+    Case {
+        name: "three moves win by a quiet three",
+        rule: RuleKind::Freestyle,
+        black: CROSS,
+        white: CORNERS,
+        depth: 3,
+        budget: 50_000,
+        moves: Some(Some(3)),
+        least: 1,
+        most: u32::MAX,
+    },
+    Case {
+        name: "a five wins at once",
+        rule: RuleKind::Renju,
+        black: "7,4 7,5 7,6 3,7 4,7 5,7 6,7 7,8 7,9",
+        white: "0,0 4,0 10,0 14,0 2,7 0,14 4,14 10,14 14,14",
+        depth: 1,
+        budget: 1,
+        moves: Some(Some(1)),
+        least: 1,
+        most: 1,
+    },
+    Case {
+        name: "one position is not enough",
+        rule: RuleKind::Freestyle,
+        black: CROSS,
+        white: CORNERS,
+        depth: 3,
+        budget: 1,
+        moves: None,
+        least: 1,
+        most: u32::MAX,
+    },
+    // The board has 217 empty points, so replies that counted one by one would spend the budget on the first three.
+    Case {
+        name: "one win meets most replies",
+        rule: RuleKind::Freestyle,
+        black: CROSS,
+        white: CORNERS,
+        depth: 3,
+        budget: 100,
+        moves: Some(Some(3)),
+        least: 1,
+        most: u32::MAX,
+    },
+    // A stone on either end of the three makes a straight four: two positions are counted behind it, one for the reply on its first
+    // five point and one for all others. The root is settled by that, so the tree keeps its one node.
+    Case {
+        name: "a double point that stands wins at once",
+        rule: RuleKind::Freestyle,
+        black: "6,7 7,7 8,7",
+        white: "14,0 0,14 14,14",
+        depth: 2,
+        budget: 3,
+        moves: Some(Some(2)),
+        least: 1,
+        most: 1,
+    },
+    // Of the pair only four stones make a three that leaves a double point, those next to it and those one further. Each is met by
+    // a reply after which two moves are left, and these are looked through before a reply gets a node.
+    Case {
+        name: "replies with two moves left are looked through",
+        rule: RuleKind::Freestyle,
+        black: "7,7 8,7",
+        white: "0,14 14,14",
+        depth: 3,
+        budget: 50,
+        moves: Some(None),
+        least: 5,
+        most: 5,
+    },
+];
+
+/// The moves of a win, and that there is none; nothing where the budget is spent.
+fn moves_of(answer: ProofAnswer) -> Option<Option<u32>> {
     match answer {
-        ProofAnswer::Win(win) => win.moves,
-        ProofAnswer::None => 0,
-        ProofAnswer::Spent => 100,
+        ProofAnswer::Win(win) => Some(Some(win.moves)),
+        ProofAnswer::None => Some(None),
+        ProofAnswer::Spent => None,
     }
 }
 
-/// The numbers of the root, and the count of the nodes, if there are any.
-fn root_and_len(tree: &ProofTree) -> Option<(Numbers, u32)> {
-    let len = tree.len();
-    if len == 0 {
+/// The numbers of a root that is proved by a win, or disproved since there is none; nothing where the budget is spent.
+fn settled_by(moves: Option<Option<u32>>) -> Option<Numbers> {
+    match moves? {
+        Some(_) => Some(Numbers {
+            proof: 0,
+            disproof: INFINITE,
+        }),
+        None => Some(Numbers {
+            proof: INFINITE,
+            disproof: 0,
+        }),
+    }
+}
+
+/// The numbers of the root, where it is settled.
+fn settled_root(tree: &ProofTree) -> Option<Numbers> {
+    if tree.len() == 0 || !tree.numbers(0).is_settled() {
         return None;
     }
-    Some((tree.numbers(0), len))
+    Some(tree.numbers(0))
 }
 
-/// What a search of the position answers, the numbers of its root, and the count of the nodes of its tree.
-fn answered<R: Rule>(
-    alloc: Global,
-    view: &mut Position<R>,
-    depth: u32,
-    budget: u64,
-) -> Option<(u32, Numbers, u32)>
-    requires some_depth { 1 ≤ depth }
-    requires depth_fits { depth ≤ MAX_DEPTH }
-    requires some_budget { 1 ≤ budget }
-    requires budget_fits { budget ≤ MAX_BUDGET }
-{
-    let mut tree = ProofTree::new(alloc).ok()?;
+/// Compares what a search answered, and the tree after it.
+fn compare(rt: &impl Abort, case: &Case, answer: ProofAnswer, tree: &ProofTree) {
+    let told = moves_of(answer);
+    same(rt, (case.name, told), (case.name, case.moves));
+    let root = settled_by(case.moves);
+    same(rt, (case.name, settled_root(tree)), (case.name, root));
+    let fits = case.least <= tree.len() && tree.len() <= case.most;
+    same(rt, (case.name, fits), (case.name, true));
+}
+
+/// Searches the position, and compares what is answered.
+fn search_at<R: Rule>(rt: &(impl Abort + AllocGlobal), case: &Case, view: &mut Position<R>) {
+    assert!(rt; 1 <= case.depth && case.depth <= MAX_DEPTH);
+    assert!(rt; 1 <= case.budget && case.budget <= MAX_BUDGET);
+    let mut tree = ProofTree::new(rt.alloc()).expect(rt, "a tree");
     let answer = proof_number::<R, Position<R>>(
-        alloc,
+        rt.alloc(),
         view,
-        depth,
-        budget,
+        case.depth,
+        case.budget,
         &mut tree,
-        &mut Compiler::new(alloc),
+        &mut Compiler::new(rt.alloc()),
     );
-    told_of(answer.ok(), &tree)
+    compare(rt, case, answer.expect(rt, case.name), &tree);
 }
 
-/// What the search answered, the numbers of the root of its tree, and the count of its nodes.
-fn told_of(answer: Option<ProofAnswer>, tree: &ProofTree) -> Option<(u32, Numbers, u32)> {
-    let moves = moves_of(&answer?);
-    let (root, len) = root_and_len(tree)?;
-    Some((moves, root, len))
-}
-
-/// The same of the position with these stones.
-fn searched<R: Rule>(
-    alloc: Global,
-    black: &str,
-    white: &str,
-    depth: u32,
-    budget: u64,
-) -> Option<(u32, Numbers, u32)>
-    requires some_depth { 1 ≤ depth }
-    requires depth_fits { depth ≤ MAX_DEPTH }
-    requires some_budget { 1 ≤ budget }
-    requires budget_fits { budget ≤ MAX_BUDGET }
-{
-    let mut view = position_of::<R>(alloc, black, white)?;
-    answered::<R>(alloc, &mut view, depth, budget)
-}
-
-/// The four stones are searched.
-fn searched_cross(alloc: Global, depth: u32, budget: u64) -> Option<(u32, Numbers, u32)>
-    requires some_depth { 1 ≤ depth }
-    requires depth_fits { depth ≤ MAX_DEPTH }
-    requires some_budget { 1 ≤ budget }
-    requires budget_fits { budget ≤ MAX_BUDGET }
-{
-    searched::<Freestyle>(alloc, CROSS, CORNERS, depth, budget)
+/// The same of the position of the case under its rule.
+fn search<R: Rule>(rt: &(impl Abort + AllocGlobal), case: &Case) {
+    let view = position_of::<R>(rt.alloc(), case.black, case.white);
+    search_at::<R>(rt, case, &mut view.expect(rt, case.name));
 }
 
 #[test]
-fn two_moves_do_not_win_by_a_quiet_three(rt: HostRuntime) {
-    let told = searched_cross(rt.alloc(), 2, 50_000);
-    let (moves, root, len) = told.expect(&rt, "an answer");
-    same(&rt, (moves, root.proof, root.disproof), (0, INFINITE, 0));
-    same(&rt, len > 1, true);
-}
-
-#[test]
-fn three_moves_win_by_a_quiet_three(rt: HostRuntime) {
-    let told = searched_cross(rt.alloc(), 3, 50_000);
-    let (moves, root, _) = told.expect(&rt, "an answer");
-    same(&rt, (moves, root.proof, root.disproof), (3, 0, INFINITE));
-}
-
-#[test]
-fn a_five_wins_at_once(rt: HostRuntime) {
-    let black = "7,4 7,5 7,6 3,7 4,7 5,7 6,7 7,8 7,9";
-    let white = "0,0 4,0 10,0 14,0 2,7 0,14 4,14 10,14 14,14";
-    let told = searched::<Renju>(rt.alloc(), black, white, 1, 1);
-    let (moves, _, len) = told.expect(&rt, "an answer");
-    same(&rt, (moves, len), (1, 1));
-}
-
-#[test]
-fn one_position_is_not_enough(rt: HostRuntime) {
-    let told = searched_cross(rt.alloc(), 3, 1);
-    let (moves, root, _) = told.expect(&rt, "an answer");
-    same(&rt, (moves, root.is_settled()), (100, false));
-}
-
-/// The board has 217 empty points, so replies that counted one by one would spend the budget on the first three.
-#[test]
-fn one_win_meets_most_replies(rt: HostRuntime) {
-    let told = searched_cross(rt.alloc(), 3, 100);
-    let (moves, _, _) = told.expect(&rt, "an answer");
-    same(&rt, moves, 3);
-}
-
-/// A stone on either end of the three makes a straight four: two positions are counted behind it, one for the reply on its first
-/// five point and one for all others. The root is settled by that, so the tree keeps its one node.
-#[test]
-fn a_double_point_that_stands_wins_at_once(rt: HostRuntime) {
-    let told = searched::<Freestyle>(rt.alloc(), "6,7 7,7 8,7", "14,0 0,14 14,14", 2, 3);
-    let (moves, root, len) = told.expect(&rt, "an answer");
-    same(&rt, (moves, root.proof, len), (2, 0, 1));
-}
-
-/// Of the pair only four stones make a three that leaves a double point, those next to it and those one further. Each is met by
-/// a reply after which two moves are left, and these are looked through before a reply gets a node.
-#[test]
-fn replies_with_two_moves_left_are_looked_through(rt: HostRuntime) {
-    let told = searched::<Freestyle>(rt.alloc(), "7,7 8,7", "0,14 14,14", 3, 50);
-    let (moves, _, len) = told.expect(&rt, "an answer");
-    same(&rt, (moves, len), (0, 5));
+fn searches_answer_and_settle_their_root(rt: HostRuntime) {
+    for case in &CASES {
+        under_rule!(case.rule, search(&rt, case));
+    }
 }

@@ -4,8 +4,9 @@ use crate::compared::same;
 use foul_judge::{Outcome, Position, Seen};
 use row_shapes::{ExactFive, Freestyle, Renju, Rule};
 use std::alloc::Global;
+use std::process::Abort;
 use stone_board::{Axis, Board, Point, Side};
-use test_boards::{at, board_of, position_of, sized_board};
+use test_boards::{at, position_of, sized_board};
 use threat_moves::{
     BlockAnswer, FivePoints, Threat, ThreatKind, Threats, fives, forced, four_moves,
     is_double_point, is_four_move, threats_at, three_moves,
@@ -22,44 +23,38 @@ fn are_fives(alloc: Global, view: &Position<Freestyle>, wanted: &[Point]) -> Opt
     Some(points.as_slice() == wanted)
 }
 
-#[test]
-fn a_three_leaves_no_five_point(rt: HostRuntime) {
-    let view = three_in_a_row(rt.alloc()).expect(&rt, "a position");
-    let has = view.has_five(Side::Black);
-    same(&rt, has, false);
-    same(&rt, are_fives(rt.alloc(), &view, &[]), Some(true));
-}
-
 /// Whether these are the moves of the side to move that make a four.
 fn are_fours(alloc: Global, view: &mut Position<Freestyle>, wanted: &[Point]) -> Option<bool> {
     let moves = four_moves::<Freestyle, Position<Freestyle>>(alloc, view).ok()?;
     Some(moves.as_slice() == wanted)
 }
 
-#[test]
-fn four_moves_leave_a_five_point(rt: HostRuntime) {
-    let mut view = three_in_a_row(rt.alloc()).expect(&rt, "a position");
-    let wanted = [at(3, 7), at(4, 7), at(8, 7), at(9, 7)];
-    same(&rt, are_fours(rt.alloc(), &mut view, &wanted), Some(true));
-}
-
 fn makes_a_four(view: &mut Position<Freestyle>, p: Point) -> bool {
     is_four_move::<Freestyle, Position<Freestyle>>(view, p)
 }
 
+/// A three leaves no five point, and its four moves are within two points of it, in reading order.
+fn compare_three(rt: &(impl Abort + AllocGlobal), view: &mut Position<Freestyle>) {
+    same(rt, view.has_five(Side::Black), false);
+    same(rt, are_fives(rt.alloc(), view, &[]), Some(true));
+    let wanted = [at(3, 7), at(4, 7), at(8, 7), at(9, 7)];
+    same(rt, are_fours(rt.alloc(), view, &wanted), Some(true));
+    same(rt, makes_a_four(view, at(3, 7)), true);
+    same(rt, makes_a_four(view, at(2, 7)), false);
+}
+
 #[test]
-fn a_four_move_is_within_two_points_of_the_three(rt: HostRuntime) {
-    let mut view = three_in_a_row(rt.alloc()).expect(&rt, "a position");
-    same(&rt, makes_a_four(&mut view, at(3, 7)), true);
-    same(&rt, makes_a_four(&mut view, at(2, 7)), false);
+fn four_moves_leave_a_five_point_and_a_three_leaves_none(rt: HostRuntime) {
+    let view = three_in_a_row(rt.alloc());
+    compare_three(&rt, &mut view.expect(&rt, "a position"));
 }
 
 #[test]
 fn five_points_come_in_reading_order(rt: HostRuntime) {
     let view = position_of(rt.alloc(), "4,7 5,7 6,7 7,7", "0,0 2,0 4,0 6,0");
-    let view = view.expect(&rt, "a position");
     let ends = [at(3, 7), at(8, 7)];
-    same(&rt, are_fives(rt.alloc(), &view, &ends), Some(true));
+    let told = are_fives(rt.alloc(), &view.expect(&rt, "a position"), &ends);
+    same(&rt, told, Some(true));
 }
 
 /// What becomes of a four of the side to move.
@@ -86,9 +81,8 @@ fn the_rule_decides_the_block(rt: HostRuntime) {
     same(&rt, blocked::<ExactFive>(rt.alloc()), one);
 }
 
-#[test]
-fn two_five_points_win(rt: HostRuntime) {
-    let mut view = three_in_a_row(rt.alloc()).expect(&rt, "a position");
+/// Of the four moves of a three the inner two make two five points, which win.
+fn compare_fates(rt: &impl Abort, view: &mut Position<Freestyle>) {
     let fates = [
         (at(3, 7), BlockAnswer::One(at(4, 7))),
         (at(4, 7), BlockAnswer::Won),
@@ -96,7 +90,7 @@ fn two_five_points_win(rt: HostRuntime) {
         (at(9, 7), BlockAnswer::One(at(8, 7))),
     ];
     for (four, answer) in &fates {
-        same(&rt, fate(&mut view, *four), Some(*answer));
+        same(rt, fate(view, *four), Some(*answer));
     }
 }
 
@@ -117,8 +111,9 @@ fn told<R: Rule>(view: &mut Position<R>, p: Point) -> Option<(FivePoints, FivePo
 }
 
 #[test]
-fn five_points_of_a_move_are_told_before_it(rt: HostRuntime) {
+fn two_five_points_win_and_are_told_before_the_move(rt: HostRuntime) {
     let mut view = three_in_a_row(rt.alloc()).expect(&rt, "a position");
+    compare_fates(&rt, &mut view);
     let end = FivePoints::One(at(8, 7));
     same(&rt, told(&mut view, at(9, 7)), Some((end, end)));
 }
@@ -135,16 +130,12 @@ fn makes_a_three(alloc: Global, view: &mut Position<Freestyle>, p: Point) -> Opt
 }
 
 #[test]
-fn a_double_three_is_a_three_move(rt: HostRuntime) {
+fn a_double_three_is_a_three_move_and_no_double_point(rt: HostRuntime) {
     let view = position_of(rt.alloc(), DIAMOND, CORNERS);
     let mut view = view.expect(&rt, "a position");
     let told = makes_a_three(rt.alloc(), &mut view, at(7, 7));
     same(&rt, told, Some(true));
-}
-
-#[test]
-fn a_double_three_is_no_double_point(rt: HostRuntime) {
-    let mut board = board_of(rt.alloc(), DIAMOND, CORNERS).expect(&rt, "a board");
+    let mut board = view.into_board();
     let is_double = is_double_point::<Freestyle>(&mut board, Side::Black, at(7, 7));
     same(&rt, is_double, false);
 }

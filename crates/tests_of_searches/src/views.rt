@@ -1,21 +1,21 @@
 //! What the searches tell of a position, over its tables of lines and over the plain one.
 //!
 //! A search asks its view through `Seen` alone, so both have to tell the same: five points, four and three moves; what a search of
-//! fours finds, a line that is proved, a search of the game of threats and the moves that hold, each with its table. The positions
-//! are worked ones and some that look random, under each rule.
-use crate::answers::{Told, add_fours, add_replies, add_told};
+//! fours finds, a line that is proved, a search of the game of threats and the moves that hold, and the nodes of their wins. The
+//! positions are worked ones and some that look random, under each rule.
 use crate::compared::same;
-use defence_finder::{DefenceAnswer, defences};
+use defence_finder::defences;
 use foul_judge::{Position, Seen};
-use four_search::FourMemory;
-use line_proof::{LineAnswer, prove_line};
+use four_search::four_search;
+use line_proof::prove_line;
 use line_tables::LineTables;
-use proof_number::{ProofAnswer, proof_number};
+use proof_number::proof_number;
 use proof_tree::ProofTree;
 use row_shapes::{ExactFive, Freestyle, Renju, Rule};
-use std::alloc::{AllocError, Global};
+use std::alloc::Global;
+use std::fmt::Debug;
 use std::process::Abort;
-use stone_board::{Board, Point, Points, Side};
+use stone_board::{Board, Point, Side};
 use strategy_compiler::Compiler;
 use test_boards::{board_of, empty_board, lawful};
 use threat_moves::{Threats, fives, four_moves, three_moves};
@@ -68,162 +68,114 @@ fn scatter(board: &mut Board, seed: u32) {
     }
 }
 
-/// A board of 9 with such stones.
-fn scattered(alloc: Global, seed: u32) -> Option<Board> {
-    let mut board = empty_board(alloc, 9, 9)?;
-    scatter(&mut board, seed);
-    Some(board)
+/// Adds what was answered, which has to be an answer, as its type shows it.
+fn add<T: Debug + Drop, E: Debug + Drop>(rt: &impl Abort, text: &mut String, answer: Result<T, E>) {
+    let answer = answer.expect(rt, "an answer");
+    write!(text, "{answer:?}\n").expect(rt, "memory");
 }
 
-/// Adds points, as in ` 3,7 8,7;`.
-fn add_points(points: &[Point], text: &mut String) -> Result<(), AllocError> {
-    for p in points {
-        let x = p.x;
-        let y = p.y;
-        write!(text, " {x},{y}")?;
+/// Adds the five points of both sides, and the moves that make fours and those that make threes.
+fn add_lists<R: Rule, V: Seen<R>>(
+    rt: &(impl Abort + AllocGlobal),
+    view: &mut V,
+    text: &mut String,
+) {
+    add(rt, text, fives::<R, V>(rt.alloc(), view, Side::Black));
+    add(rt, text, fives::<R, V>(rt.alloc(), view, Side::White));
+    add(rt, text, four_moves::<R, V>(rt.alloc(), view));
+    add(rt, text, three_moves::<R, V>(rt.alloc(), view));
+}
+
+/// The threats of the first sequence, and none where there is no sequence.
+fn threats_of(alloc: Global, answer: SpaceAnswer) -> Threats {
+    match answer {
+        SpaceAnswer::Sequence(line, _) => line,
+        SpaceAnswer::None | SpaceAnswer::Spent => Threats::new(alloc),
     }
-    text.push_str(";")
 }
 
-/// Adds the points, if there was memory for them.
-fn add_list(points: Option<Points>, text: &mut String) -> Option<()> {
-    add_points(points?.as_slice(), text).ok()
+/// Adds the first sequence of threats of the side to move, and answers its threats.
+fn add_sequence<R: Rule, V: Seen<R>>(
+    rt: &(impl Abort + AllocGlobal),
+    view: &V,
+    text: &mut String,
+) -> Threats {
+    let mut board = view.board().copy().expect(rt, "a copy");
+    let found = threat_space::<R>(rt.alloc(), &mut board, view.side(), 3, 100);
+    let found = found.expect(rt, "an answer");
+    write!(text, "{found:?}\n").expect(rt, "memory");
+    threats_of(rt.alloc(), found)
 }
 
-/// The five points of both sides.
-fn add_fives<R: Rule, V: Seen<R>>(alloc: Global, view: &mut V, text: &mut String) -> Option<()> {
-    add_list(fives::<R, V>(alloc, view, Side::Black).ok(), text)?;
-    add_list(fives::<R, V>(alloc, view, Side::White).ok(), text)
-}
-
-/// The moves that make fours and those that make threes.
-fn add_moves<R: Rule, V: Seen<R>>(alloc: Global, view: &mut V, text: &mut String) -> Option<()> {
-    add_list(four_moves::<R, V>(alloc, view).ok(), text)?;
-    add_list(three_moves::<R, V>(alloc, view).ok(), text)
-}
-
-/// What the proof of a line answers, with its table.
+/// Adds the first sequence of threats, and what its proof answers.
 fn add_line<R: Rule, V: Seen<R>>(
-    alloc: Global,
-    view: &mut V,
-    line: &Threats,
-    text: &mut String,
-) -> Option<()> {
-    let mut compiler = Compiler::new(alloc);
-    let found = prove_line::<R, V>(alloc, view, line, 6, &mut compiler).ok();
-    add_told(compiler, told_of_line(found), text)
-}
-
-/// The win along a line, or that there is none.
-fn told_of_line(answer: Option<LineAnswer>) -> Told {
-    match answer {
-        None => Told::Nothing,
-        Some(LineAnswer::Fails) => Told::Word(" line fails"),
-        Some(LineAnswer::Proved(win)) => Told::Win(win),
-    }
-}
-
-/// The first sequence of threats, if there is one.
-fn sequence_of<R: Rule, V: Seen<R>>(alloc: Global, view: &V) -> Option<SpaceAnswer> {
-    let side = view.side();
-    let mut board = view.board().copy().ok()?;
-    threat_space::<R>(alloc, &mut board, side, 3, 100).ok()
-}
-
-/// What the proof of the first sequence of threats answers, if there is one.
-fn add_sequence<R: Rule, V: Seen<R>>(alloc: Global, view: &mut V, text: &mut String) -> Option<()> {
-    match sequence_of::<R, V>(alloc, view)? {
-        SpaceAnswer::None => text.push_str(" no sequence").ok(),
-        SpaceAnswer::Spent => text.push_str(" sequences spent").ok(),
-        SpaceAnswer::Sequence(line, _) => add_line::<R, V>(alloc, view, &line, text),
-    }
-}
-
-/// What the search of the game of threats answers, with its table.
-fn add_proof<R: Rule, V: Seen<R>>(alloc: Global, view: &mut V, text: &mut String) -> Option<()> {
-    let mut compiler = Compiler::new(alloc);
-    let found = threats_of::<R, V>(alloc, view, &mut compiler);
-    add_told(compiler, told_of_threats(found), text)
-}
-
-/// What the search of the game of threats answers.
-fn threats_of<R: Rule, V: Seen<R>>(
-    alloc: Global,
-    view: &mut V,
-    compiler: &mut Compiler,
-) -> Option<ProofAnswer> {
-    let mut tree = ProofTree::new(alloc).ok()?;
-    proof_number::<R, V>(alloc, view, 4, 30, &mut tree, compiler).ok()
-}
-
-/// The win by threats, or that there is none.
-fn told_of_threats(answer: Option<ProofAnswer>) -> Told {
-    match answer {
-        None => Told::Nothing,
-        Some(ProofAnswer::None) => Told::Word(" no threats"),
-        Some(ProofAnswer::Spent) => Told::Word(" threats spent"),
-        Some(ProofAnswer::Win(win)) => Told::Win(win),
-    }
-}
-
-/// Adds the moves that hold and the nodes that win after the others, or the move after which the budget is spent.
-fn add_defence(answer: &DefenceAnswer, text: &mut String) -> Result<(), AllocError> {
-    match answer {
-        DefenceAnswer::Spent { at } => add_points(&[*at], text),
-        DefenceAnswer::Known { good, bad } => {
-            add_points(good.as_slice(), text)?;
-            add_replies(bad.as_slice(), text)
-        }
-    }
-}
-
-/// Which moves hold against continuous fours, and the nodes that win after the others.
-fn add_defences<R: Rule, V: Seen<R>>(alloc: Global, view: &mut V, text: &mut String) -> Option<()> {
-    add_defences_by::<R, V>(alloc, view, &mut Compiler::new(alloc), text)
-}
-
-/// The same with this compiler.
-fn add_defences_by<R: Rule, V: Seen<R>>(
-    alloc: Global,
+    rt: &(impl Abort + AllocGlobal),
     view: &mut V,
     compiler: &mut Compiler,
     text: &mut String,
-) -> Option<()> {
-    let answer = defences::<R, V>(alloc, view, 6, 300, compiler).ok()?;
-    add_defence(&answer, text).ok()
+) {
+    let line = add_sequence::<R, V>(rt, view, text);
+    add(
+        rt,
+        text,
+        prove_line::<R, V>(rt.alloc(), view, &line, 6, compiler),
+    );
 }
 
-/// Adds what the searches answer.
-fn add_searches<R: Rule, V: Seen<R>>(alloc: Global, view: &mut V, text: &mut String) -> Option<()> {
-    add_fours::<R, V>(alloc, view, 20, 300, &mut FourMemory::new(alloc), text)?;
-    add_sequence::<R, V>(alloc, view, text)?;
-    add_proof::<R, V>(alloc, view, text)?;
-    add_defences::<R, V>(alloc, view, text)
+/// Adds what the search of the game of threats answers.
+fn add_threats<R: Rule, V: Seen<R>>(
+    rt: &(impl Abort + AllocGlobal),
+    view: &mut V,
+    compiler: &mut Compiler,
+    text: &mut String,
+) {
+    let mut tree = ProofTree::new(rt.alloc()).expect(rt, "a tree");
+    add(
+        rt,
+        text,
+        proof_number::<R, V>(rt.alloc(), view, 4, 30, &mut tree, compiler),
+    );
 }
 
-/// Adds what the view tells by each of these.
-fn add_all<R: Rule, V: Seen<R>>(alloc: Global, view: &mut V, text: &mut String) -> Option<()> {
-    add_fives::<R, V>(alloc, view, text)?;
-    add_moves::<R, V>(alloc, view, text)?;
-    add_searches::<R, V>(alloc, view, text)
+/// Adds what the searches answer: their wins name nodes of the compiler.
+fn add_searches<R: Rule, V: Seen<R>>(
+    rt: &(impl Abort + AllocGlobal),
+    view: &mut V,
+    compiler: &mut Compiler,
+    text: &mut String,
+) {
+    add(
+        rt,
+        text,
+        four_search::<R, V>(rt.alloc(), view, 20, 300, compiler),
+    );
+    add_line::<R, V>(rt, view, compiler, text);
+    add_threats::<R, V>(rt, view, compiler, text);
+    add(
+        rt,
+        text,
+        defences::<R, V>(rt.alloc(), view, 6, 300, compiler),
+    );
 }
 
-/// What the view tells by each of these.
-fn told<R: Rule, V: Seen<R>>(alloc: Global, view: &mut V) -> Option<String> {
-    let mut text = String::new(alloc);
-    add_all::<R, V>(alloc, view, &mut text)?;
-    Some(text)
+/// What the view tells by each of these, and the nodes of the wins.
+fn told<R: Rule, V: Seen<R>>(rt: &(impl Abort + AllocGlobal), view: &mut V) -> String {
+    let mut text = String::new(rt.alloc());
+    let mut compiler = Compiler::new(rt.alloc());
+    add_lists::<R, V>(rt, view, &mut text);
+    add_searches::<R, V>(rt, view, &mut compiler, &mut text);
+    let nodes = compiler.nodes();
+    write!(text, "{nodes:?}").expect(rt, "memory");
+    text
 }
 
 /// Compares what line tables of a board tell with what its position tells.
 fn told_alike<R: Rule>(rt: &(impl Abort + AllocGlobal), board: Board) {
     let position = lawful::<R>(board).expect(rt, "a position");
     let mut tables = LineTables::<R>::over(rt.alloc(), position);
-    let by_tables = told::<R, LineTables<R>>(rt.alloc(), &mut tables);
-    let by_tables = by_tables.expect(rt, "what tables tell");
+    let by_tables = told::<R, LineTables<R>>(rt, &mut tables);
     let mut position = tables.into_position();
-    let by_position = told::<R, Position<R>>(rt.alloc(), &mut position);
-    let by_position = by_position.expect(rt, "what a position tells");
+    let by_position = told::<R, Position<R>>(rt, &mut position);
     same(rt, by_tables.as_str(), by_position.as_str());
 }
 
@@ -233,22 +185,15 @@ fn all_alike<R: Rule>(rt: &(impl Abort + AllocGlobal)) {
         told_alike::<R>(rt, board.expect(rt, "a board"));
     }
     for seed in 0..10 {
-        let board = scattered(rt.alloc(), seed);
-        told_alike::<R>(rt, board.expect(rt, "a board"));
+        let mut board = empty_board(rt.alloc(), 9, 9).expect(rt, "a board");
+        scatter(&mut board, seed);
+        told_alike::<R>(rt, board);
     }
 }
 
 #[test]
-fn tables_tell_what_positions_tell_under_freestyle(rt: HostRuntime) {
+fn tables_tell_what_positions_tell(rt: HostRuntime) {
     all_alike::<Freestyle>(&rt);
-}
-
-#[test]
-fn tables_tell_what_positions_tell_under_exact(rt: HostRuntime) {
     all_alike::<ExactFive>(&rt);
-}
-
-#[test]
-fn tables_tell_what_positions_tell_under_renju(rt: HostRuntime) {
     all_alike::<Renju>(&rt);
 }
